@@ -1,0 +1,4 @@
+mod Elements
+pub mod TagLaws
+pub mod LabelLaws
+mod AncestorLemmas

@@ -1,0 +1,133 @@
+// Labels: rising lists of tags.
+ghost use Rattle.std.specs.Prelude.{◌≡◌, ◌<◌, [], IfOk, IsTrue, length};
+ghost use Rattle.ifdb_label.specs.Tags.{AreMade};
+ghost use Rattle.ifdb_label.specs.Label.{flows, is_below_another, is_below_some, is_rising, reduce, strip, union, without_lower};
+
+use crate::rising::insert_all;
+use crate::{OutOfMemory, Tag, Tags};
+use std::alloc::Global;
+use std::marker::Model;
+
+/// A set of tags. Contracts see their numbers, each greater than the one before it.
+#[derive(Drop)]
+pub struct Label {
+    tags: Vec<Tag>,
+}
+
+impl Model for Label {
+    ghost use Rattle.std.specs.Prelude.{List, ℕ, IsTrue};
+    ghost use Rattle.ifdb_label.specs.Label.{is_rising};
+
+    ghost Value = { List ℕ };
+
+    ghost view = { λ l. l.tags.items };
+
+    ghost invariant = { λ l. IsTrue (is_rising l.tags.items) };
+}
+
+impl Label {
+    /// The label with no tags. Takes no memory.
+    pub fn empty(alloc: Global) -> Self
+        ensures { result ≡ [] }
+    {
+        Label {
+            tags: Vec::new(alloc),
+        }
+    }
+
+    /// The label's tags, in rising order.
+    pub fn tags(&self) -> &[Tag]
+        ensures value { result.now ≡ self.now }
+        ensures rising { IsTrue (is_rising result.now) }
+    {
+        &self.tags
+    }
+
+    /// A label with the same tags.
+    pub fn copy(&self, alloc: Global) -> Result<Self, OutOfMemory>
+        ensures { IfOk result (λ label. label ≡ self.now) }
+    {
+        let tags = Vec::from_slice(alloc, &self.tags)?;
+        Ok(Label { tags })
+    }
+
+    /// The tags of the list that aren't below another tag of it, rising, each once.
+    ///
+    /// In time the square of the list's length, times what `Tags::below` takes.
+    pub fn reduce(alloc: Global, tags: &Tags, list: &[Tag]) -> Result<Self, OutOfMemory>
+        requires { AreMade (length tags.now) list.now }
+        ensures value { IfOk result (λ label. label ≡ reduce tags.now list.now) }
+        ensures made { IfOk result (λ label. AreMade (length tags.now) label) }
+    {
+        let mut kept = Vec::new(alloc);
+        insert_all(&mut kept, list)?;
+        drop_below_another(tags, &mut kept, list);
+        Ok(Label { tags: kept })
+    }
+
+    /// Whether each tag of this label is below some tag of the other: what is at this label may go to the other.
+    ///
+    /// Takes no memory, and at most a `Tags::below` for each pair of tags.
+    pub fn flows(&self, tags: &Tags, other: &Label) -> bool
+        requires self_made { AreMade (length tags.now) self.now }
+        requires other_made { AreMade (length tags.now) other.now }
+        ensures { result ≡ flows tags.now self.now other.now }
+    {
+        self.tags
+            .iter()
+            .all(|tag| is_below_some(tags, *tag, &other.tags))
+    }
+
+    /// The reduction of both labels' tags together. Costs what `reduce` does.
+    pub fn union(&self, alloc: Global, tags: &Tags, other: &Label) -> Result<Self, OutOfMemory>
+        requires self_made { AreMade (length tags.now) self.now }
+        requires other_made { AreMade (length tags.now) other.now }
+        ensures value { IfOk result (λ label. label ≡ union tags.now self.now other.now) }
+        ensures made { IfOk result (λ label. AreMade (length tags.now) label) }
+    {
+        let mut both = Vec::from_slice(alloc, &self.tags)?;
+        both.extend_from_slice(&other.tags)?;
+        Label::reduce(alloc, tags, &both)
+    }
+
+    /// The tags of this label that aren't below a tag of `of`: none of them exactly where this label flows to `of`.
+    pub fn strip(&self, alloc: Global, tags: &Tags, of: &Label) -> Result<Self, OutOfMemory>
+        requires self_made { AreMade (length tags.now) self.now }
+        requires of_made { AreMade (length tags.now) of.now }
+        ensures value { IfOk result (λ label. label ≡ strip tags.now self.now of.now) }
+        ensures made { IfOk result (λ label. AreMade (length tags.now) label) }
+    {
+        let mut left = Vec::from_slice(alloc, &self.tags)?;
+        drop_below_some(tags, &mut left, &of.tags);
+        Ok(Label { tags: left })
+    }
+}
+
+/// Whether a tag is below some tag of a list.
+fn is_below_some(tags: &Tags, tag: Tag, list: &[Tag]) -> bool
+    ensures { result ≡ is_below_some tags.now tag list.now }
+{
+    list.iter().any(|other| tags.is_below(tag, *other))
+}
+
+/// Whether a tag is below a tag of a list that isn't itself.
+fn is_below_another(tags: &Tags, tag: Tag, list: &[Tag]) -> bool
+    ensures { result ≡ is_below_another tags.now tag list.now }
+{
+    list.iter()
+        .any(|other| tag != *other && tags.is_below(tag, *other))
+}
+
+/// Drops the tags that are below some tag of a list.
+fn drop_below_some(tags: &Tags, from: &mut Vec<Tag>, list: &[Tag])
+    ensures { from.new.items ≡ strip tags.now from.old.items list.now }
+{
+    from.retain(|tag| !is_below_some(tags, *tag, list));
+}
+
+/// Drops the tags that are below another tag of a list.
+fn drop_below_another(tags: &Tags, from: &mut Vec<Tag>, list: &[Tag])
+    ensures { from.new.items ≡ without_lower tags.now from.old.items list.now }
+{
+    from.retain(|tag| !is_below_another(tags, *tag, list));
+}
