@@ -1,0 +1,4 @@
+mod Ranges
+mod Written
+mod ReaderLemmas
+mod FeedLemmas
