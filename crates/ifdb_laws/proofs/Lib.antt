@@ -1,0 +1,7 @@
+mod Labels
+mod Asks
+mod Sessions
+mod Steps
+mod Runs
+mod Crossings
+pub mod Bridge

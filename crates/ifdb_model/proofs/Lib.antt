@@ -1,0 +1,4 @@
+mod Digits
+pub mod Numbers
+pub mod RowLaws
+pub mod SlotOrder

@@ -1,0 +1,9 @@
+pub mod Row
+pub mod Session
+pub mod Request
+pub mod Machine
+pub mod Reply
+pub mod Script
+pub mod Output
+pub mod Low
+pub mod Crossing
