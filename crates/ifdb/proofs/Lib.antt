@@ -1,0 +1,4 @@
+mod ScriptLines
+mod Flags
+mod Progress
+mod RunLaws

@@ -1,0 +1,14 @@
+-- What is so of every run that came to its end.
+use Rattle.std.proofs.Common.{◌≡◌, ℕ, List, true, sym, ap, ◌∙◌}
+use Rattle.std.specs.Prelude.{Option}
+use Rattle.ifdb_model.specs.Reply.{texts}
+use Rattle.ifdb_model.specs.Output.{told_of, refusals}
+use Rattle.ifdb_laws.proofs.Bridge.{heard_alike_scripts}
+use Rattle.ifdb.specs.Run.{RanWhole, CutsDontMatter, KeepsLevels}
+
+pub cuts_dont_matter : CutsDontMatter
+cuts_dont_matter limit limit' l0 l1 w0 w1 l0' l1' w0' w1' first second bytes flags =
+    ap texts (first.played ∙ ap (λ input. told_of input (refusals first.told)) bytes ∙ ap (told_of second.input) flags ∙ sym second.played)
+
+pub keeps_levels : (limit : ℕ) (l0 l1 w0 w1 : Option (List ℕ)) → KeepsLevels limit l0 l1 w0 w1
+keeps_levels limit l0 l1 w0 w1 ran none = heard_alike_scripts ran.input ran.told ran.played none

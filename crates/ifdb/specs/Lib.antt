@@ -1,0 +1,5 @@
+pub mod NoSite
+pub mod Run
+pub mod Status
+pub mod Steps
+pub mod Words

@@ -1,0 +1,23 @@
+-- How the program may end.
+use Rattle.ifdb.specs.declared.top.Status.{Status}
+use Rattle.ifdb.specs.declared.top.Status.TheVariants.{Done, Usage, ReadFault, WriteFault, OutOfMemory, TooLarge, SiteFault}
+
+-- a script whose input and output had no fault, and which keeps to the limit, ends in one of these two ways
+abbrev pub EndsWell : Status → Type 0
+EndsWell Done = Unit {0}
+EndsWell Usage = ⊥
+EndsWell ReadFault = ⊥
+EndsWell WriteFault = ⊥
+EndsWell OutOfMemory = Unit {0}
+EndsWell TooLarge = ⊥
+EndsWell SiteFault = ⊥
+
+-- the usage line was to be written
+abbrev pub IsUsage : Status → Type 0
+IsUsage Done = ⊥
+IsUsage Usage = Unit {0}
+IsUsage ReadFault = ⊥
+IsUsage WriteFault = Unit {0}
+IsUsage OutOfMemory = ⊥
+IsUsage TooLarge = ⊥
+IsUsage SiteFault = ⊥

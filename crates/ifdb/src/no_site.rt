@@ -1,0 +1,128 @@
+// The site of a program that serves no connections.
+ghost use Rattle.std.specs.Prelude.{◌≡◌, None};
+ghost use Rattle.ifdb_io.specs.Doors.{Stays, Becomes};
+ghost use Rattle.ifdb.specs.NoSite.{asked_of};
+ghost use Rattle.ifdb.specs.declared.no_site.NoDoor.{NoDoor};
+
+use ifdb_io::{Door, Failed, Link, Sink, Site, SiteFault, Source};
+
+/// A site without doors: to ask it for some is a fault.
+#[derive(Drop)]
+pub struct NoSite {
+    failed: u64,
+    asked: Option<Asking>,
+}
+
+/// What a site was asked for last.
+#[derive(Clone, Copy)]
+pub struct Asking {
+    pub port: u16,
+    pub count: usize,
+    pub links: u64,
+}
+
+impl NoSite {
+    /// A site that wasn't asked for anything yet.
+    pub fn new() -> Self {
+        NoSite {
+            failed: 0,
+            asked: None,
+        }
+    }
+}
+
+impl Site for NoSite {
+    ghost use Rattle.std.specs.Prelude.{None};
+    ghost use Rattle.ifdb.specs.NoSite.{asked_of};
+
+    type Door = NoDoor;
+
+    ghost faults = { λ s. s.failed };
+
+    ghost asked = { λ s. asked_of s.asked };
+
+    ghost waiting = { λ _. None };
+
+    ghost back = { λ _. None };
+
+    fn doors(&mut self, port: u16, count: usize, links: u64) -> Result<Vec<NoDoor>, SiteFault> {
+        self.asked = Some(Asking { port, count, links });
+        self.failed = self.failed.saturating_add(1);
+        Err(SiteFault::Failed)
+    }
+
+    fn close(&mut self, doors: Vec<NoDoor>)
+        ensures asked { asked_of self.new.asked ≡ asked_of self.old.asked }
+        ensures waiting { Stays {A = NoDoor} None None }
+        ensures back { Becomes {A = NoDoor} None None doors.items }
+        ensures faults { self.new.failed ≡ self.old.failed }
+    {
+        let _ = doors;
+    }
+}
+
+/// A door that there is none of.
+#[derive(Clone, Copy)]
+pub enum NoDoor {}
+
+impl Door for NoDoor {
+    ghost use Rattle.std.specs.Prelude.{None, false};
+
+    type Link = NoLink;
+
+    ghost most = { λ _. 0 };
+
+    ghost out = { λ _. 0 };
+
+    ghost ended = { λ _. false };
+
+    ghost faults = { λ _. 0 };
+
+    ghost coming = { λ _. None };
+
+    ghost back = { λ _. None };
+
+    fn next(&mut self) -> Result<Option<NoLink>, Failed> {
+        match *self {}
+    }
+
+    fn done(&mut self, link: NoLink) {
+        match link {}
+    }
+}
+
+/// A connection that there is none of.
+#[derive(Clone, Copy)]
+pub enum NoLink {}
+
+impl Source for NoLink {
+    ghost use Rattle.std.specs.Prelude.{None};
+
+    ghost left = { λ _. None };
+
+    ghost faults = { λ _. 0 };
+
+    fn read(&mut self, _buf: &mut [u8]) -> Result<usize, Failed> {
+        match *self {}
+    }
+}
+
+impl Sink for NoLink {
+    ghost use Rattle.std.specs.Prelude.{None};
+
+    ghost written = { λ _. None };
+
+    ghost faults = { λ _. 0 };
+
+    fn write(&mut self, _piece: &[u8]) -> Result<usize, Failed> {
+        match *self {}
+    }
+}
+
+impl Link for NoLink {
+    ghost use Rattle.std.specs.Prelude.{refl};
+
+    ghost reading = { λ _. refl };
+
+    ghost writing = { λ _. refl };
+}
