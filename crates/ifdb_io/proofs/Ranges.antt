@@ -1,8 +1,8 @@
 -- Parts of a list by where they begin and end.
-use Rattle.std.proofs.Common.{◌≡◌, ℕ, ◌+◌, ◌-◌, ◌<◌, ◌≤◌, List, [], ◌∷◌, ◌++◌, length, take, drop, get_or, ap, sym, ◌∙◌, arith}
+use Rattle.std.proofs.Common.{◌≡◌, ℕ, ◌+◌, ◌-◌, ◌<◌, ◌≤◌, List, [], ◌∷◌, ◌++◌, length, take, drop, ap, ◌∙◌, arith}
 use Rattle.std.specs.Prelude.{slice_range, slice_index}
 use Rattle.std.proofs.Math.Seq.{take-add}
-use Rattle.std.proofs.lemmas.List.{append_assoc, take-append-drop, drop-drop, length-take, length-drop, drop_more, drop-take}
+use Rattle.std.proofs.lemmas.List.{take-append-drop, drop-drop, length-take, length-drop, drop_more, drop-take}
 
 pub length-range : (xs : List ℕ) (i j : ℕ) → j ≤ length xs → length (slice_range xs i j) ≡ j - i
 length-range xs i j le = omega (arith, length-take (j - i) (drop i xs), length-drop i xs)

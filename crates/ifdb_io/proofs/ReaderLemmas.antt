@@ -1,13 +1,12 @@
 -- What the steps of a reader of lines do to the bytes to come.
-use Rattle.std.proofs.Common.{◌≡◌, ◌≢◌, ℕ, suc, ◌+◌, ◌-◌, ◌<◌, ◌≤◌, List, [], ◌∷◌, ◌++◌, length, take, drop, ap, sym, subst, ◌∙◌, arith, All, Bool, true, false, refl}
-use Rattle.std.specs.Prelude.{slice_range, slice_index}
+use Rattle.std.proofs.Common.{◌≡◌, ◌≢◌, ℕ, ◌+◌, ◌≤◌, List, [], ◌∷◌, ◌++◌, length, take, ◌∙◌, arith, All, Bool, true, false, refl}
+use Rattle.std.specs.Prelude.{slice_range}
 use Rattle.std.specs.declared.option.Option.{Option}
-use Rattle.std.specs.Io.KnownBytes.{Consumes}
 use Rattle.std.proofs.KnownBytes.{Consumes-trans}
-use Rattle.std.proofs.lemmas.List.{append_assoc, append-nil, length-append, take-append-drop}
+use Rattle.std.proofs.lemmas.List.{append_assoc, append-nil, length-append}
 use Rattle.std.proofs.lemmas.List.Elements.{All-head, All-tail, All-append}
 use Rattle.ifdb_io.specs.Lines.{Reading, Gives, Ends, Exceeds, IsLine, after_newline, unskipped}
-use Rattle.ifdb_io.specs.Reader.{stream, Takes, Passes, Comes, Cuts, ReadsSame, BreaksAt}
+use Rattle.ifdb_io.specs.Reader.{Takes, Passes, Comes, Cuts, ReadsSame, BreaksAt}
 use Rattle.ifdb_io.proofs.Ranges.{length-range, range_split, range_at}
 
 -- bytes that aren't a newline are dropped

@@ -11,7 +11,7 @@ pub Appends-more : (a b c : Option (List ℕ)) (bytes : List ℕ) (i n : ℕ) �
     → Appends b c (take n (take (length bytes - i) (drop i bytes))) → Appends a c (take (i + n) bytes)
 Appends-more a b c bytes i n front piece =
     let joined : take i bytes ++ take n (take (length bytes - i) (drop i bytes)) ≡ take (i + n) bytes =
-        ap (λ xs. take i bytes ++ take n xs) (take_rest bytes i) ∙ sym (take-add i n bytes) in
+    ap (λ xs. take i bytes ++ take n xs) (take_rest bytes i) ∙ sym (take-add i n bytes) in
     subst (Appends a c) joined (Appends-trans a b c _ _ front piece)
 
 -- how many bytes are still to be written

@@ -1,7 +1,7 @@
 -- The steps of which a reader of lines makes a line.
-use Rattle.std.specs.Prelude.{◌≡◌, ◌≢◌, ℕ, ◌+◌, ◌<◌, ◌≤◌, List, [], ◌∷◌, ◌++◌, length, take, Bool, false, Option, All, slice_index}
+use Rattle.std.specs.Prelude.{◌≡◌, ◌≢◌, ℕ, ◌+◌, ◌<◌, List, [], ◌∷◌, ◌++◌, length, take, Option, All, slice_index}
 use Rattle.std.specs.Io.KnownBytes.{Consumes}
-use Rattle.ifdb_io.specs.Lines.{Reading, unskipped, budget}
+use Rattle.ifdb_io.specs.Lines.{Reading, unskipped}
 
 -- the text and what follows it, if the input goes on with these bytes
 abbrev pub stream : Reading → List ℕ → List ℕ

@@ -69,12 +69,12 @@ impl Model for LineReader {
     ghost Value = { Reading };
 
     ghost view = { λ r. record {
-        text = r.text.items;
-        held = slice_range r.chunk.items r.from r.to;
-        skipping = r.skipping;
-        taken = r.taken;
-        limit = r.limit;
-        over = r.over;
+      text = r.text.items;
+      held = slice_range r.chunk.items r.from r.to;
+      skipping = r.skipping;
+      taken = r.taken;
+      limit = r.limit;
+      over = r.over;
     } };
 
     ghost invariant = { λ r. (r.from ≤ r.to) × (r.to ≤ 65536) × (vec_len r.chunk ≡ 65536)
@@ -87,7 +87,12 @@ impl LineReader {
     pub fn new(alloc: Global, limit: u64) -> Result<LineReader, OutOfMemory>
         requires { limit ≤ 2 ^ 40 }
         ensures { IfOk result (λ reader. reader ≡ record {
-            text = []; held = []; skipping = false; taken = 0; limit = limit; over = false
+          text = [];
+          held = [];
+          skipping = false;
+          taken = 0;
+          limit = limit;
+          over = false;
         }) }
     {
         Ok(LineReader {

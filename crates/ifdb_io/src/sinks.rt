@@ -26,7 +26,10 @@ impl Model for SureSink {
     ghost Value = { SureStore };
 
     ghost view = { λ s. record {
-        written = s.bytes.items; room = s.room; piece = s.piece; faults = s.faults;
+      written = s.bytes.items;
+      room = s.room;
+      piece = s.piece;
+      faults = s.faults;
     } };
 
     ghost invariant = { λ s. (vec_len s.bytes ≤ s.room) × (s.room ≤ vec_capacity s.bytes) × (0 < s.piece) };
@@ -38,7 +41,10 @@ impl SureSink {
     pub fn new(alloc: Global, piece: usize, room: usize) -> Result<SureSink, OutOfMemory>
         requires { 0 < piece }
         ensures { IfOk result (λ sink. sink ≡ record {
-            written = []; room = room; piece = piece; faults = 0
+          written = [];
+          room = room;
+          piece = piece;
+          faults = 0;
         }) }
     {
         Ok(SureSink {
@@ -106,12 +112,12 @@ impl Model for MemorySink {
     ghost Value = { Store };
 
     ghost view = { λ s. record {
-        written = s.sink.written;
-        room = s.sink.room;
-        piece = s.sink.piece;
-        fails = s.fails.items;
-        calls = s.calls;
-        faults = s.faults;
+      written = s.sink.written;
+      room = s.sink.room;
+      piece = s.sink.piece;
+      fails = s.fails.items;
+      calls = s.calls;
+      faults = s.faults;
     } };
 }
 
@@ -127,7 +133,12 @@ impl MemorySink {
     ) -> Result<MemorySink, OutOfMemory>
         requires { 0 < piece }
         ensures { IfOk result (λ sink. sink ≡ record {
-            written = []; room = room; piece = piece; fails = fails.items; calls = 0; faults = 0
+          written = [];
+          room = room;
+          piece = piece;
+          fails = fails.items;
+          calls = 0;
+          faults = 0;
         }) }
     {
         Ok(MemorySink {

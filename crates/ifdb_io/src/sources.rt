@@ -79,11 +79,11 @@ impl Model for MemorySource {
     ghost Value = { Feed };
 
     ghost view = { λ s. record {
-        left = s.source.left;
-        piece = s.source.piece;
-        fails = s.fails.items;
-        calls = s.calls;
-        faults = s.faults;
+      left = s.source.left;
+      piece = s.source.piece;
+      fails = s.fails.items;
+      calls = s.calls;
+      faults = s.faults;
     } };
 }
 
@@ -93,7 +93,11 @@ impl MemorySource {
     pub fn new(bytes: Vec<u8>, piece: usize, fails: Vec<u64>) -> MemorySource
         requires { 0 < piece }
         ensures { result ≡ record {
-            left = bytes.items; piece = piece; fails = fails.items; calls = 0; faults = 0
+          left = bytes.items;
+          piece = piece;
+          fails = fails.items;
+          calls = 0;
+          faults = 0;
         } }
     {
         MemorySource {

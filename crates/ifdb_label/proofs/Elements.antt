@@ -1,5 +1,5 @@
 -- Tests of the elements of a list.
-use Rattle.std.proofs.Common.{◌≡◌, ℕ, ◌<◌, zero, suc, Bool, true, false, List, [], ◌∷◌, ◌++◌, length, get_or, refl, arith, ◌&&◌, ◌||◌}
+use Rattle.std.proofs.Common.{◌≡◌, ℕ, eqb, ◌<◌, zero, suc, Bool, true, false, List, [], ◌∷◌, ◌++◌, length, get_or, refl, arith, ◌&&◌, ◌||◌}
 use Rattle.std.specs.Prelude.{filter}
 use Rattle.std.specs.List.{list_any, list_all}
 use Rattle.std.proofs.lemmas.Bool.Decides.{nat_tests}
@@ -68,3 +68,13 @@ pub passes_at : {X : Type 0} (p : X → Bool) (xs : List X) (i : ℕ) (d : X) �
 passes_at p [] i d a h = absurd (omega arith)
 passes_at p (x ∷ xs) zero d a h = grind (arith, nat_tests)
 passes_at p (x ∷ xs) (suc i) d a h = grind (arith, nat_tests, passes_at p xs i d)
+
+-- some element passes, and it is in the list
+pub some_of : (f : ℕ → Bool) (r : Bool) (list : List ℕ) → ((u : ℕ) → f u ≡ true → list_any (λ v. eqb u v) list ≡ true → r ≡ true) → list_any f list ≡ true → r ≡ true
+some_of f r [] h a = grind (arith, nat_tests)
+some_of f r (u ∷ us) h a = grind (arith, nat_tests, h u, some_of f r us (λ v i j. h v i (grind (arith, nat_tests))))
+
+-- what each element of a list passes
+pub all_of_itself : (f : ℕ → Bool) (list : List ℕ) → ((u : ℕ) → list_any (λ v. eqb u v) list ≡ true → f u ≡ true) → list_all f list ≡ true
+all_of_itself f [] h = refl
+all_of_itself f (u ∷ us) h = grind (arith, nat_tests, h u, all_of_itself f us (λ v i. h v (grind (arith, nat_tests))))

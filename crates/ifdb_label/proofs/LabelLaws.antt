@@ -1,13 +1,13 @@
 -- Laws of labels, for any lists of tag numbers.
-use Rattle.std.proofs.Common.{◌≡◌, ℕ, Bool, true, false, List, [], ◌∷◌, ◌++◌, length, refl, arith, ◌||◌, ltb, eqb, ◌&&◌}
+use Rattle.std.proofs.Common.{◌≡◌, ℕ, ◌<◌, ◌≤◌, zero, suc, Bool, true, false, List, [], ◌∷◌, ◌++◌, length, refl, arith, ◌||◌, ltb, eqb, ◌&&◌}
 use Rattle.std.specs.Prelude.{filter, not}
 use Rattle.std.specs.List.{list_any, list_all}
 use Rattle.std.proofs.lemmas.Bool.{ltb-true}
 use Rattle.std.proofs.lemmas.Bool.Decides.{nat_tests}
 use Rattle.ifdb_label.specs.Tags.{MadeTag, below, AreMade, AreWellFormed}
 use Rattle.ifdb_label.specs.Label.{is_rising, is_below_some, flows, with_tag, rising, is_below_another, reduce, union, strip}
-use Rattle.ifdb_label.proofs.Elements.{any_same, all_same, any_wider, all_wider, any_meets_all, all-append, all-filter, any-filter, filter_all, filter_passes}
-use Rattle.ifdb_label.proofs.TagLaws.{below_refl, below_trans, below-append, below_stays}
+use Rattle.ifdb_label.proofs.Elements.{any_same, all_same, any_wider, all_wider, any_meets_all, all-append, all-filter, any-filter, filter_all, filter_passes, some_of, all_of_itself}
+use Rattle.ifdb_label.proofs.TagLaws.{below_refl, below_trans, below_le, below-append, below_stays}
 
 -- flows
 
@@ -147,3 +147,43 @@ reduce_is_apart tags list = all_wider (λ t. not (is_below_another tags t list))
 
 pub reduce-reduce : (tags : List MadeTag) (list : List ℕ) → reduce tags (reduce tags list) ≡ reduce tags list
 reduce-reduce tags list = reduce_itself tags (reduce tags list) (reduce_is_rising tags list) (reduce_is_apart tags list)
+
+-- a list flows where its reduction does
+
+with_tag_keeps : (p : ℕ → Bool) (t : ℕ) (list : List ℕ) → p t || list_any p list ≡ true → list_any p (with_tag t list) ≡ true
+with_tag_keeps p t [] h = grind (arith, nat_tests)
+with_tag_keeps p t (u ∷ us) h = grind (arith, nat_tests, with_tag_keeps p t us)
+
+rising_keeps : (p : ℕ → Bool) (list : List ℕ) → list_any p list ≡ true → list_any p (rising list) ≡ true
+rising_keeps p [] h = h
+rising_keeps p (t ∷ ts) h = grind (arith, nat_tests, rising_keeps p ts, with_tag_keeps p t (rising ts))
+
+-- t is in the list and not below another of it, so it stays in a filter by this
+stays_in : (p : ℕ → Bool) (t : ℕ) (list : List ℕ) → p t ≡ true → list_any (λ u. eqb t u) list ≡ true → list_any (λ u. eqb t u) (filter p list) ≡ true
+stays_in p t [] h k = k
+stays_in p t (u ∷ us) h k = grind (arith, nat_tests, stays_in p t us)
+
+-- each tag of a list is below some tag of its reduction
+below_reduction_step : (tags : List MadeTag) → AreWellFormed tags → (list : List ℕ) (t : ℕ) → ((u : ℕ) → u < t → list_any (λ v. eqb u v) list ≡ true → is_below_some tags u (reduce tags list) ≡ true)
+    → list_any (λ u. eqb t u) list ≡ true → is_below_some tags t (reduce tags list) ≡ true
+below_reduction_step tags w list t ih h =
+    let test : ℕ → Bool = λ v. not (is_below_another tags v list) in
+    let kept : test t ≡ true → list_any (λ u. eqb t u) (reduce tags list) ≡ true = λ e. stays_in test t (rising list) e (rising_keeps (λ u. eqb t u) list h) in
+    let by_itself = any_wider (λ u. eqb t u) (λ u. below tags t u) (reduce tags list) (λ u e. grind (arith, nat_tests, below_refl tags t)) in
+    let by_another = some_of (λ u. not (eqb t u) && below tags t u) (is_below_some tags t (reduce tags list)) list
+    (λ u e i. let le = below_le tags w t u in
+    let up = any_wider (λ v. below tags u v) (λ v. below tags t v) (reduce tags list) (λ v q. grind (arith, nat_tests, below_trans tags w t u v)) in
+    grind (arith, nat_tests, le, up, ih u)) in
+    grind (arith, nat_tests, kept, by_itself, by_another)
+
+below_reduction_in : (tags : List MadeTag) → AreWellFormed tags → (list : List ℕ) (n t : ℕ) → t ≤ n → list_any (λ u. eqb t u) list ≡ true → is_below_some tags t (reduce tags list) ≡ true
+below_reduction_in tags w list zero t le h = below_reduction_step tags w list t (λ u lt e. absurd (omega arith)) h
+below_reduction_in tags w list (suc n) t le h = below_reduction_step tags w list t (λ u lt e. below_reduction_in tags w list n u (omega arith) e) h
+
+pub flows-reduce : (tags : List MadeTag) → AreWellFormed tags → (list : List ℕ) → flows tags list (reduce tags list) ≡ true
+flows-reduce tags w list = all_of_itself (λ t. is_below_some tags t (reduce tags list)) list (λ t h. let le : t ≤ t = omega arith in below_reduction_in tags w list t t le h)
+
+-- so a list flows exactly where its reduction does
+pub reduce_flows : (tags : List MadeTag) → AreWellFormed tags → (list b : List ℕ) → flows tags (reduce tags list) b ≡ flows tags list b
+reduce_flows tags w list b =
+    grind (arith, nat_tests, reduce_all tags (λ t. is_below_some tags t b) list, flows_trans tags w list (reduce tags list) b (flows-reduce tags w list))

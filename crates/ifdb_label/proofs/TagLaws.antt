@@ -77,3 +77,17 @@ below-append tags more w t u h = below_in-append tags more w t t u h
 -- what is below another stays below it
 pub below_stays : (tags more : List MadeTag) → AreWellFormed tags → (t u : ℕ) → below tags t u ≡ true → below (tags ++ more) t u ≡ true
 below_stays tags more w t u h = elim (cases_lt t (length tags)) [ inl lt ↦ below-append tags more w t u lt ∙ h | inr le ↦ grind (arith, nat_tests, below_unmade tags t u le, below_refl (tags ++ more) t) ]
+
+below_le_step : (tags : List MadeTag) → AreWellFormed tags → (t u : ℕ) → ((p : ℕ) → p < t → below tags p u ≡ true → u ≤ p) → below tags t u ≡ true → u ≤ t
+below_le_step tags w t u ih h =
+    let whole = below_unfolds tags w t u in
+    let none : ltb t u ≡ true → list_any (λ p. below tags p u) (parents_of tags t) ≡ false = λ e. any_none (λ p. ltb p t) (λ p. below tags p u) (parents_of tags t) (w.older t) (λ p lt. grind (arith, nat_tests, ih p)) in
+    grind (arith, nat_tests, whole, none)
+
+below_le_in : (tags : List MadeTag) → AreWellFormed tags → (n t u : ℕ) → t ≤ n → below tags t u ≡ true → u ≤ t
+below_le_in tags w zero t u le h = below_le_step tags w t u (λ p lt e. absurd (omega arith)) h
+below_le_in tags w (suc n) t u le h = below_le_step tags w t u (λ p lt e. below_le_in tags w n p u (omega arith) e) h
+
+-- a tag is no younger than what is below it
+pub below_le : (tags : List MadeTag) → AreWellFormed tags → (t u : ℕ) → below tags t u ≡ true → u ≤ t
+below_le tags w t u h = let le : t ≤ t = omega arith in below_le_in tags w t t u le h

@@ -1,4 +1,4 @@
-use Rattle.std.proofs.Common.{◌≡◌, ◌∙◌, ap, sym, subst, false, [], ◌∷◌, take, length, arith}
+use Rattle.std.proofs.Common.{◌≡◌, ◌∙◌, ap, false, [], ◌∷◌, arith}
 use Rattle.std.specs.Prelude.{slice_range}
 use Rattle.std.proofs.lemmas.List.{append-nil, length-take}
 use Rattle.ifdb_io.specs.Lines.{Reading, IsLine}
@@ -21,7 +21,7 @@ returns-in-Some-clause-line c = λ _.
     let line : IsLine v.text.items = rw (ap (λ (r : Reading). r.text) c.self.view_is) c.requires.line in
     let size = length-range c.deref.result.now v.from c.min-end.result (omega (arith, c.deref.ensures.len)) in
     IsLine-more _ _ _ line c.add.ensures.items b.before
-        (omega (arith, b.within, c.add.ensures.len, c.add.new.text.ok.0, v.text.ok.0, length-take c.in-Some.place (slice_range c.deref.result.now v.from c.min-end.result)))
+    (omega (arith, b.within, c.add.ensures.len, c.add.new.text.ok.0, v.text.ok.0, length-take c.in-Some.place (slice_range c.deref.result.now v.from c.min-end.result)))
 
 pub returns-else-len-lt-LONG-clause-long : goal.returns-else-len-lt-LONG-clause-long
 returns-else-len-lt-LONG-clause-long c = λ _ rest.
