@@ -192,3 +192,44 @@ fn long_lines_are_refused_alone(rt: HostRuntime) -> Result<(), Fail> {
     }
     Ok(())
 }
+
+// The lines that are told to session 1.
+fn told_to_the_first(alloc: Global, replies: &[u8]) -> Result<Vec<u8>, Fail> {
+    let mut told = Vec::new(alloc);
+    for line in replies.split_inclusive(|b| *b == b'\n') {
+        if line.starts_with(b"1 ") {
+            told.extend_from_slice(line)?;
+        }
+    }
+    Ok(told)
+}
+
+#[test]
+fn nobody_below_hears_what_happens_above(rt: HostRuntime) -> Result<(), Fail> {
+    let beginning = "OPEN\nOPEN\n2 SET LABEL (a)\n";
+    let table = [
+        (
+            "2 INSERT INTO note VALUES (1)\n1 INSERT INTO note VALUES (1)\n1 SELECT id FROM note\n",
+            "1 INSERT INTO note VALUES (1)\n2 SELECT id FROM note\n1 SELECT id FROM note\n",
+            "1 OPEN\n1 OK 1\n1 ROWS 1 1\n1 1\n",
+        ),
+        (
+            "1 INSERT INTO note VALUES (5)\n2 INSERT INTO note VALUES (5)\n2 SET LABEL (a, b)\n2 INSERT INTO note VALUES (6)\n\
+                1 INSERT INTO note VALUES (6)\n2 SET LABEL ()\n1 INSERT INTO note VALUES (5)\n1 SELECT id FROM note\n",
+            "1 INSERT INTO note VALUES (5)\n1 INSERT INTO note VALUES (6)\n1 INSERT INTO note VALUES (5)\n1 SELECT id FROM note\n",
+            "1 OPEN\n1 OK 1\n1 OK 1\n1 ERR 13 DuplicateKey\n1 ROWS 2 1\n1 5\n1 6\n",
+        ),
+    ];
+    for (first, second, wanted) in table {
+        for rest in [first, second] {
+            let mut script = Vec::from_slice(rt.alloc(), beginning.as_bytes())?;
+            script.extend_from_slice(rest.as_bytes())?;
+            let mut input = MemorySource::new(script, 64, Vec::new(rt.alloc()));
+            let mut output = MemorySink::new(rt.alloc(), 64, ROOM, Vec::new(rt.alloc()))?;
+            assert_eq!(rt; end_of(&rt, "run", &mut input, &mut output)?, Status::Done);
+            let told = told_to_the_first(rt.alloc(), output.bytes())?;
+            assert_eq!(rt; told.as_slice(), wanted.as_bytes(), "{rest}");
+        }
+    }
+    Ok(())
+}
