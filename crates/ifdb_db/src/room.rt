@@ -7,7 +7,7 @@ ghost use Rattle.ifdb_model.specs.Reply.{AreRows};
 ghost use Rattle.ifdb_model.specs.Row.{after, rising};
 ghost use Rattle.ifdb_model.specs.Session.{the_tags};
 ghost use Rattle.ifdb_db.specs.Room.{answered};
-ghost use Rattle.ifdb_db.specs.Rows.{AreRowsMade};
+ghost use Rattle.ifdb_db.specs.Rows.{AreRowsMade, inserted};
 
 use crate::rows::{clashes, place, seen_keys};
 use ifdb_label::{Label, OutOfMemory, Tag, TagKind, Tags};
@@ -192,7 +192,7 @@ fn insert(
     requires rows_made { AreRowsMade 2 rows.old.items }
     requires label_made { AreMade 2 session.now.label }
     ensures told { IfOk result (λ reply. reply ≡ (insert rows.old.items session.now key).reply) }
-    ensures ok { OnOk result (rows.new.items ≡ after rows.old.items (insert rows.old.items session.now key).added) }
+    ensures ok { OnOk result (rows.new.items ≡ inserted rows.old.items session.now key) }
     ensures still_rising { IsTrue (rising rows.new.items) }
     ensures still_made { AreRowsMade 2 rows.new.items }
     ensures rows { IfOk result (λ reply. ¬ AreRows reply) }

@@ -4,7 +4,7 @@ ghost use Rattle.std.specs.List.{list_any};
 ghost use Rattle.ifdb_label.specs.Tags.{AreMade};
 ghost use Rattle.ifdb_label.specs.Label.{flows};
 ghost use Rattle.ifdb_model.specs.Row.{clash, place, rising, see, slot_lt};
-ghost use Rattle.ifdb_db.specs.Rows.{AreRowsMade, is_above_key, is_below_key, of_key};
+ghost use Rattle.ifdb_db.specs.Rows.{AreRowsMade, is_above_key, is_below_key, is_seen, of_key, seen_keys};
 
 use ifdb_label::{Label, OutOfMemory, Tags};
 use ifdb_model::{Keys, Row, Slot};
@@ -57,7 +57,7 @@ pub(crate) fn seen_keys(
 ) -> Result<Keys, OutOfMemory>
     requires rows_made { AreRowsMade (length tags.now) rows.now }
     requires label_made { AreMade (length tags.now) label.now }
-    ensures { IfOk result (λ keys. keys ≡ map (λ r. r.slot.key) (see tags.now rows.now table label.now)) }
+    ensures { IfOk result (λ keys. keys ≡ seen_keys tags.now rows.now table label.now) }
 {
     let mut keys = Keys::new(alloc);
     for row in rows {
@@ -72,7 +72,7 @@ pub(crate) fn seen_keys(
 fn is_seen(tags: &Tags, row: &Row, table: TableId, label: &Label) -> bool
     requires row_made { AreMade (length tags.now) row.now.slot.label }
     requires label_made { AreMade (length tags.now) label.now }
-    ensures { result ≡ ((row.now.slot.table == table) && flows tags.now row.now.slot.label label.now) }
+    ensures { result ≡ is_seen tags.now table label.now row.now }
 {
     row.slot.table == table && row.slot.label.flows(tags, label)
 }

@@ -16,9 +16,9 @@ pub trait Source {
     /// How often reading has failed, up to 2^64 - 1.
     ghost faults: { Self → ℕ };
 
-    /// What else the thing tells and counts, which reading leaves alone: of a link, what was
-    /// written, and how often writing has failed.
-    ghost beside: { Self → Option (List ℕ) × ℕ } = { λ _. (None, 0) };
+    /// What else the thing means, which reading leaves alone: of a link, what was written, how often
+    /// writing has failed, and a number that no call changes.
+    ghost beside: { Self → Option (List ℕ) × ℕ × ℕ } = { λ _. (None, 0, 0) };
 
     /// Gives some of the bytes that are left, at most as many as the buffer has room for. 0 at a
     /// buffer with room is the end of the input. `Failed` takes nothing.
@@ -37,9 +37,9 @@ pub trait Sink {
     /// How often writing has failed, up to 2^64 - 1.
     ghost faults: { Self → ℕ };
 
-    /// What else the thing tells and counts, which writing leaves alone: of a link, what is left to
-    /// read, and how often reading has failed.
-    ghost beside: { Self → Option (List ℕ) × ℕ } = { λ _. (None, 0) };
+    /// What else the thing means, which writing leaves alone: of a link, what is left to read, how
+    /// often reading has failed, and a number that no call changes, as the room of a sink in memory.
+    ghost beside: { Self → Option (List ℕ) × ℕ × ℕ } = { λ _. (None, 0, 0) };
 
     /// Takes the front of the piece, at least one byte of a piece that has one, and says how many.
     /// `Failed` takes nothing.
@@ -53,9 +53,14 @@ pub trait Sink {
 
 /// A connection: a source and a sink in one, where neither side changes what the other means.
 pub trait Link: Source + Sink {
+    /// A number that no call changes.
+    ghost fixed: { Self → ℕ } = { λ _. 0 };
+
     /// What reading leaves alone is all that writing means.
-    ghost reading: { (link : Self) → Self.Source.beside link ≡ (Self.written link, Self.Sink.faults link) };
+    ghost reading: { (link : Self) →
+        Self.Source.beside link ≡ (Self.written link, Self.Sink.faults link, fixed link) };
 
     /// What writing leaves alone is all that reading means.
-    ghost writing: { (link : Self) → Self.Sink.beside link ≡ (Self.left link, Self.Source.faults link) };
+    ghost writing: { (link : Self) →
+        Self.Sink.beside link ≡ (Self.left link, Self.Source.faults link, fixed link) };
 }

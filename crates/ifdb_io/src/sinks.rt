@@ -64,12 +64,14 @@ impl SureSink {
 }
 
 impl Sink for SureSink {
-    ghost use Rattle.std.specs.Prelude.{Some};
+    ghost use Rattle.std.specs.Prelude.{Some, None};
     ghost use Rattle.ifdb_io.specs.Memory.{sure_faults};
 
     ghost written = { λ sink. Some sink.written };
 
     ghost faults = { λ sink. sure_faults sink };
+
+    ghost beside = { λ sink. (None, 0, sink.room) };
 
     fn write(&mut self, piece: &[u8]) -> Result<usize, Failed>
         ensures bound { WritesAtMost result piece.now }

@@ -1,6 +1,6 @@
 // What no clause says: that the calls succeed, and worked rows. And that what a link means is enough
 // for its callers: what was written stays while a line is read.
-ghost use Rattle.std.specs.Prelude.{◌≡◌, ◌≤◌, ◌^◌, false};
+ghost use Rattle.std.specs.Prelude.{◌≡◌, ◌≢◌, ◌≤◌, false, length, OnErr};
 
 use super::*;
 use std::alloc::Global;
@@ -18,7 +18,7 @@ impl<R: Source, W: Sink> Source for Pipe<R, W> {
 
     ghost faults = { λ pipe. R.faults pipe.source };
 
-    ghost beside = { λ pipe. (W.written pipe.sink, W.faults pipe.sink) };
+    ghost beside = { λ pipe. (W.written pipe.sink, W.faults pipe.sink, (W.beside pipe.sink).2) };
 
     fn read(&mut self, buf: &mut [u8]) -> Result<usize, Failed> {
         self.source.read(buf)
@@ -30,7 +30,7 @@ impl<R: Source, W: Sink> Sink for Pipe<R, W> {
 
     ghost faults = { λ pipe. W.faults pipe.sink };
 
-    ghost beside = { λ pipe. (R.left pipe.source, R.faults pipe.source) };
+    ghost beside = { λ pipe. (R.left pipe.source, R.faults pipe.source, (W.beside pipe.sink).2) };
 
     fn write(&mut self, piece: &[u8]) -> Result<usize, Failed> {
         self.sink.write(piece)
@@ -39,6 +39,8 @@ impl<R: Source, W: Sink> Sink for Pipe<R, W> {
 
 impl<R: Source, W: Sink> Link for Pipe<R, W> {
     ghost use Rattle.std.specs.Prelude.{refl};
+
+    ghost fixed = { λ pipe. (W.beside pipe.sink).2 };
 
     ghost reading = { λ _. refl };
 
@@ -62,6 +64,21 @@ fn reply<K: Link>(link: &mut K, text: &[u8]) -> Result<(), Failed>
     write_all(link, text)
 }
 
+// A sure source gives no fault.
+fn sure_next(reader: &mut LineReader, source: &mut SureSource) -> Result<Line, LineFault>
+    requires { reader.old.over ≡ false }
+    ensures { result ≢ Err LineFault.Read }
+{
+    reader.next(source)
+}
+
+// A sure sink gives no fault before its room is full.
+fn sure_reply(sink: &mut SureSink, text: &[u8]) -> Result<(), Failed>
+    ensures { OnErr result (sink.old.room ≤ length sink.new.written) }
+{
+    write_all(sink, text)
+}
+
 // As many bytes of `x`, and then these.
 fn input(alloc: Global, count: usize, behind: &str) -> Result<Vec<u8>, OutOfMemory> {
     let mut bytes = vec![in alloc; b'x'; count]?;
@@ -70,10 +87,8 @@ fn input(alloc: Global, count: usize, behind: &str) -> Result<Vec<u8>, OutOfMemo
 }
 
 // What a reader answers up to its end: a letter for each answer, and the text, or the length of a long one.
-fn answers(alloc: Global, source: &mut MemorySource, limit: u64) -> Result<String, Fail>
-    requires { limit ≤ 2 ^ 40 }
-{
-    let mut reader = LineReader::new(alloc, limit)?;
+fn answers(alloc: Global, source: &mut MemorySource, limit: u32) -> Result<String, Fail> {
+    let mut reader = LineReader::new(alloc, u64::from(limit))?;
     let mut all = String::new(alloc);
     for _ in 0..8 {
         if reader.is_over() {
