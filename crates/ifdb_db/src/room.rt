@@ -1,10 +1,10 @@
 // The machine's state, and one step of a session.
-ghost use Rattle.std.specs.Prelude.{◌≡◌, ◌+◌, ◌-◌, ◌<◌, ◌↔◌, IfOk, IfSome, IsSome, IsTrue, OnErr, OnOk, length, slice_index, slice_set};
+ghost use Rattle.std.specs.Prelude.{◌≡◌, ◌+◌, ◌↔◌, IfOk, IfSome, IsSome, IsTrue, OnErr, OnOk, length};
 ghost use Rattle.ifdb_label.specs.Tags.{AreMade};
 ghost use Rattle.ifdb_label.specs.Label.{reduce};
 ghost use Rattle.ifdb_model.specs.Machine.{ask, asks, insert, is_open, named, next, opening, opens, select, session_of, set_label, told, with_outcome};
 ghost use Rattle.ifdb_model.specs.Reply.{AreRows};
-ghost use Rattle.ifdb_model.specs.Row.{after, rising};
+ghost use Rattle.ifdb_model.specs.Row.{rising};
 ghost use Rattle.ifdb_model.specs.Session.{the_tags};
 ghost use Rattle.ifdb_db.specs.Room.{answered};
 ghost use Rattle.ifdb_db.specs.Rows.{AreRowsMade, inserted};

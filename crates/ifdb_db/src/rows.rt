@@ -1,9 +1,9 @@
 // Lists of rows that rise by their slots: what clashes, where a row goes, and what a label sees.
-ghost use Rattle.std.specs.Prelude.{◌≡◌, ◌==◌, ◌≤◌, ◌&&◌, IfOk, IsTrue, OnErr, OnOk, insert, length, map, slice_range};
+ghost use Rattle.std.specs.Prelude.{◌≡◌, ◌≤◌, IfOk, IsTrue, OnErr, OnOk, insert, length, slice_range};
 ghost use Rattle.std.specs.List.{list_any};
 ghost use Rattle.ifdb_label.specs.Tags.{AreMade};
 ghost use Rattle.ifdb_label.specs.Label.{flows};
-ghost use Rattle.ifdb_model.specs.Row.{clash, place, rising, see, slot_lt};
+ghost use Rattle.ifdb_model.specs.Row.{clash, place, rising, slot_lt};
 ghost use Rattle.ifdb_db.specs.Rows.{AreRowsMade, is_above_key, is_below_key, is_seen, of_key, seen_keys};
 
 use ifdb_label::{Label, OutOfMemory, Tags};
