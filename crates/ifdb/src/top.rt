@@ -77,7 +77,8 @@ pub fn top<T: AllocGlobal, R: Source, W: Sink, S: Site>(
     // What is so at every end.
     ensures input_later { R.faults input.old ≤ R.faults input.new }
     ensures output_later { W.faults output.old ≤ W.faults output.new }
-    ensures site { site.new ≡ site.old }
+    ensures site { result ≢ Status.SiteFault }
+    ensures site_same { site.new ≡ site.old }
 {
     let _ = &site;
     if !is_run(words) {
