@@ -1,11 +1,9 @@
 -- The flags of what is told are those of the steps.
-use Rattle.std.proofs.Common.{◌≡◌, ◌≢◌, ◌⊎◌, ℕ, ◌+◌, ◌-◌, ◌*◌, ◌<◌, ◌≤◌, List, [], ◌∷◌, ◌++◌, length, get_or, Bool, true, false, sym, ap, ◌∙◌, arith, refl, inl, inr, cond, eqb, ltb}
+use Rattle.std.proofs.Common.{◌≡◌, ℕ, ◌+◌, ◌<◌, List, [], ◌∷◌, ◌++◌, length, Bool, true, false, sym, ap, ◌∙◌, arith, refl, inl, inr}
 use Rattle.std.specs.Prelude.{Option, Some, None, if◌then◌else◌, ◌==◌, nat_lt, take, drop, slice_index, codes, position}
 use Rattle.std.specs.Str.{bytes_eq}
-use Rattle.std.specs.List.{list_all, flat_map}
 use Rattle.std.proofs.lemmas.Bool.Decides.{nat_tests}
-use Rattle.std.proofs.lemmas.List.{append_assoc, append-nil}
-use Rattle.std.proofs.lemmas.List.Concat.{flat_map-append}
+use Rattle.std.proofs.lemmas.List.{append-nil}
 use Rattle.ifdb_model.specs.declared.row.Row.{Row}
 use Rattle.ifdb_model.specs.declared.session.Session.{Session}
 use Rattle.ifdb_model.specs.declared.request.Request.{Request}
@@ -13,7 +11,7 @@ use Rattle.ifdb_model.specs.declared.request.Request.TheVariants.{SetLabel, Inse
 use Rattle.ifdb_model.specs.Request.{request_of, without_return, number_of}
 use Rattle.ifdb_model.specs.Script.{step_of, short_step, split_ask, ask_of}
 use Rattle.ifdb_model.proofs.Numbers.{number_of_some}
-use Rattle.ifdb_model.specs.Machine.{State, Step, opens, asks, refused, long, stray, ask, outcome_of, is_open, session_of, next, told, Told, run, replies}
+use Rattle.ifdb_model.specs.Machine.{State, Step, opens, asks, refused, long, stray, ask, session_of, next, told, Told, replies}
 use Rattle.ifdb_model.specs.Reply.{texts, text_of}
 use Rattle.ifdb_model.specs.Output.{reads_memory, flag_of, refusals, refused_at}
 use Rattle.ifdb.specs.Steps.{Does, refusal, Stepped}

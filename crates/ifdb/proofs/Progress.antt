@@ -1,7 +1,6 @@
 -- How a run goes on by one line, and how it ends.
-use Rattle.std.proofs.Common.{◌≡◌, ◌≢◌, ℕ, ◌+◌, ◌<◌, ◌≤◌, List, [], ◌∷◌, ◌++◌, length, take, Bool, true, false, sym, ap, subst, ◌∙◌, arith, refl}
+use Rattle.std.proofs.Common.{◌≡◌, ℕ, ◌+◌, ◌<◌, ◌≤◌, List, [], ◌∷◌, ◌++◌, length, take, Bool, true, false, sym, ap, subst, ◌∙◌, arith, refl}
 use Rattle.std.specs.Prelude.{Option}
-use Rattle.std.specs.List.{flat_map}
 use Rattle.std.specs.Io.KnownBytes.{Appends, Consumes, IsAtEnd}
 use Rattle.std.proofs.KnownBytes.{Consumes-trans, Appends-trans, Consumes-nil, Appends-nil}
 use Rattle.std.proofs.lemmas.List.{append_assoc, append-nil, length-append}
@@ -14,7 +13,7 @@ use Rattle.ifdb_model.specs.Script.{steps, step_of}
 use Rattle.ifdb_model.specs.Output.{told_of, refusals, flag_of, refused_at}
 use Rattle.ifdb.specs.Run.{IsTold, IsToldFirst, RanWhole, RanFront, RanCut}
 use Rattle.ifdb.proofs.ScriptLines.{steps_front, steps_last, steps_long}
-use Rattle.ifdb.proofs.Flags.{Tells, IsAtMostOne, refused_at-nil}
+use Rattle.ifdb.proofs.Flags.{Tells, IsAtMostOne}
 
 -- The steps so far were told this, and however the input goes on, the run of the whole tells what the state tells of it.
 pub record Played (left_old left_new : Option (List ℕ)) (reading : Reading) (state : State) (told : List Told) : Type 0 where

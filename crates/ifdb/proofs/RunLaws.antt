@@ -1,10 +1,10 @@
 -- What is so of every run that came to its end.
-use Rattle.std.proofs.Common.{◌≡◌, ℕ, List, true, sym, ap, ◌∙◌}
+use Rattle.std.proofs.Common.{ℕ, List, sym, ap, ◌∙◌}
 use Rattle.std.specs.Prelude.{Option}
 use Rattle.ifdb_model.specs.Reply.{texts}
 use Rattle.ifdb_model.specs.Output.{told_of, refusals}
 use Rattle.ifdb_laws.proofs.Bridge.{heard_alike_scripts}
-use Rattle.ifdb.specs.Run.{RanWhole, CutsDontMatter, KeepsLevels}
+use Rattle.ifdb.specs.Run.{CutsDontMatter, KeepsLevels}
 
 pub cuts_dont_matter : CutsDontMatter
 cuts_dont_matter limit limit' l0 l1 w0 w1 l0' l1' w0' w1' first second bytes flags =

@@ -1,12 +1,12 @@
 -- The steps of a script, line by line.
-use Rattle.std.proofs.Common.{◌≡◌, ◌≢◌, ℕ, ◌+◌, ◌<◌, ◌≤◌, List, [], ◌∷◌, ◌++◌, length, true, ap, ◌∙◌, arith, refl, All, cond, eqb, ltb}
+use Rattle.std.proofs.Common.{◌≡◌, ◌≢◌, ℕ, ◌<◌, List, [], ◌∷◌, ◌++◌, length, ap, ◌∙◌, arith, refl}
 use Rattle.std.specs.Prelude.{if◌then◌else◌, ◌==◌}
 use Rattle.std.specs.List.{AllByRecursion, flat_map}
 use Rattle.std.proofs.lemmas.Bool.Decides.{nat_tests}
 use Rattle.std.proofs.lemmas.List.{append-nil, length-append}
 use Rattle.std.proofs.lemmas.List.Elements.{recursion_from_All}
 use Rattle.ifdb_io.specs.Lines.{after_newline, IsLine, IsLong}
-use Rattle.ifdb_model.specs.Machine.{Step, long}
+use Rattle.ifdb_model.specs.Machine.{long}
 use Rattle.ifdb_model.specs.Script.{lines_of, on_first, steps, step_of}
 
 -- a line and its newline come first

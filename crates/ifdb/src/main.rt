@@ -3,11 +3,11 @@
 
 mod adapters;
 mod no_site;
-mod out;
 mod script;
 #[cfg(test)]
 mod tests;
 mod top;
+mod wire;
 
 use adapters::{Reading, Writing};
 use no_site::NoSite;

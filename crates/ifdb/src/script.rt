@@ -7,7 +7,7 @@ ghost use Rattle.ifdb_model.specs.Script.{step_of, line_step};
 ghost use Rattle.ifdb.specs.Run.{RanWhole, RanFront, RanCut};
 ghost use Rattle.ifdb.specs.Steps.{Does, Stepped};
 
-use crate::out::Out;
+use crate::wire::Out;
 use ifdb_db::Room;
 use ifdb_io::{Failed, Line, LineFault, LineReader, Sink, Source, write_all};
 use ifdb_model::{Fault, Reply, StepLine, step_line};

@@ -1,5 +1,5 @@
 -- What a script's run writes, where memory was refused at some of its steps.
-use Rattle.std.specs.Prelude.{◌≡◌, ℕ, Bool, true, false, List, [], ◌∷◌, ◌==◌, if◌then◌else◌}
+use Rattle.std.specs.Prelude.{ℕ, Bool, true, false, List, [], ◌∷◌, ◌==◌, if◌then◌else◌}
 use Rattle.std.specs.List.{flat_map}
 use Rattle.ifdb_model.specs.declared.reply.Fault.{Fault}
 use Rattle.ifdb_model.specs.declared.reply.Fault.TheVariants.{Syntax, NoAuthority, DuplicateKey, OutOfMemory, TooLong, NoSession}

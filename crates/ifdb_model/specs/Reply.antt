@@ -1,5 +1,5 @@
 -- The texts of replies. Each line begins with the session's number and a space.
-use Rattle.std.specs.Prelude.{ℕ, Bool, true, false, List, [], ◌∷◌, ◌++◌, length, codes, decimal}
+use Rattle.std.specs.Prelude.{ℕ, List, [], ◌∷◌, ◌++◌, length, codes, decimal}
 use Rattle.std.specs.List.{flat_map}
 use Rattle.ifdb_model.specs.declared.reply.Fault.{Fault}
 use Rattle.ifdb_model.specs.declared.reply.Fault.TheVariants.{Syntax, NoAuthority, DuplicateKey, OutOfMemory, TooLong, NoSession}

@@ -1,6 +1,6 @@
-use Rattle.std.proofs.Common.{rules, arith, refl, sym, subst, ◌∙◌, ◌≡◌, ◌≤◌}
+use Rattle.std.proofs.Common.{arith, refl, ◌∙◌, ◌≤◌}
 use Rattle.ifdb.proofs.Flags.{line_tells, long_tells}
-use Rattle.ifdb.proofs.Progress.{reached_none, reached_on, played_line, played_long, ran_end, ran_rest, ran_read, ran_over, ran_cut_on, ran_cut_rest}
+use Rattle.ifdb.proofs.Progress.{reached_on, played_line, played_long, ran_end, ran_rest, ran_read, ran_over, ran_cut_on, ran_cut_rest}
 use Rattle.ifdb.proofs.script.run_lines.Goals as goal
 
 pub returns-in-Err-Read-clause-read_front : goal.returns-in-Err-Read-clause-read_front

@@ -1,5 +1,4 @@
-use Rattle.std.proofs.Common.{rules, arith, ◌≡◌, ◌<◌, ◌+◌, ◌-◌, ◌≤◌, length, get_or, sym}
-use Rattle.std.specs.Char.{digit_value}
+use Rattle.std.proofs.Common.{arith, ◌<◌, get_or, sym}
 use Rattle.std.proofs.lemmas.Int.Digits.{digits_value_more}
 use Rattle.std.proofs.lemmas.Str.{digit_value_digit}
 use Rattle.ifdb_model.proofs.Digits.{small, power, all_more}
