@@ -61,20 +61,23 @@ impl Site for NoSite {
     }
 }
 
-/// A door that there is none of.
-#[derive(Clone, Copy)]
-pub enum NoDoor {}
+/// A door that gives no link.
+#[derive(Drop)]
+pub struct NoDoor {
+    ended: bool,
+    out: u64,
+}
 
 impl Door for NoDoor {
-    ghost use Rattle.std.specs.Prelude.{None, false};
+    ghost use Rattle.std.specs.Prelude.{None};
 
     type Link = NoLink;
 
     ghost most = { λ _. 0 };
 
-    ghost out = { λ _. 0 };
+    ghost out = { λ d. d.out };
 
-    ghost ended = { λ _. false };
+    ghost ended = { λ d. d.ended };
 
     ghost faults = { λ _. 0 };
 
@@ -83,39 +86,51 @@ impl Door for NoDoor {
     ghost back = { λ _. None };
 
     fn next(&mut self) -> Result<Option<NoLink>, Failed> {
-        match *self {}
+        self.ended = true;
+        Ok(None)
     }
 
     fn done(&mut self, link: NoLink) {
-        match link {}
+        let _ = link;
+        self.out -= 1;
     }
 }
 
-/// A connection that there is none of.
-#[derive(Clone, Copy)]
-pub enum NoLink {}
+/// A connection that has ended: nothing comes, and each write is a failure.
+#[derive(Drop)]
+pub struct NoLink {
+    failed: u64,
+}
 
 impl Source for NoLink {
-    ghost use Rattle.std.specs.Prelude.{None};
+    ghost use Rattle.std.specs.Prelude.{Some, None, []};
 
-    ghost left = { λ _. None };
+    ghost left = { λ _. Some [] };
 
     ghost faults = { λ _. 0 };
 
+    ghost beside = { λ l. (None, l.failed, 0) };
+
     fn read(&mut self, _buf: &mut [u8]) -> Result<usize, Failed> {
-        match *self {}
+        Ok(0)
     }
 }
 
 impl Sink for NoLink {
-    ghost use Rattle.std.specs.Prelude.{None};
+    ghost use Rattle.std.specs.Prelude.{Some, None, []};
 
     ghost written = { λ _. None };
 
-    ghost faults = { λ _. 0 };
+    ghost faults = { λ l. l.failed };
 
-    fn write(&mut self, _piece: &[u8]) -> Result<usize, Failed> {
-        match *self {}
+    ghost beside = { λ _. (Some [], 0, 0) };
+
+    fn write(&mut self, piece: &[u8]) -> Result<usize, Failed> {
+        if piece.is_empty() {
+            return Ok(0);
+        }
+        self.failed = self.failed.saturating_add(1);
+        Err(Failed)
     }
 }
 
