@@ -1,6 +1,27 @@
-//! The numbers by which the database names its tables, views and principals.
+//! Values, names and their lists: what every part of the database speaks of.
+//!
+//! Contracts see a `Word` and a `Name` as their bytes, a `Sequence` as a list and a `Box` as what it holds, so that
+//! trees of them are plain data: two with the same parts are equal.
 #![tactic(auto)]
 
+mod arithmetic;
+mod boxed;
+mod column;
 mod ids;
+mod name;
+mod sequence;
+mod value;
+mod word;
 
+pub use arithmetic::{add, mul, sub};
+pub use boxed::Box;
+pub use column::{Column, Columns, Names};
 pub use ids::{Principal, TableId, ViewId};
+pub use name::{Name, NameFault};
+pub use sequence::Sequence;
+pub use std::alloc::AllocError as OutOfMemory;
+pub use value::{Compare, Value, ValueKind, ValueRow, ValueRows};
+pub use word::Word;
+
+#[cfg(test)]
+mod tests;

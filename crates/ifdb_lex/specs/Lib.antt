@@ -1,0 +1,4 @@
+pub mod Front
+pub mod Line
+pub mod Limits
+pub mod Lex

@@ -1,0 +1,11 @@
+pub mod AfterLaws
+pub mod ListLaws
+pub mod ExprTokens
+pub mod CondTokens
+pub mod LangIntro
+pub mod ExprLine
+pub mod CondLine
+pub mod QueryLine
+pub mod RequestLine
+pub mod KindsDiffer
+pub mod BoundedReading

@@ -1,0 +1,31 @@
+-- What the laws of this crate say.
+use Rattle.std.specs.Prelude.{◌≡◌, ℕ, ◌^◌, ◌<◌, ◌≤◌, true, nat_lt}
+use Rattle.ifdb_syntax.specs.declared.lexeme.Lexeme.{Lexeme}
+use Rattle.ifdb_syntax.specs.declared.expression.Expr.{Expr}
+use Rattle.ifdb_syntax.specs.declared.expression.Expr.TheVariants as e
+use Rattle.ifdb_syntax.specs.declared.request.Request.{Request}
+use Rattle.ifdb_syntax.specs.Words.{kind, NAME}
+use Rattle.ifdb_syntax.specs.Reading.{written, bounded, operators}
+use Rattle.ifdb_syntax.specs.Requests.{line}
+use Rattle.ifdb_syntax.specs.Shapes.{request_shape}
+use Rattle.ifdb_syntax.specs.canonical.Requests.{request_tokens}
+
+-- a word or symbol is the only lexeme of its kind
+abbrev pub KindsDiffer : Type 0
+KindsDiffer = (x y : Lexeme) → nat_lt (kind x) NAME ≡ true → kind x ≡ kind y → x ≡ y
+
+-- the canonical lexemes of a tree that the grammar makes are a line of that tree
+abbrev pub CanonicalIsLine : Type 0
+CanonicalIsLine = (r : Request) → request_shape r ≡ true → line written (request_tokens r) r
+
+-- a number that a value holds is read as it is written
+abbrev pub NumbersReadAlike : Type 0
+NumbersReadAlike =
+    (n : ℕ) → (n < 2 ^ 63 → bounded.plain n ≡ written.plain n) × (n ≤ 2 ^ 63 → bounded.negated n ≡ written.negated n)
+
+-- an operator is the node that is written, where the node has at most 64 operators
+abbrev pub OperatorsReadAlike : Type 0
+OperatorsReadAlike =
+    (a b : Expr) → (operators (e.Add a b) ≤ 64 → bounded.join e.Add a b ≡ e.Add a b)
+    × (operators (e.Sub a b) ≤ 64 → bounded.join e.Sub a b ≡ e.Sub a b)
+    × (operators (e.Mul a b) ≤ 64 → bounded.join e.Mul a b ≡ e.Mul a b)

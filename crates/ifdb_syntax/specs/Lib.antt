@@ -1,0 +1,13 @@
+pub mod Words
+pub mod Spelling
+pub mod Lang
+pub mod Reading
+pub mod Expressions
+pub mod Conditions
+pub mod Queries
+pub mod Requests
+pub mod Fault
+pub mod canonical
+pub mod Printed
+pub mod Shapes
+pub mod Laws

@@ -1,0 +1,6 @@
+pub mod Tokens
+pub mod Expressions
+pub mod Conditions
+pub mod Queries
+pub mod Requests
+pub mod Text

@@ -1,0 +1,25 @@
+//! The language of requests: their trees, the written grammar as definitions, and the canonical text of each tree.
+#![tactic(auto)]
+
+mod canonical;
+mod condition;
+mod edge;
+mod expression;
+mod laws;
+mod lexeme;
+mod place;
+mod printer;
+mod printing;
+mod request;
+mod select;
+
+pub use condition::{Cond, Conds};
+pub use expression::{ColumnRef, Expr, Operand};
+pub use laws::{bounded_reads_alike, canonical_is_line, kinds_differ};
+pub use lexeme::Lexeme;
+pub use printing::print;
+pub use request::{Assignment, Assignments, ForeignKey, ForeignKeys, Request};
+pub use select::{ColumnRefs, Item, Items, Order, OrderBy, Orders, Select, Source, Sources};
+
+#[cfg(test)]
+mod tests;

@@ -1,0 +1,16 @@
+pub mod Sums
+pub mod PlaceLemmas
+pub mod HistoryLemmas
+pub mod ViewLemmas
+pub mod ByPass
+pub mod Steps
+pub mod MakeSeat
+pub mod TakeFirstTicket
+pub mod TakeTicket
+pub mod LookAtServing
+pub mod HandOn
+pub mod SplitPass
+pub mod JoinPasses
+pub mod LoadCount
+pub mod Append
+pub mod Close
