@@ -9,3 +9,5 @@ pub mod QueryLine
 pub mod RequestLine
 pub mod KindsDiffer
 pub mod BoundedReading
+pub mod Mapped
+pub mod BoundedLine

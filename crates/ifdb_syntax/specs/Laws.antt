@@ -4,9 +4,10 @@ use Rattle.ifdb_syntax.specs.declared.lexeme.Lexeme.{Lexeme}
 use Rattle.ifdb_syntax.specs.declared.expression.Expr.{Expr}
 use Rattle.ifdb_syntax.specs.declared.expression.Expr.TheVariants as e
 use Rattle.ifdb_syntax.specs.declared.request.Request.{Request}
-use Rattle.ifdb_syntax.specs.Words.{kind, NAME}
+use Rattle.ifdb_syntax.specs.Words.{Lexemes, kind, NAME}
 use Rattle.ifdb_syntax.specs.Reading.{written, bounded, operators}
 use Rattle.ifdb_syntax.specs.Requests.{line}
+use Rattle.ifdb_syntax.specs.Bounded.{bounded_request}
 use Rattle.ifdb_syntax.specs.Shapes.{request_shape}
 use Rattle.ifdb_syntax.specs.canonical.Requests.{request_tokens}
 
@@ -29,3 +30,12 @@ OperatorsReadAlike =
     (a b : Expr) → (operators (e.Add a b) ≤ 64 → bounded.join e.Add a b ≡ e.Add a b)
     × (operators (e.Sub a b) ≤ 64 → bounded.join e.Sub a b ≡ e.Sub a b)
     × (operators (e.Mul a b) ≤ 64 → bounded.join e.Mul a b ≡ e.Mul a b)
+
+-- a line of the written grammar is one of the bounded grammar, of what this makes of its tree
+abbrev pub WrittenIsBounded : Type 0
+WrittenIsBounded = (u : Lexemes) (r : Request) → line written u r → line bounded u (bounded_request r)
+
+-- and each line of the bounded grammar is such a one
+abbrev pub BoundedIsWritten : Type 0
+BoundedIsWritten =
+    (u : Lexemes) (r : Request) → line bounded u r → (w : Request) × line written u w × (bounded_request w ≡ r)

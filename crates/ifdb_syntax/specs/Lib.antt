@@ -11,3 +11,4 @@ pub mod canonical
 pub mod Printed
 pub mod Shapes
 pub mod Laws
+pub mod Bounded

@@ -1,5 +1,5 @@
 // Laws of the definitions: functions that do nothing, whose contracts are proved of `specs/` alone.
-ghost use Rattle.ifdb_syntax.specs.Laws.{KindsDiffer, CanonicalIsLine, NumbersReadAlike, OperatorsReadAlike};
+ghost use Rattle.ifdb_syntax.specs.Laws.{KindsDiffer, CanonicalIsLine, NumbersReadAlike, OperatorsReadAlike, WrittenIsBounded, BoundedIsWritten};
 
 /// Each reserved word and each symbol has a kind of its own, which no name, number or text has.
 pub fn kinds_differ()
@@ -15,4 +15,11 @@ pub fn canonical_is_line()
 pub fn bounded_reads_alike()
     ensures numbers { NumbersReadAlike }
     ensures operators { OperatorsReadAlike }
+{}
+
+/// The written and the bounded grammar have the same lines. The tree of the bounded one is what `bounded_request` makes
+/// of the written one's, which is the tree itself where each number and each chain of operators is within the limits.
+pub fn bounded_line_is_written()
+    ensures to { WrittenIsBounded }
+    ensures back { BoundedIsWritten }
 {}

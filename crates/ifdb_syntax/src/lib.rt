@@ -15,7 +15,7 @@ mod select;
 
 pub use condition::{Cond, Conds};
 pub use expression::{ColumnRef, Expr, Operand};
-pub use laws::{bounded_reads_alike, canonical_is_line, kinds_differ};
+pub use laws::{bounded_line_is_written, bounded_reads_alike, canonical_is_line, kinds_differ};
 pub use lexeme::Lexeme;
 pub use printing::print;
 pub use request::{Assignment, Assignments, ForeignKey, ForeignKeys, Request};
