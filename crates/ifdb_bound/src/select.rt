@@ -1,0 +1,89 @@
+// SELECT with numbers for names.
+use crate::condition::BoundCond;
+use crate::expression::{BoundColumn, BoundColumns, BoundExpr};
+use crate::schema::Places;
+use ifdb_value::{Sequence, TableId, ViewId};
+
+/// What stands behind FROM: a table or a view.
+#[derive(Clone, Copy, Debug, PartialEq, Eq)]
+pub enum Relation {
+    /// A table.
+    Table(TableId),
+    /// A view.
+    View(ViewId),
+}
+
+/// A source of a SELECT.
+#[derive(Debug, Drop)]
+pub struct BoundSource {
+    /// The table or view.
+    pub relation: Relation,
+    /// The places of the table's primary key; none for a view.
+    pub key: Places,
+}
+
+/// What a SELECT gives of each row or group.
+#[derive(Debug, Drop)]
+pub enum BoundItem {
+    /// The value of an expression.
+    Expr(BoundExpr),
+    /// The label of the row of the source at this place, by the names of its tags.
+    LabelOf(usize),
+    /// How many rows there are. It stands only where there is one source.
+    CountAll,
+    /// The sum of a column of numbers.
+    Sum(BoundColumn),
+    /// The least value of a column.
+    Min(BoundColumn),
+    /// The greatest value of a column.
+    Max(BoundColumn),
+}
+
+/// What a group gives beside its columns.
+#[derive(Clone, Copy, Debug, PartialEq, Eq)]
+pub enum Aggregate {
+    /// How many rows it has.
+    CountAll,
+    /// The sum of a column of numbers.
+    Sum,
+    /// The least value of a column.
+    Min,
+    /// The greatest value of a column.
+    Max,
+}
+
+/// A key of ORDER BY.
+#[derive(Clone, Copy, Debug, PartialEq, Eq)]
+pub struct OrderKey {
+    /// The place of the item to sort by, from 0.
+    pub place: usize,
+    /// Whether greater values come first.
+    pub descending: bool,
+}
+
+/// A SELECT, as a request of its own or as a view's.
+#[derive(Debug, Drop)]
+pub struct BoundSelect {
+    /// What each row of the answer gives.
+    pub items: BoundItems,
+    /// Behind FROM.
+    pub sources: BoundSources,
+    /// Behind WHERE.
+    pub cond: Option<BoundCond>,
+    /// Behind GROUP BY; empty where there is none.
+    pub group: BoundColumns,
+    /// Behind ORDER BY; empty where there is none. The first key counts most.
+    pub order: OrderKeys,
+}
+
+/// Items, in order.
+pub type BoundItems = Sequence<BoundItem>;
+
+/// Sources, in order.
+pub type BoundSources = Sequence<BoundSource>;
+
+/// Aggregates, in order.
+pub type Aggregates = Sequence<Aggregate>;
+
+/// Keys of ORDER BY, the first of which counts most.
+pub type OrderKeys = Sequence<OrderKey>;
