@@ -1,0 +1,4 @@
+pub mod Folds
+pub mod Expressions
+pub mod Conditions
+pub mod Query
