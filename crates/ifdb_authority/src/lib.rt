@@ -1,0 +1,13 @@
+//! Authority: who holds which tag, by making it, by a chain of grants, or by holding a compound that the tag is in.
+//!
+//! The behaviour is that of IFDB (D. Schultz and B. Liskov, EuroSys 2013): authority for a tag is delegated, and a grant
+//! counts only while its grantor holds the tag.
+#![tactic(auto)]
+
+mod authority;
+mod grant;
+mod laws;
+
+pub use authority::Authority;
+pub use grant::Grant;
+pub use laws::{changes_touch_one_grant, grants_stand_once, more_grants_hold_more, steps_suffice};

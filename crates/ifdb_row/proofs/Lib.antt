@@ -1,0 +1,5 @@
+pub mod Lists
+pub mod ValueOrder
+pub mod SlotOrder
+pub mod ContentLaws
+pub mod VerdictLaws
