@@ -1,0 +1,51 @@
+-- What a line of a script asks for.
+use Rattle.std.specs.Prelude.{ℕ, ◌+◌, ◌-◌, List, [], ◌==◌, nat_lt, if◌then◌else◌, length, take, drop, codes, slice_index, position, Option, Some, None}
+use Rattle.std.specs.List.{list_all}
+use Rattle.std.specs.Str.{bytes_eq}
+use Rattle.std.specs.Str.Parse.{digits_value}
+use Rattle.std.specs.Char.{is_ascii_digit}
+
+-- what a line asks for: nothing, a new session, a request of a session, or none of these; or it is too long
+pub data ScriptLine : Type 0 where
+  skips : ScriptLine
+  opens : ScriptLine
+  asks : ℕ → List ℕ → ScriptLine
+  strays : ScriptLine
+  overlong : ScriptLine
+
+-- a line without one `\r` at its end
+abbrev pub without_return : List ℕ → List ℕ
+without_return line = if bytes_eq (drop (length line - 1) line) (codes "\r") then take (length line - 1) line else line
+
+-- the number that digits write
+abbrev pub digits_number : List ℕ → Option ℕ
+digits_number digits = if list_all is_ascii_digit digits then Some (digits_value 10 digits) else None
+
+-- a session's number: 1 to 18 digits, the first not `0`, which is 48
+abbrev pub session_number : List ℕ → Option ℕ
+session_number digits =
+    if length digits == 0 then None
+    else (if nat_lt 18 (length digits) then None
+    else (if slice_index digits 0 == 48 then None
+    else digits_number digits))
+
+abbrev pub asks_of : Option ℕ → List ℕ → ScriptLine
+asks_of None request = strays
+asks_of (Some session) request = asks session request
+
+-- a session's number, then nothing or one space and a request
+abbrev pub split_at : List ℕ → Option ℕ → ScriptLine
+split_at line None = asks_of (session_number line) []
+split_at line (Some at) = asks_of (session_number (take at line)) (drop (at + 1) line)
+
+-- a line without its `\r`; `#` is 35, and a space 32
+abbrev pub short_line : List ℕ → ScriptLine
+short_line line =
+    if length line == 0 then skips
+    else (if slice_index line 0 == 35 then skips
+    else (if bytes_eq line (codes "OPEN") then opens
+    else split_at line (position (λ b. b == 32) line)))
+
+-- a line without its newline; its `\r` counts in its length
+abbrev pub script_line : List ℕ → ScriptLine
+script_line line = if nat_lt 65535 (length line) then overlong else short_line (without_return line)
