@@ -1,0 +1,18 @@
+-- Refusals in their order: a request is refused by the first of its checks that fails.
+use Rattle.std.specs.Prelude.{Bool, List, [], ◌∷◌, Result, Ok, Err, if◌then◌else◌}
+use Rattle.ifdb_bound.specs.declared.request.Bound.{Bound}
+use Rattle.ifdb_wire.specs.declared.fault.Fault.{Fault}
+
+-- a refusal, and whether it comes
+pub record Check : Type 0 where
+  pub fault : Fault
+  pub comes : Bool
+
+infixl 5 ◌when◌
+abbrev pub ◌when◌ : Fault → Bool → Check
+fault when comes = record { fault = fault; comes = comes }
+
+-- the first refusal that comes, or else the bound request
+abbrev pub judged : List Check → Bound → Result Bound Fault
+judged [] bound = Ok bound
+judged (check ∷ checks) bound = if check.comes then Err check.fault else judged checks bound

@@ -1,0 +1,9 @@
+pub mod Public
+pub mod Check
+pub mod Folds
+pub mod Scope
+pub mod Terms
+pub mod Queries
+pub mod Statements
+pub mod Definitions
+pub mod Binding

@@ -1,0 +1,112 @@
+-- INSERT, UPDATE and DELETE: what they may name, which of their forms fit, and their bound trees.
+use Rattle.std.specs.Prelude.{ℕ, Bool, true, false, ◌&&◌, ◌==◌, List, [], ◌∷◌, map, slice_index_or, position, bytes_eq, Option}
+use Rattle.std.specs.Option.{is_some}
+use Rattle.std.specs.List.{list_all, list_any}
+use Rattle.ifdb_value.specs.Value.{kind_of}
+use Rattle.ifdb_value.specs.declared.value.Value.{Value}
+use Rattle.ifdb_value.specs.declared.value.ValueKind.{ValueKind}
+use Rattle.ifdb_value.specs.declared.column.Column.{Column}
+use Rattle.ifdb_label.specs.Label.{reduce}
+use Rattle.ifdb_syntax.specs.declared.request.Assignment.{Assignment}
+use Rattle.ifdb_bound.specs.Expressions.{value_at}
+use Rattle.ifdb_bound.specs.declared.request.BoundAssignment.{BoundAssignment}
+use Rattle.ifdb_bound.specs.declared.schema.Schema.{Schema}
+use Rattle.ifdb_catalog.specs.Public.{Public, tags_of, tag_named, relation_named, table_named, table_at}
+use Rattle.ifdb_catalog.specs.Scope.{Scope, no_column, relation_columns}
+use Rattle.ifdb_catalog.specs.Terms.{same_kind, gives_kind, is_known, expr_kind, bound_expr}
+use Rattle.ifdb_catalog.specs.Queries.{times, are_distinct, place_or}
+
+-- ---- tags by their names
+
+abbrev pub is_tag : Public → List ℕ → Bool
+is_tag p name = is_some (tag_named p name)
+
+abbrev pub are_tags : Public → List (List ℕ) → Bool
+are_tags p names = list_all (is_tag p) names
+
+abbrev pub tag_at : Public → List ℕ → ℕ
+tag_at p name = place_or (tag_named p name)
+
+-- the tags of the names, in order
+abbrev pub tags_named : Public → List (List ℕ) → List ℕ
+tags_named p names = map (tag_at p) names
+
+-- the reduction of the tags of the names
+abbrev pub label_named : Public → List (List ℕ) → List ℕ
+label_named p names = reduce (tags_of p) (tags_named p names)
+
+-- ---- a table and its columns by their names
+
+-- the number of a table that is known to be one
+abbrev pub table_number : Public → List ℕ → ℕ
+table_number p name = place_or (table_named p name)
+
+abbrev pub schema_named : Public → List ℕ → Schema
+schema_named p name = table_at p (table_number p name)
+
+-- the columns of the table or view of a name
+abbrev pub columns_named : Public → List ℕ → List Column
+columns_named p name = relation_columns p (relation_named p name)
+
+abbrev pub place_named : List Column → List ℕ → Option ℕ
+place_named columns name = position (λ (c : Column). bytes_eq c.name name) columns
+
+abbrev pub is_column_of : List Column → List ℕ → Bool
+is_column_of columns name = is_some (place_named columns name)
+
+-- the place of a column that is known to be one
+abbrev pub place_at : List Column → List ℕ → ℕ
+place_at columns name = place_or (place_named columns name)
+
+-- the kind of a column that is known to be one
+abbrev pub kind_named : List Column → List ℕ → ValueKind
+kind_named columns name = (slice_index_or columns (place_at columns name) no_column).kind
+
+-- ---- INSERT
+
+-- the kinds that the rows are to have: those of the listed columns, or of all where none is listed
+abbrev pub wanted_kinds : List Column → List (List ℕ) → List ValueKind
+wanted_kinds columns [] = map (λ (c : Column). c.kind) columns
+wanted_kinds columns (n ∷ names) = map (kind_named columns) (n ∷ names)
+
+-- where columns are listed, each one is so exactly once
+abbrev pub are_listed : List Column → List (List ℕ) → Bool
+are_listed columns [] = true
+are_listed columns (n ∷ names) = list_all (λ (c : Column). times c.name (n ∷ names) == 1) columns
+
+-- a row has as many values as are wanted, each of its kind
+abbrev pub row_fits : List ValueKind → List Value → Bool
+row_fits [] [] = true
+row_fits (k ∷ kinds) (v ∷ values) = same_kind k (kind_of v) && row_fits kinds values
+row_fits _ _ = false
+
+-- the place of a name in a list of names
+abbrev pub listed_at : List (List ℕ) → List ℕ → ℕ
+listed_at names name = place_or (position (λ n. bytes_eq n name) names)
+
+-- a row in the table's order of columns
+abbrev pub arranged : List Column → List (List ℕ) → List Value → List Value
+arranged columns [] row = row
+arranged columns (n ∷ names) row = map (λ (c : Column). value_at row (listed_at (n ∷ names) c.name)) columns
+
+-- ---- UPDATE
+
+-- the column and each column of the expression are known
+abbrev pub is_known_assignment : List Column → Scope → Assignment → Bool
+is_known_assignment columns scope a = is_column_of columns a.column && is_known scope a.expr
+
+-- a column of the primary key is assigned
+abbrev pub assigns_key : Schema → Assignment → Bool
+assigns_key t a = list_any (λ place. place == place_at t.columns a.column) t.key
+
+-- the expression gives the column's kind
+abbrev pub assignment_fits : List Column → Scope → Assignment → Bool
+assignment_fits columns scope a = gives_kind (kind_named columns a.column) (expr_kind scope a.expr)
+
+-- no column is assigned twice, and each is given its kind
+abbrev pub assignments_fit : List Column → Scope → List Assignment → Bool
+assignments_fit columns scope assignments =
+    are_distinct (map (λ (a : Assignment). a.column) assignments) && list_all (assignment_fits columns scope) assignments
+
+abbrev pub bound_assignment : List Column → Scope → Assignment → BoundAssignment
+bound_assignment columns scope a = record { column = place_at columns a.column; expr = bound_expr scope a.expr }
