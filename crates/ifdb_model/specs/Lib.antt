@@ -7,3 +7,4 @@ pub mod Script
 pub mod Output
 pub mod Low
 pub mod Crossing
+pub mod server

@@ -1,0 +1,10 @@
+pub mod Log
+pub mod Session
+pub mod Writes
+pub mod Query
+pub mod Step
+pub mod Run
+pub mod Low
+pub mod Crossing
+pub mod Script
+pub mod Output
