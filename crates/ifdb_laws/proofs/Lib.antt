@@ -5,3 +5,4 @@ mod Steps
 mod Runs
 mod Crossings
 pub mod Bridge
+pub mod server
