@@ -1,3 +1,4 @@
 pub mod Laws
 pub mod Scripts
 pub mod Worked
+pub mod server

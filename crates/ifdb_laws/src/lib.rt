@@ -4,6 +4,8 @@
 //! the laws stand in `specs/`. A level is any list of tags. A session is inside it while its label flows to it.
 #![tactic(auto)]
 
+mod worked;
+
 ghost use Rattle.std.specs.Prelude.{◌≡◌, [], true};
 ghost use Rattle.ifdb_model.specs.Machine.{opening};
 ghost use Rattle.ifdb_model.specs.Script.{steps};
@@ -13,6 +15,8 @@ ghost use Rattle.ifdb_model.specs.Low.{heard};
 ghost use Rattle.ifdb_laws.specs.Laws.{OutsideStep, InsideStep, StepsKeepOrder, RunsKeepOrder, AloneIsHeard, AloneEndsAlike, Agree, TwoWorlds, TwoTexts, NoCrossing, AllQuiet};
 ghost use Rattle.ifdb_laws.specs.Scripts.{TwoScripts};
 ghost use Rattle.ifdb_laws.specs.Worked.{first_script, second_script, first_told, second_told, both_heard};
+
+pub use worked::{commit_rows, label_rows, query_rows, reference_rows, view_rows};
 
 /// A step that is asked outside a level leaves what is inside as it is.
 pub fn outside_step()

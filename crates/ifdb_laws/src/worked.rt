@@ -1,0 +1,38 @@
+// Worked scripts of the whole server: each function's contract says what some scripts write, and it does nothing.
+ghost use Rattle.ifdb_laws.specs.server.Played.{Plays};
+ghost use Rattle.ifdb_laws.specs.server.LabelRows.{compound_row, polyinstantiation_row, lowering_row};
+ghost use Rattle.ifdb_laws.specs.server.CommitRows.{commit_label_row, first_committer_row, snapshot_row};
+ghost use Rattle.ifdb_laws.specs.server.ReferenceRows.{secret_child_row, broken_reference_row};
+ghost use Rattle.ifdb_laws.specs.server.ViewRows.{view_row};
+ghost use Rattle.ifdb_laws.specs.server.QueryRows.{range_row, order_row};
+
+/// What labels see: compound tags, one key at two labels, a row committed at a lower label than it was written at.
+pub fn label_rows()
+    ensures compound { Plays compound_row }
+    ensures polyinstantiation { Plays polyinstantiation_row }
+    ensures lowering { Plays lowering_row }
+{}
+
+/// How commits are judged, and what a transaction reads.
+pub fn commit_rows()
+    ensures commit_label { Plays commit_label_row }
+    ensures first_committer { Plays first_committer_row }
+    ensures snapshot { Plays snapshot_row }
+{}
+
+/// Foreign keys across labels, and a parent that goes while its child is being written.
+pub fn reference_rows()
+    ensures secret_child { Plays secret_child_row }
+    ensures broken_reference { Plays broken_reference_row }
+{}
+
+/// A declassifying view, while its owner holds the tag and afterwards.
+pub fn view_rows()
+    ensures { Plays view_row }
+{}
+
+/// The ends of 64 bits, order, groups, whole statements and escapes.
+pub fn query_rows()
+    ensures range { Plays range_row }
+    ensures order { Plays order_row }
+{}
