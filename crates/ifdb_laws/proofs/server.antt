@@ -1,2 +1,4 @@
 pub mod Shapes
 pub mod Examples
+pub mod Statements
+pub mod Sided
