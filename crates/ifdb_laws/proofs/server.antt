@@ -2,3 +2,5 @@ pub mod Shapes
 pub mod Examples
 pub mod Statements
 pub mod Sided
+pub mod Logs
+pub mod Alike
