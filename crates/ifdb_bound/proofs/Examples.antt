@@ -1,25 +1,22 @@
 -- Worked examples, by computation.
 use Rattle.std.proofs.Common.{◌≡◌, refl, List, [], ◌∷◌, ◌-◌, ◌^◌, Option, Some, None, ℕ, pos, negsuc, Bool, true}
 use Rattle.std.specs.Prelude.{codes}
-use denote.Hole.Carrier.{fold, hidden}
 use Rattle.ifdb_value.specs.declared.value.Value.{Value}
 use Rattle.ifdb_value.specs.declared.value.Value.TheVariants as value
 use Rattle.ifdb_value.specs.declared.value.Compare.TheVariants as how
 use Rattle.ifdb_bound.specs.declared.expression.BoundColumn.{BoundColumn}
 use Rattle.ifdb_bound.specs.declared.expression.BoundExpr.TheVariants as e
-use Rattle.ifdb_bound.specs.declared.expression.BoundExpr.TheBlock.{hidden-the_row-BoundExpr-0}
 use Rattle.ifdb_bound.specs.declared.expression.BoundOperand.TheVariants as o
 use Rattle.ifdb_bound.specs.declared.condition.BoundCond.{BoundCond}
 use Rattle.ifdb_bound.specs.declared.condition.BoundCond.TheVariants as c
-use Rattle.ifdb_bound.specs.declared.condition.BoundCond.TheBlock.{shape-the_row-BoundCond-0, hidden-the_row-BoundCond-0, hidden-the_row-BoundCond-1}
 use Rattle.ifdb_bound.specs.declared.select.BoundSelect.{BoundSelect}
 use Rattle.ifdb_bound.specs.declared.select.BoundItem.{BoundItem}
 use Rattle.ifdb_bound.specs.declared.select.BoundItem.TheVariants as item
 use Rattle.ifdb_bound.specs.declared.select.OrderKey.{OrderKey}
-use Rattle.ifdb_bound.specs.Folds.{fold_expr, fold_cond}
 use Rattle.ifdb_bound.specs.Expressions.{value_of}
 use Rattle.ifdb_bound.specs.Conditions.{holds}
 use Rattle.ifdb_bound.specs.Query.{SourceRow, select}
+use Rattle.ifdb_bound.proofs.Computing.{querying}
 
 abbrev int : ℕ → Value
 int n = value.Int (pos n)
@@ -36,22 +33,23 @@ abbrev largest : Value
 largest = int (2 ^ 63 - 1)
 
 one_more : value_of [] (e.Add (e.Literal largest) (e.Literal (int 1))) ≡ None
-unfolding value_of fold_expr fold hidden hidden-the_row-BoundExpr-0
+unfolding querying
 one_more = refl
 
 -- (1 + 1) * (3 - 1) + c, where c is 5
-nested : value_of ((int 5 ∷ []) ∷ []) (e.Add (e.Mul (e.Add (e.Literal (int 1)) (e.Literal (int 1))) (e.Sub (e.Literal (int 3)) (e.Literal (int 1)))) (e.Column (at 0 0))) ≡ Some (int 9)
-unfolding value_of fold_expr fold hidden hidden-the_row-BoundExpr-0
+nested : value_of ((int 5 ∷ []) ∷ [])
+    (e.Add (e.Mul (e.Add (e.Literal (int 1)) (e.Literal (int 1))) (e.Sub (e.Literal (int 3)) (e.Literal (int 1)))) (e.Column (at 0 0))) ≡ Some (int 9)
+unfolding querying
 nested = refl
 
 -- an operation inside is out of range, though the whole is not
 inner_out : value_of [] (e.Sub (e.Add (e.Literal largest) (e.Literal (int 1))) (e.Literal (int 1))) ≡ None
-unfolding value_of fold_expr fold hidden hidden-the_row-BoundExpr-0
+unfolding querying
 inner_out = refl
 
 -- NOT 1 = 1 OR (1 = 1 AND 2 = 2)
 chains : holds [] (c.Or (c.Not (eq (int 1) (int 1)) ∷ c.And (eq (int 1) (int 1) ∷ eq (int 2) (int 2) ∷ []) ∷ [])) ≡ true
-unfolding holds fold_cond fold hidden shape-the_row-BoundCond-0 hidden-the_row-BoundCond-0 hidden-the_row-BoundCond-1
+unfolding querying
 chains = refl
 
 -- ---- queries
@@ -79,13 +77,13 @@ notes = row (int 1 ∷ text (codes "x") ∷ []) [] ∷ row (int 2 ∷ text (code
 -- SELECT id, body FROM note ORDER BY body DESC
 stable : select [] (plain (shows 0 0 ∷ shows 0 1 ∷ []) None [] (by 1 true ∷ [])) (notes ∷ [])
     ≡ Some ((int 2 ∷ text (codes "y") ∷ []) ∷ (int 1 ∷ text (codes "x") ∷ []) ∷ (int 3 ∷ text (codes "x") ∷ []) ∷ [])
-unfolding value_of fold_expr fold
+unfolding querying
 stable = refl
 
 -- SELECT body, COUNT(*) FROM note GROUP BY body
 groups : select [] (plain (shows 0 1 ∷ item.CountAll ∷ []) None (at 0 1 ∷ []) []) (notes ∷ [])
     ≡ Some ((text (codes "x") ∷ int 2 ∷ []) ∷ (text (codes "y") ∷ int 1 ∷ []) ∷ [])
-unfolding value_of fold_expr fold
+unfolding querying
 groups = refl
 
 -- SELECT COUNT(*) FROM note, without rows
@@ -99,7 +97,7 @@ groups_of_nothing = refl
 -- SELECT body, MIN(id), MAX(id) FROM note GROUP BY body ORDER BY 2 DESC
 ends : select [] (plain (shows 0 1 ∷ item.Min (at 0 0) ∷ item.Max (at 0 0) ∷ []) None (at 0 1 ∷ []) (by 1 true ∷ [])) (notes ∷ [])
     ≡ Some ((text (codes "y") ∷ int 2 ∷ int 2 ∷ []) ∷ (text (codes "x") ∷ int 1 ∷ int 3 ∷ []) ∷ [])
-unfolding value_of fold_expr fold
+unfolding querying
 ends = refl
 
 -- num (k, g, v)
@@ -111,12 +109,12 @@ abbrev sums : BoundSelect
 sums = plain (shows 0 1 ∷ item.Sum (at 0 2) ∷ []) None (at 0 1 ∷ []) []
 
 sum_out : select [] sums ((num 1 1 largest ∷ num 2 1 largest ∷ []) ∷ []) ≡ None
-unfolding value_of fold_expr fold
+unfolding querying
 sum_out = refl
 
 -- a sum is judged at its end alone
 sum_in : select [] sums ((num 1 1 largest ∷ num 2 1 largest ∷ num 3 1 (value.Int (negsuc (2 ^ 63 - 2))) ∷ []) ∷ []) ≡ Some ((int 1 ∷ largest ∷ []) ∷ [])
-unfolding value_of fold_expr fold
+unfolding querying
 sum_in = refl
 
 -- SELECT v - 1 FROM num WHERE k = 4
@@ -124,12 +122,12 @@ abbrev less_one : BoundSelect
 less_one = plain (item.Expr (e.Sub (e.Column (at 0 2)) (e.Literal (int 1))) ∷ []) (Some (c.Compare (o.Column (at 0 0)) how.Equal (o.Literal (int 4)))) [] []
 
 item_out : select [] less_one ((num 4 2 (value.Int (negsuc (2 ^ 63 - 1))) ∷ []) ∷ []) ≡ None
-unfolding value_of holds fold_expr fold_cond fold hidden hidden-the_row-BoundExpr-0
+unfolding querying
 item_out = refl
 
 -- a row that the condition leaves out isn't computed
 item_left_out : select [] less_one ((num 5 2 (value.Int (negsuc (2 ^ 63 - 1))) ∷ []) ∷ []) ≡ Some []
-unfolding value_of holds fold_expr fold_cond fold hidden hidden-the_row-BoundExpr-0
+unfolding querying
 item_left_out = refl
 
 -- SELECT note.id, bill.pence, LABEL OF note FROM note, bill WHERE note.id = bill.id, where note's rows are at {a} and {a,b}
@@ -139,5 +137,5 @@ noted_bills = plain (shows 0 0 ∷ shows 1 1 ∷ item.LabelOf 0 ∷ []) (Some (c
 join : select (codes "a" ∷ codes "b" ∷ []) noted_bills
     ((row (int 1 ∷ []) (0 ∷ []) ∷ row (int 2 ∷ []) (0 ∷ 1 ∷ []) ∷ []) ∷ (row (int 1 ∷ int 250 ∷ []) [] ∷ row (int 2 ∷ int 90 ∷ []) [] ∷ []) ∷ [])
     ≡ Some ((int 1 ∷ int 250 ∷ text (codes "{a}") ∷ []) ∷ (int 2 ∷ int 90 ∷ text (codes "{a,b}") ∷ []) ∷ [])
-unfolding value_of holds fold_expr fold_cond fold
+unfolding querying
 join = refl

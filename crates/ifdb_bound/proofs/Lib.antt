@@ -1,2 +1,3 @@
 mod Examples
+pub mod Computing
 pub mod Meanings

@@ -2,3 +2,4 @@ pub mod Folds
 pub mod Expressions
 pub mod Conditions
 pub mod Query
+pub mod Kinds

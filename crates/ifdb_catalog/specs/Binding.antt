@@ -16,13 +16,14 @@ use Rattle.ifdb_bound.specs.declared.request.Bound.TheVariants as b
 use Rattle.ifdb_bound.specs.declared.request.Change.TheVariants as change
 use Rattle.ifdb_wire.specs.declared.fault.Fault.{Fault}
 use Rattle.ifdb_wire.specs.declared.fault.Fault.TheVariants.{Taken, UnknownName, NotCompound, NotATable, KeyColumn, TypeMismatch}
+use Rattle.ifdb_bound.specs.Kinds.{where_fits}
 use Rattle.ifdb_catalog.specs.Public.{Public, tags_of, principal_named}
 use Rattle.ifdb_catalog.specs.Check.{◌when◌, judged}
-use Rattle.ifdb_catalog.specs.Scope.{scope_of, table_scope}
-use Rattle.ifdb_catalog.specs.Terms.{where_is_known, where_fits, bound_where}
+use Rattle.ifdb_catalog.specs.Scope.{kinds_in, scope_of, table_scope}
+use Rattle.ifdb_catalog.specs.Terms.{where_is_known, bound_where}
 use Rattle.ifdb_catalog.specs.Queries.{place_or, is_relation, is_view, output, select_is_known, select_fits, bound_select}
-use Rattle.ifdb_catalog.specs.Statements.{is_tag, are_tags, tag_at, tags_named, label_named, table_number, schema_named, columns_named, is_column_of, wanted_kinds, are_listed, row_fits, arranged, is_known_assignment, assigns_key, assignments_fit, bound_assignment}
-use Rattle.ifdb_catalog.specs.Definitions.{tag_kind, names_twice, is_known_foreign, refers_to_view, foreign_fits, bound_schema, is_from_view, names_fit, bound_view}
+use Rattle.ifdb_catalog.specs.Statements.{is_tag, are_tags, tag_at, tags_named, label_named, table_number, schema_named, columns_named, is_column_of, are_listed, row_fits, arranged, is_known_assignment, assigns_key, assignments_fit, bound_assignment}
+use Rattle.ifdb_catalog.specs.Definitions.{tag_kind, names_twice, is_known_foreign, refers_to_view, bound_foreign, foreign_fits, bound_schema, is_from_view, names_fit, bound_view}
 
 abbrev pub is_principal : Public → List ℕ → Bool
 is_principal p name = is_some (principal_named p name)
@@ -51,7 +52,7 @@ create_table p asker name columns key foreign = judged
     ((Taken when (is_relation p name || names_twice columns key))
     ∷ (UnknownName when not (list_all (is_column_of columns) key && list_all (is_known_foreign p columns) foreign))
     ∷ (NotATable when list_any (refers_to_view p) foreign)
-    ∷ (TypeMismatch when not (list_all (foreign_fits p columns) foreign))
+    ∷ (TypeMismatch when not (list_all (foreign_fits p columns) (map (bound_foreign p columns) foreign)))
     ∷ [])
     (b.Change (change.Table asker (bound_schema p name columns key foreign)))
 
@@ -102,7 +103,7 @@ insert p table names rows tags =
     judged
     ((UnknownName when not (is_relation p table && (list_all (is_column_of columns) names && are_tags p tags)))
     ∷ (NotATable when is_view p table)
-    ∷ (TypeMismatch when not (are_listed columns names && list_all (row_fits (wanted_kinds columns names)) rows))
+    ∷ (TypeMismatch when not (are_listed columns names && list_all (row_fits columns names) rows))
     ∷ [])
     (b.Insert (table_number p table) (map (arranged columns names) rows) (label_named p tags))
 
@@ -116,7 +117,7 @@ update p table assignments cond tags =
     && (list_all (is_known_assignment columns scope) assignments && (where_is_known scope cond && are_tags p tags))))
     ∷ (NotATable when is_view p table)
     ∷ (KeyColumn when list_any (assigns_key (schema_named p table)) assignments)
-    ∷ (TypeMismatch when not (assignments_fit columns scope assignments && where_fits scope cond))
+    ∷ (TypeMismatch when not (assignments_fit columns scope assignments && where_fits (kinds_in scope) (bound_where scope cond)))
     ∷ [])
     (b.Update (table_number p table) (map (bound_assignment columns scope) assignments) (bound_where scope cond) (label_named p tags))
 
@@ -127,7 +128,7 @@ delete p table cond =
     judged
     ((UnknownName when not (is_relation p table && where_is_known scope cond))
     ∷ (NotATable when is_view p table)
-    ∷ (TypeMismatch when not (where_fits scope cond))
+    ∷ (TypeMismatch when not (where_fits (kinds_in scope) (bound_where scope cond)))
     ∷ [])
     (b.Delete (table_number p table) (bound_where scope cond))
 

@@ -1,7 +1,6 @@
 -- CREATE TABLE and CREATE VIEW: which of their forms fit, and what they define.
-use Rattle.std.specs.Prelude.{ℕ, Bool, true, false, ◌&&◌, ◌||◌, not, List, [], ◌∷◌, map, slice_index_or, Option, Some, None}
+use Rattle.std.specs.Prelude.{ℕ, Bool, true, false, ◌&&◌, ◌||◌, not, List, [], ◌∷◌, map, slice_get, Option, Some, None}
 use Rattle.std.specs.List.{list_all, list_any}
-use Rattle.ifdb_value.specs.declared.value.ValueKind.{ValueKind}
 use Rattle.ifdb_value.specs.declared.column.Column.{Column}
 use Rattle.ifdb_label.specs.declared.tag.TagKind.{TagKind}
 use Rattle.ifdb_label.specs.declared.tag.TagKind.TheVariants.{Plain, Compound}
@@ -11,11 +10,11 @@ use Rattle.ifdb_syntax.specs.declared.request.ForeignKey.{ForeignKey}
 use Rattle.ifdb_bound.specs.declared.schema.Foreign.{Foreign}
 use Rattle.ifdb_bound.specs.declared.schema.Schema.{Schema}
 use Rattle.ifdb_bound.specs.declared.schema.ViewDef.{ViewDef}
-use Rattle.ifdb_catalog.specs.Public.{Public}
-use Rattle.ifdb_catalog.specs.Scope.{Scope, no_column}
-use Rattle.ifdb_catalog.specs.Terms.{same_kind}
+use Rattle.ifdb_bound.specs.Kinds.{agree}
+use Rattle.ifdb_catalog.specs.Public.{Public, table_at}
+use Rattle.ifdb_catalog.specs.Scope.{Scope, kinds_of}
 use Rattle.ifdb_catalog.specs.Queries.{are_distinct, is_relation, is_view, output, bound_select}
-use Rattle.ifdb_catalog.specs.Statements.{label_named, table_number, schema_named, is_column_of, place_at, kind_named}
+use Rattle.ifdb_catalog.specs.Statements.{label_named, table_number, is_column_of, place_at}
 
 -- ---- tags
 
@@ -36,21 +35,19 @@ is_known_foreign p columns f = list_all (is_column_of columns) f.columns && is_r
 abbrev pub refers_to_view : Public → ForeignKey → Bool
 refers_to_view p f = is_view p f.parent
 
-abbrev pub same_kinds : List ValueKind → List ValueKind → Bool
-same_kinds [] [] = true
-same_kinds (j ∷ js) (k ∷ ks) = same_kind j k && same_kinds js ks
-same_kinds _ _ = false
-
--- the kinds of a table's primary key
-abbrev pub key_kinds : Schema → List ValueKind
-key_kinds t = map (λ place. (slice_index_or t.columns place no_column).kind) t.key
-
--- the columns are as many as the parent's primary key has, with the same kinds in order
-abbrev pub foreign_fits : Public → List Column → ForeignKey → Bool
-foreign_fits p columns f = same_kinds (map (kind_named columns) f.columns) (key_kinds (schema_named p f.parent))
+-- as many places in one list of columns as in another, with the same kinds in order
+abbrev pub same_kinds : List Column → List ℕ → List Column → List ℕ → Bool
+same_kinds columns [] others [] = true
+same_kinds columns (i ∷ places) others (j ∷ others_places) =
+    agree (slice_get (kinds_of columns) i) (slice_get (kinds_of others) j) && same_kinds columns places others others_places
+same_kinds columns _ others _ = false
 
 abbrev pub bound_foreign : Public → List Column → ForeignKey → Foreign
 bound_foreign p columns f = record { columns = map (place_at columns) f.columns; parent = table_number p f.parent }
+
+-- the columns are as many as the parent's primary key has, with the same kinds in order
+abbrev pub foreign_fits : Public → List Column → Foreign → Bool
+foreign_fits p columns f = let parent = table_at p f.parent in same_kinds columns f.columns parent.columns parent.key
 
 abbrev pub bound_schema : Public → List ℕ → List Column → List (List ℕ) → List ForeignKey → Schema
 bound_schema p name columns key foreign = record {

@@ -115,7 +115,8 @@ changed p (change.View view) = record p { views = p.views ++ view ∷ [] }
 changed p (change.Grant asker tag to) = with_authority p (granted (delegation_of p) (record { from = asker; tag = tag; to = to }))
 changed p (change.Revoke asker tag from) = with_authority p (revoked (delegation_of p) (record { from = asker; tag = tag; to = from }))
 
--- why a change is refused though its names stand for something: a grant or a view needs a tag that isn't held, or the grant that is to be taken away doesn't stand
+-- why a change is refused though its names stand for something: a tag that a grant or a view needs isn't held,
+-- or the grant that is to be taken away doesn't stand
 abbrev pub refusal : Public → Change → Option Fault
 refusal p (change.View view) = if has_tags p view.owner view.declassifying then None else Some NoAuthority
 refusal p (change.Grant asker tag to) = if has_tag p asker tag then None else Some NoAuthority

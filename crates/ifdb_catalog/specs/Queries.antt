@@ -2,7 +2,6 @@
 use Rattle.std.specs.Prelude.{ℕ, ◌+◌, ◌-◌, Bool, true, false, ◌&&◌, ◌||◌, ◌==◌, not, List, [], ◌∷◌, ◌++◌, map, flat_map, length, nat_le, bytes_eq, Option, Some, None, if◌then◌else◌}
 use Rattle.std.specs.Option.{is_some}
 use Rattle.std.specs.List.{list_all, list_any}
-use Rattle.ifdb_value.specs.declared.value.ValueKind.TheVariants as kind
 use Rattle.ifdb_value.specs.declared.column.Column.{Column}
 use Rattle.ifdb_syntax.specs.declared.expression.ColumnRef.{ColumnRef}
 use Rattle.ifdb_syntax.specs.declared.select.Select.{Select}
@@ -21,9 +20,10 @@ use Rattle.ifdb_bound.specs.declared.select.BoundSelect.{BoundSelect}
 use Rattle.ifdb_bound.specs.declared.select.OrderKey.{OrderKey}
 use Rattle.ifdb_bound.specs.declared.select.Relation.{Relation}
 use Rattle.ifdb_bound.specs.declared.select.Relation.TheVariants as relation
+use Rattle.ifdb_bound.specs.Kinds as kinds
 use Rattle.ifdb_catalog.specs.Public.{Public, relation_named, table_at, view_at}
-use Rattle.ifdb_catalog.specs.Scope.{ScopeSource, Scope, is_alias, is_column, column_at, column_kind, the_one}
-use Rattle.ifdb_catalog.specs.Terms.{same_kind, is_known, expr_kind, bound_expr, ref_of, where_is_known, where_fits, bound_where}
+use Rattle.ifdb_catalog.specs.Scope.{ScopeSource, Scope, kinds_in, is_alias, is_column, column_at, the_one}
+use Rattle.ifdb_catalog.specs.Terms.{is_known, bound_expr, ref_of, where_is_known, bound_where}
 
 -- ---- what is shared by lists of names
 
@@ -95,12 +95,6 @@ is_known_item scope (i.CountAll name) = true
 is_known_item scope (i.Sum c name) = is_column scope c
 is_known_item scope (i.Min c name) = is_column scope c
 is_known_item scope (i.Max c name) = is_column scope c
-
--- the kinds in the item fit: a sum is of numbers
-abbrev pub is_fitting_item : Scope → Item → Bool
-is_fitting_item scope (i.Expr e name) = is_some (expr_kind scope e)
-is_fitting_item scope (i.Sum c name) = same_kind kind.Int (column_kind scope c)
-is_fitting_item scope _ = true
 
 -- the first source of an alias, from source n on
 abbrev pub source_from : List ℕ → ℕ → Scope → ℕ
@@ -219,15 +213,6 @@ select_is_known p scope s =
     && (list_all (is_column scope) s.group
     && list_all (is_known_order (output scope s)) s.order)))
 
--- its aliases differ, and its kinds and forms fit
-abbrev pub select_fits : Public → Scope → Select → Bool
-select_fits p scope s =
-    are_distinct (map (λ (x : Source). x.alias) s.sources)
-    && (list_all (is_fitting_item scope) s.items
-    && (where_fits scope s.cond
-    && (items_stand scope s.group s.items
-    && counts_stand p s)))
-
 abbrev pub bound_select : Public → Scope → Select → BoundSelect
 bound_select p scope s = record {
   items = flat_map (bound_item scope) s.items;
@@ -236,3 +221,11 @@ bound_select p scope s = record {
   group = map (column_at scope) s.group;
   order = map (bound_order (output scope s)) s.order;
 }
+
+-- its aliases differ, its items stand beside one another, and the kinds in it fit
+abbrev pub select_fits : Public → Scope → Select → Bool
+select_fits p scope s =
+    are_distinct (map (λ (x : Source). x.alias) s.sources)
+    && (items_stand scope s.group s.items
+    && (counts_stand p s
+    && kinds.select_fits (kinds_in scope) (bound_select p scope s)))

@@ -1,22 +1,18 @@
 -- What a statement's columns may name: the sources behind FROM, each with its alias and its columns.
-use Rattle.std.specs.Prelude.{ℕ, ◌+◌, Bool, true, List, [], ◌∷◌, ◌++◌, map, slice_index_or, bytes_eq, Option, Some, None, if◌then◌else◌}
+use Rattle.std.specs.Prelude.{ℕ, ◌+◌, Bool, true, List, [], ◌∷◌, ◌++◌, map, bytes_eq, Option, Some, None, if◌then◌else◌}
 use Rattle.std.specs.Option.{is_some}
 use Rattle.std.specs.List.{list_any}
-use Rattle.ifdb_value.specs.Value.{kind_of}
 use Rattle.ifdb_value.specs.declared.value.ValueKind.{ValueKind}
 use Rattle.ifdb_value.specs.declared.value.ValueKind.TheVariants as kind
 use Rattle.ifdb_value.specs.declared.column.Column.{Column}
 use Rattle.ifdb_syntax.specs.declared.expression.ColumnRef.{ColumnRef}
 use Rattle.ifdb_syntax.specs.declared.select.Source.{Source}
 use Rattle.ifdb_bound.specs.declared.expression.BoundColumn.{BoundColumn}
-use Rattle.ifdb_bound.specs.declared.expression.BoundExpr.TheOpen.{BoundExpr-F}
-use Rattle.ifdb_bound.specs.declared.select.BoundItem.{BoundItem}
-use Rattle.ifdb_bound.specs.declared.select.BoundItem.TheVariants as item
 use Rattle.ifdb_bound.specs.declared.select.BoundSource.{BoundSource}
 use Rattle.ifdb_bound.specs.declared.select.Relation.{Relation}
 use Rattle.ifdb_bound.specs.declared.select.Relation.TheVariants as relation
 use Rattle.ifdb_bound.specs.declared.schema.ViewDef.{ViewDef}
-use Rattle.ifdb_bound.specs.Folds.{fold_expr}
+use Rattle.ifdb_bound.specs.Kinds.{item_kind}
 use Rattle.ifdb_catalog.specs.Public.{Public, relation_named, table_at, view_at}
 
 -- ---- columns of tables and views
@@ -24,26 +20,12 @@ use Rattle.ifdb_catalog.specs.Public.{Public, relation_named, table_at, view_at}
 abbrev pub no_column : Column
 no_column = record { name = []; kind = kind.Int }
 
--- the kind of a column, of the columns of each source
-abbrev pub kind_at : List (List Column) → BoundColumn → ValueKind
-kind_at sources c = (slice_index_or (slice_index_or sources c.source []) c.column no_column).kind
+abbrev pub kinds_of : List Column → List ValueKind
+kinds_of columns = map (λ (c : Column). c.kind) columns
 
--- arithmetic gives numbers
-abbrev pub kind_step : List (List Column) → BoundExpr-F ValueKind → ValueKind
-kind_step sources (BoundExpr-F.Column c) = kind_at sources c
-kind_step sources (BoundExpr-F.Literal v) = kind_of v
-kind_step sources (BoundExpr-F.Add a b) = kind.Int
-kind_step sources (BoundExpr-F.Sub a b) = kind.Int
-kind_step sources (BoundExpr-F.Mul a b) = kind.Int
-
--- the kind of what an item gives
-unfoldable pub item_kind : List (List Column) → BoundItem → ValueKind
-item_kind sources (item.Expr e) = fold_expr ValueKind (kind_step sources) e
-item_kind sources (item.LabelOf source) = kind.Text
-item_kind sources item.CountAll = kind.Int
-item_kind sources (item.Sum c) = kind.Int
-item_kind sources (item.Min c) = kind_at sources c
-item_kind sources (item.Max c) = kind_at sources c
+abbrev pub kind_or : ValueKind → Option ValueKind → ValueKind
+kind_or k None = k
+kind_or k (Some j) = j
 
 abbrev pub columns_of : List (List ℕ) → List ValueKind → List Column
 columns_of [] kinds = []
@@ -55,9 +37,13 @@ abbrev pub table_columns : Public → Relation → List Column
 table_columns p (relation.Table t) = (table_at p t).columns
 table_columns p (relation.View v) = []
 
+-- the kinds of what stands behind a view's FROM
+abbrev pub table_kinds : Public → List BoundSource → List (List ValueKind)
+table_kinds p sources = map (λ (s : BoundSource). kinds_of (table_columns p s.relation)) sources
+
 -- a view's columns: its names, each with the kind of its item
 abbrev pub view_columns : Public → ViewDef → List Column
-view_columns p v = columns_of v.names (map (item_kind (map (λ (s : BoundSource). table_columns p s.relation) v.select.sources)) v.select.items)
+view_columns p v = columns_of v.names (map (λ i. kind_or kind.Int (item_kind (table_kinds p v.select.sources) i)) v.select.items)
 
 -- the columns of a table or view; none where there is neither
 abbrev pub relation_columns : Public → Option Relation → List Column
@@ -86,8 +72,9 @@ scope_of p sources = map (source_of p) sources
 abbrev pub table_scope : Public → List ℕ → Scope
 table_scope p name = record { alias = name; columns = relation_columns p (relation_named p name) } ∷ []
 
-abbrev pub columns_in : Scope → List (List Column)
-columns_in scope = map (λ (s : ScopeSource). s.columns) scope
+-- the kinds of each source's columns
+abbrev pub kinds_in : Scope → List (List ValueKind)
+kinds_in scope = map (λ (s : ScopeSource). kinds_of s.columns) scope
 
 -- a source has this alias
 abbrev pub is_alias : Scope → List ℕ → Bool
@@ -133,7 +120,3 @@ column_at scope r = column_or (record { source = 0; column = 0 }) (resolve scope
 -- a reference means one column
 abbrev pub is_column : Scope → ColumnRef → Bool
 is_column scope r = is_some (resolve scope r)
-
--- the kind of the column that a reference means
-abbrev pub column_kind : Scope → ColumnRef → ValueKind
-column_kind scope r = kind_at (columns_in scope) (column_at scope r)

@@ -1,5 +1,5 @@
 -- INSERT, UPDATE and DELETE: what they may name, which of their forms fit, and their bound trees.
-use Rattle.std.specs.Prelude.{ℕ, Bool, true, false, ◌&&◌, ◌==◌, List, [], ◌∷◌, map, slice_index_or, position, bytes_eq, Option}
+use Rattle.std.specs.Prelude.{ℕ, Bool, true, false, ◌&&◌, ◌==◌, List, [], ◌∷◌, map, length, slice_get, position, bytes_eq, Option}
 use Rattle.std.specs.Option.{is_some}
 use Rattle.std.specs.List.{list_all, list_any}
 use Rattle.ifdb_value.specs.Value.{kind_of}
@@ -9,11 +9,12 @@ use Rattle.ifdb_value.specs.declared.column.Column.{Column}
 use Rattle.ifdb_label.specs.Label.{reduce}
 use Rattle.ifdb_syntax.specs.declared.request.Assignment.{Assignment}
 use Rattle.ifdb_bound.specs.Expressions.{value_at}
+use Rattle.ifdb_bound.specs.Kinds.{same_kind, agree, expr_kind}
 use Rattle.ifdb_bound.specs.declared.request.BoundAssignment.{BoundAssignment}
 use Rattle.ifdb_bound.specs.declared.schema.Schema.{Schema}
 use Rattle.ifdb_catalog.specs.Public.{Public, tags_of, tag_named, relation_named, table_named, table_at}
-use Rattle.ifdb_catalog.specs.Scope.{Scope, no_column, relation_columns}
-use Rattle.ifdb_catalog.specs.Terms.{same_kind, gives_kind, is_known, expr_kind, bound_expr}
+use Rattle.ifdb_catalog.specs.Scope.{Scope, kinds_of, kinds_in, relation_columns}
+use Rattle.ifdb_catalog.specs.Terms.{is_known, bound_expr}
 use Rattle.ifdb_catalog.specs.Queries.{times, are_distinct, place_or}
 
 -- ---- tags by their names
@@ -58,27 +59,21 @@ is_column_of columns name = is_some (place_named columns name)
 abbrev pub place_at : List Column → List ℕ → ℕ
 place_at columns name = place_or (place_named columns name)
 
--- the kind of a column that is known to be one
-abbrev pub kind_named : List Column → List ℕ → ValueKind
-kind_named columns name = (slice_index_or columns (place_at columns name) no_column).kind
+-- the kind of a column, or nothing where there is none of the name
+abbrev pub kind_named : List Column → List ℕ → Option ValueKind
+kind_named columns name = slice_get (kinds_of columns) (place_at columns name)
 
 -- ---- INSERT
-
--- the kinds that the rows are to have: those of the listed columns, or of all where none is listed
-abbrev pub wanted_kinds : List Column → List (List ℕ) → List ValueKind
-wanted_kinds columns [] = map (λ (c : Column). c.kind) columns
-wanted_kinds columns (n ∷ names) = map (kind_named columns) (n ∷ names)
 
 -- where columns are listed, each one is so exactly once
 abbrev pub are_listed : List Column → List (List ℕ) → Bool
 are_listed columns [] = true
 are_listed columns (n ∷ names) = list_all (λ (c : Column). times c.name (n ∷ names) == 1) columns
 
--- a row has as many values as are wanted, each of its kind
-abbrev pub row_fits : List ValueKind → List Value → Bool
-row_fits [] [] = true
-row_fits (k ∷ kinds) (v ∷ values) = same_kind k (kind_of v) && row_fits kinds values
-row_fits _ _ = false
+-- how many values a row gives: one for each listed column, or for each column where none is listed
+abbrev pub wanted : List Column → List (List ℕ) → ℕ
+wanted columns [] = length columns
+wanted columns (n ∷ names) = length (n ∷ names)
 
 -- the place of a name in a list of names
 abbrev pub listed_at : List (List ℕ) → List ℕ → ℕ
@@ -88,6 +83,16 @@ listed_at names name = place_or (position (λ n. bytes_eq n name) names)
 abbrev pub arranged : List Column → List (List ℕ) → List Value → List Value
 arranged columns [] row = row
 arranged columns (n ∷ names) row = map (λ (c : Column). value_at row (listed_at (n ∷ names) c.name)) columns
+
+-- a value for each column, of its kind
+abbrev pub values_fit : List ValueKind → List Value → Bool
+values_fit [] [] = true
+values_fit (k ∷ kinds) (v ∷ values) = same_kind k (kind_of v) && values_fit kinds values
+values_fit _ _ = false
+
+-- a row has as many values as are wanted, and gives each column one of its kind
+abbrev pub row_fits : List Column → List (List ℕ) → List Value → Bool
+row_fits columns names row = (length row == wanted columns names) && values_fit (kinds_of columns) (arranged columns names row)
 
 -- ---- UPDATE
 
@@ -99,14 +104,15 @@ is_known_assignment columns scope a = is_column_of columns a.column && is_known 
 abbrev pub assigns_key : Schema → Assignment → Bool
 assigns_key t a = list_any (λ place. place == place_at t.columns a.column) t.key
 
+abbrev pub bound_assignment : List Column → Scope → Assignment → BoundAssignment
+bound_assignment columns scope a = record { column = place_at columns a.column; expr = bound_expr scope a.expr }
+
 -- the expression gives the column's kind
-abbrev pub assignment_fits : List Column → Scope → Assignment → Bool
-assignment_fits columns scope a = gives_kind (kind_named columns a.column) (expr_kind scope a.expr)
+abbrev pub assignment_fits : List Column → List (List ValueKind) → BoundAssignment → Bool
+assignment_fits columns kinds a = agree (slice_get (kinds_of columns) a.column) (expr_kind kinds a.expr)
 
 -- no column is assigned twice, and each is given its kind
 abbrev pub assignments_fit : List Column → Scope → List Assignment → Bool
 assignments_fit columns scope assignments =
-    are_distinct (map (λ (a : Assignment). a.column) assignments) && list_all (assignment_fits columns scope) assignments
-
-abbrev pub bound_assignment : List Column → Scope → Assignment → BoundAssignment
-bound_assignment columns scope a = record { column = place_at columns a.column; expr = bound_expr scope a.expr }
+    are_distinct (map (λ (a : Assignment). a.column) assignments)
+    && list_all (assignment_fits columns (kinds_in scope)) (map (bound_assignment columns scope) assignments)

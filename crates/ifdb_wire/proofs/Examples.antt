@@ -2,6 +2,7 @@
 use Rattle.std.proofs.Common.{◌≡◌, refl, List, ℕ, [], ◌∷◌, ◌++◌, pos, negsuc, take, length, Some, None}
 use Rattle.std.specs.Prelude.{codes, decimal}
 use Rattle.std.specs.Fmt.{digits}
+use Rattle.ifdb_value.specs.declared.value.Value.{Value}
 use Rattle.ifdb_value.specs.declared.value.Value.TheVariants as value
 use Rattle.ifdb_wire.specs.declared.fault.Fault.{Fault}
 use Rattle.ifdb_wire.specs.declared.fault.Fault.TheVariants as fault
@@ -78,8 +79,11 @@ no_rows : reply_text (Some 2) (reply.Rows (record { columns = 2; rows = [] })) �
 unfolding digits
 no_rows = refl
 
-two_rows : reply_text (Some 2) (reply.Rows (record { columns = 2; rows = (value.Int (pos 39) ∷ value.Int (negsuc 3899) ∷ []) ∷ (value.Text (codes "x") ∷ value.Text (codes "it's a\\b") ∷ []) ∷ [] }))
-    ≡ codes "2 ROWS 2 2\n2 39\t-3900\n2 x\tit's a\\\\b\n"
+-- 39 and -3900, and two texts
+abbrev two_by_two : List (List Value)
+two_by_two = (value.Int (pos 39) ∷ value.Int (negsuc 3899) ∷ []) ∷ (value.Text (codes "x") ∷ value.Text (codes "it's a\\b") ∷ []) ∷ []
+
+two_rows : reply_text (Some 2) (reply.Rows (record { columns = 2; rows = two_by_two })) ≡ codes "2 ROWS 2 2\n2 39\t-3900\n2 x\tit's a\\\\b\n"
 unfolding digits
 two_rows = refl
 
