@@ -4,3 +4,4 @@ pub mod Statements
 pub mod Sided
 pub mod Logs
 pub mod Alike
+pub mod rows
