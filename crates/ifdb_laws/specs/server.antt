@@ -6,3 +6,4 @@ pub mod CommitRows
 pub mod ReferenceRows
 pub mod ViewRows
 pub mod QueryRows
+pub mod RowLaws
