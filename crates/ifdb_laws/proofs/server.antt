@@ -5,3 +5,5 @@ pub mod Sided
 pub mod Logs
 pub mod Alike
 pub mod rows
+pub mod Refusals
+pub mod Frozen

@@ -7,3 +7,4 @@ pub mod ReferenceRows
 pub mod ViewRows
 pub mod QueryRows
 pub mod RowLaws
+pub mod StepLaws

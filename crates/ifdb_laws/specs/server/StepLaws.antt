@@ -1,0 +1,41 @@
+-- What the laws of single lines say, for every reading of lines.
+use Rattle.std.specs.Prelude.{◌≡◌, ℕ, Bool, true, false, List, take, Some, None, Result, Ok, Err}
+use Rattle.ifdb_syntax.specs.declared.request.Request.{Request}
+use Rattle.ifdb_wire.specs.declared.fault.Fault.{Fault}
+use Rattle.ifdb_wire.specs.declared.reply.Reply.TheVariants as reply
+use Rattle.ifdb_model.specs.server.Log.{Entry}
+use Rattle.ifdb_model.specs.server.Session.{Txn, Session}
+use Rattle.ifdb_model.specs.server.Step.{Reader, Form, ends, form_of, refuses, ask}
+use Rattle.ifdb_model.specs.server.Run.{State, Step, asks, outcome_of, next}
+
+abbrev pub is_ending : Form → Bool
+is_ending ends = true
+is_ending _ = false
+
+-- the line is read as COMMIT
+abbrev pub is_commit : Result Request Fault → Bool
+is_commit (Err f) = false
+is_commit (Ok r) = is_ending (form_of r)
+
+-- In a transaction each line but COMMIT is answered by the changes before its BEGIN, its own writes and its session alone:
+-- alike over any two logs that begin with these changes.
+abbrev pub TransactionsAreFrozen : Type 0
+TransactionsAreFrozen = (read : Reader) (log other : List Entry) (s : Session) (asker : ℕ) (x : Txn) (line : List ℕ)
+    → s.principal ≡ Some asker → s.txn ≡ Some x → take x.begin log ≡ take x.begin other → is_commit (read line) ≡ false
+    → ask read log s line ≡ ask read other s line
+
+-- a refused line, but for COMMIT, leaves its session as it was and adds nothing
+abbrev pub RefusalsChangeNothing : Type 0
+RefusalsChangeNothing = (read : Reader) (log : List Entry) (s : Session) (line : List ℕ) (f : Fault)
+    → is_commit (read line) ≡ false → (ask read log s line).reply ≡ reply.Refused f → ask read log s line ≡ refuses s f
+
+-- a COMMIT of a transaction that is refused ends it, and changes nothing else
+abbrev pub RefusedCommitsEnd : Type 0
+RefusedCommitsEnd = (read : Reader) (log : List Entry) (s : Session) (asker : ℕ) (x : Txn) (line : List ℕ) (f : Fault)
+    → s.principal ≡ Some asker → s.txn ≡ Some x → is_commit (read line) ≡ true → (ask read log s line).reply ≡ reply.Refused f
+    → ask read log s line ≡ refuses (record s { txn = None }) f
+
+-- so the state after a refused step, but for COMMIT, is the state before it
+abbrev pub RefusedStepsChangeNothing : Type 0
+RefusedStepsChangeNothing = (read : Reader) (st : State) (n : ℕ) (line : List ℕ) (f : Fault)
+    → is_commit (read line) ≡ false → (outcome_of read st n line).reply ≡ reply.Refused f → next read st (asks n line) ≡ st
