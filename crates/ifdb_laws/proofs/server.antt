@@ -7,3 +7,4 @@ pub mod Alike
 pub mod rows
 pub mod Refusals
 pub mod Frozen
+pub mod Clinic

@@ -8,3 +8,4 @@ pub mod ViewRows
 pub mod QueryRows
 pub mod RowLaws
 pub mod StepLaws
+pub mod ClinicRow
