@@ -8,3 +8,4 @@ pub mod rows
 pub mod Refusals
 pub mod Frozen
 pub mod Clinic
+pub mod PairExamples

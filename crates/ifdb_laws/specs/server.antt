@@ -9,3 +9,4 @@ pub mod QueryRows
 pub mod RowLaws
 pub mod StepLaws
 pub mod ClinicRow
+pub mod Pairs
