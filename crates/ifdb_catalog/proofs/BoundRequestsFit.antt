@@ -93,12 +93,15 @@ assignments_are_fitting p table assignments named h k =
     let scope = table_scope p table in
     let same = columns_are p table named in
     let spared : list_all (spares_key t) (map (bound_assignment columns scope) assignments) ≡ true =
-    subst (λ (c : List Column). list_all (spares_key t) (map (bound_assignment c scope) assignments) ≡ true) (sym same) (keys_are_spared t scope assignments h) in
+    subst (λ (c : List Column). list_all (spares_key t) (map (bound_assignment c scope) assignments) ≡ true)
+    (sym same) (keys_are_spared t scope assignments h) in
     let written : list_all (assignment_fits columns (kinds_in scope)) (map (bound_assignment columns scope) assignments) ≡ true = grind (arith, nat_tests) in
     let of_table : list_all (assignment_fits columns (kinds_of t.columns ∷ [])) (map (bound_assignment columns scope) assignments) ≡ true =
-    subst (λ (k : List (List ValueKind)). list_all (assignment_fits columns k) (map (bound_assignment columns scope) assignments) ≡ true) (kinds_are p table named) written in
+    subst (λ (k : List (List ValueKind)). list_all (assignment_fits columns k) (map (bound_assignment columns scope) assignments) ≡ true)
+    (kinds_are p table named) written in
     both_of _ _ spared
-    (subst (λ (c : List Column). list_all (assignment_fits c (kinds_of t.columns ∷ [])) (map (bound_assignment columns scope) assignments) ≡ true) same of_table)
+    (subst (λ (c : List Column). list_all (assignment_fits c (kinds_of t.columns ∷ [])) (map (bound_assignment columns scope) assignments)
+    ≡ true) same of_table)
 
 update_is_fitting : (p : Public) (table : List ℕ) (assignments : List Assignment) (found : Option Cond) (tags : List (List ℕ))
     → is_relation p table ≡ true → is_view p table ≡ false → list_any (assigns_key (schema_named p table)) assignments ≡ false
@@ -154,7 +157,8 @@ bound_is_fitting p asker (q.Insert table names rows tags) x e = accepted (bound_
     insert_is_fitting p table names rows tags parts.0 parts.1 parts.2 parts.3)
 bound_is_fitting p asker (q.Update table assignments cond tags) x e = accepted (bound_fits p) _ _ x e (λ h.
     update_is_fitting p table assignments cond tags
-    (grind (arith, nat_tests)) (grind (arith, nat_tests)) (grind (arith, nat_tests)) (grind (arith, nat_tests)) (grind (arith, nat_tests)) (grind (arith, nat_tests)))
+    (grind (arith, nat_tests)) (grind (arith, nat_tests)) (grind (arith, nat_tests)) (grind (arith, nat_tests)) (grind (arith, nat_tests)) (grind
+    (arith, nat_tests)))
 bound_is_fitting p asker (q.Delete table cond) x e = accepted (bound_fits p) _ _ x e (λ h.
     delete_is_fitting p table cond (grind (arith, nat_tests)) (grind (arith, nat_tests)) (grind (arith, nat_tests)))
 bound_is_fitting p asker (q.Hello name key) x e = other_fits p x e

@@ -110,7 +110,9 @@ same_id = c.Compare (o.Column (dotted note id)) how.Equal (o.Column (dotted bill
 -- CREATE VIEW due AS SELECT note.id, bill.pence FROM note, bill WHERE note.id = bill.id WITH DECLASSIFYING (a)
 abbrev bills : List ℕ → Request
 bills name =
-    view name (record (query (shows (dotted note id) ∷ shows (dotted bill pence) ∷ []) (source note ∷ source bill ∷ [])) { cond = Some same_id }) (codes "a" ∷ [])
+    view name
+    (record (query (shows (dotted note id) ∷ shows (dotted bill pence) ∷ []) (source note ∷ source bill ∷ [])) { cond = Some same_id })
+    (codes "a" ∷ [])
 
 new_view : bound site 1 (bills (codes "due2")) ≡ Ok (b.Change (change.View (record due_view { name = codes "due2" })))
 unfolding binding

@@ -29,7 +29,8 @@ tags_are_made p (n ∷ names) h = grind (arith, nat_tests, tags_are_made p names
 -- the label of known tags fits
 pub label_is_made : (p : Public) (names : List (List ℕ)) → are_tags p names ≡ true → label_fits p (label_named p names) ≡ true
 label_is_made p names h =
-    let made : are_made (length p.tags) (label_named p names) ≡ true = reduce_all (tags_of p) (λ t. nat_lt t (length p.tags)) (tags_named p names) (tags_are_made p names h) in
+    let made : are_made (length p.tags) (label_named p names) ≡ true =
+    reduce_all (tags_of p) (λ t. nat_lt t (length p.tags)) (tags_named p names) (tags_are_made p names h) in
     let rises : is_rising (label_named p names) ≡ true = reduce_is_rising (tags_of p) (tags_named p names) in
     grind (arith, nat_tests)
 

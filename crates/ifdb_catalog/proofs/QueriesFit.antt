@@ -37,7 +37,8 @@ is_the_relation (Some r) h = refl
 abbrev are_known : Public → List Source → Bool
 are_known p sources = list_all (λ (x : Source). queries.is_relation p x.name) sources
 
-pub kinds_are_sources : (p : Public) (sources : List Source) → are_known p sources ≡ true → kinds_in (scope_of p sources) ≡ source_kinds p (map (bound_source p) sources)
+pub kinds_are_sources : (p : Public) (sources : List Source) → are_known p sources ≡ true
+    → kinds_in (scope_of p sources) ≡ source_kinds p (map (bound_source p) sources)
 kinds_are_sources p [] h = refl
 kinds_are_sources p (s ∷ sources) h =
     let first : queries.is_relation p s.name ≡ true = grind (arith, nat_tests) in
@@ -50,7 +51,8 @@ sources_stand p [] h = refl
 sources_stand p (s ∷ sources) h = grind (arith, nat_tests, sources_stand p sources, relation_stands p s.name)
 
 -- the kinds of a SELECT whose kinds and forms fit
-fitting_kinds : (p : Public) (scope : Scope) (s : Select) → queries.select_fits p scope s ≡ true → kinds.select_fits (kinds_in scope) (bound_select p scope s) ≡ true
+fitting_kinds : (p : Public) (scope : Scope) (s : Select) → queries.select_fits p scope s ≡ true
+    → kinds.select_fits (kinds_in scope) (bound_select p scope s) ≡ true
 fitting_kinds p scope s h =
     let fits : Bool = kinds.select_fits (kinds_in scope) (bound_select p scope s) in
     let counts : Bool = counts_stand p s in
@@ -65,7 +67,8 @@ query_is_fitting p s known fitting =
     let tree = bound_select p (scope_of p s.sources) s in
     both_of (list_all (λ (x : BoundSource). fits.is_relation p x.relation) tree.sources) (kinds.select_fits (source_kinds p tree.sources) tree)
     (sources_stand p s.sources there)
-    (subst (λ (k : List (List ValueKind)). kinds.select_fits k tree ≡ true) (kinds_are_sources p s.sources there) (fitting_kinds p (scope_of p s.sources) s fitting))
+    (subst (λ (k : List (List ValueKind)). kinds.select_fits k tree ≡ true)
+    (kinds_are_sources p s.sources there) (fitting_kinds p (scope_of p s.sources) s fitting))
 
 -- ---- views
 
@@ -95,7 +98,8 @@ length-all_from n [] = refl
 length-all_from n (s ∷ scope) =
     let names = map (λ (c : Column). c.name) s.columns in
     let first : length (columns_from n 0 s.columns) ≡ length names = length-columns_from n 0 s.columns ∙ sym (length-map s.columns (λ (c : Column). c.name)) in
-    let left : length (all_from n (s ∷ scope)) ≡ length (columns_from n 0 s.columns) + length (all_from (n + 1) scope) = length-append (columns_from n 0 s.columns) (all_from (n + 1) scope) in
+    let left : length (all_from n (s ∷ scope)) ≡ length (columns_from n 0 s.columns) + length (all_from (n + 1) scope) =
+    length-append (columns_from n 0 s.columns) (all_from (n + 1) scope) in
     let right : length (all_names (s ∷ scope)) ≡ length names + length (all_names scope) = length-append names (all_names scope) in
     grind (arith, length-all_from (n + 1) scope)
 
@@ -111,9 +115,12 @@ item_lengths scope (i.Max c name) = refl
 items_lengths : (scope : Scope) (items : List Item) → length (flat_map (output_names scope) items) ≡ length (flat_map (bound_item scope) items)
 items_lengths scope [] = refl
 items_lengths scope (x ∷ items) =
-    let left : length (flat_map (output_names scope) (x ∷ items)) ≡ length (output_names scope x) + length (flat_map (output_names scope) items) = length-append (output_names scope x) _ in
-    let right : length (flat_map (bound_item scope) (x ∷ items)) ≡ length (bound_item scope x) + length (flat_map (bound_item scope) items) = length-append (bound_item scope x) _ in
+    let left : length (flat_map (output_names scope) (x ∷ items)) ≡ length (output_names scope x) + length (flat_map (output_names scope) items) =
+    length-append (output_names scope x) _ in
+    let right : length (flat_map (bound_item scope) (x ∷ items)) ≡ length (bound_item scope x) + length (flat_map (bound_item scope) items) =
+    length-append (bound_item scope x) _ in
     grind (arith, items_lengths scope items, item_lengths scope x)
 
-pub named_items : (scope : Scope) (s : Select) → names_fit (output scope s) ≡ true → length (given (output scope s)) ≡ length (flat_map (bound_item scope) s.items)
+pub named_items : (scope : Scope) (s : Select) → names_fit (output scope s) ≡ true
+    → length (given (output scope s)) ≡ length (flat_map (bound_item scope) s.items)
 named_items scope s h = all_given (output scope s) (grind (arith, nat_tests)) ∙ items_lengths scope s.items
