@@ -17,6 +17,7 @@ use Rattle.ifdb_bound.specs.declared.select.BoundItem.TheVariants as bi
 use Rattle.ifdb_bound.specs.declared.request.Bound.TheVariants as b
 use Rattle.ifdb_bound.specs.declared.request.Change.TheVariants as change
 use Rattle.ifdb_wire.specs.declared.fault.Fault.TheVariants as fault
+use Rattle.ifdb_catalog.specs.Public.{refusal}
 use Rattle.ifdb_catalog.specs.Binding.{bound}
 use Rattle.ifdb_catalog.proofs.Site.{int, bare, dotted, shows, source, query, numbers, texts, at, gives, of_table, bound_query, note, bill, id, body, pence, due_view, w_view, site}
 use Rattle.ifdb_catalog.proofs.Computing.{binding}
@@ -109,7 +110,9 @@ same_id = c.Compare (o.Column (dotted note id)) how.Equal (o.Column (dotted bill
 -- CREATE VIEW due AS SELECT note.id, bill.pence FROM note, bill WHERE note.id = bill.id WITH DECLASSIFYING (a)
 abbrev bills : List ℕ → Request
 bills name =
-    view name (record (query (shows (dotted note id) ∷ shows (dotted bill pence) ∷ []) (source note ∷ source bill ∷ [])) { cond = Some same_id }) (codes "a" ∷ [])
+    view name
+    (record (query (shows (dotted note id) ∷ shows (dotted bill pence) ∷ []) (source note ∷ source bill ∷ [])) { cond = Some same_id })
+    (codes "a" ∷ [])
 
 new_view : bound site 1 (bills (codes "due2")) ≡ Ok (b.Change (change.View (record due_view { name = codes "due2" })))
 unfolding binding
@@ -177,3 +180,13 @@ view_of_all : bound site 1 (view (codes "v") (query (i.All ∷ []) (source note 
     })))
 unfolding binding
 view_of_all = refl
+
+-- ---- the authority of a view's owner
+
+-- guest holds a by a grant
+owner_holds : refusal site (change.View due_view) ≡ None
+owner_holds = refl
+
+-- guest doesn't hold b
+owner_lacks : refusal site (change.View (record w_view { owner = 1 })) ≡ Some fault.NoAuthority
+owner_lacks = refl

@@ -1,4 +1,12 @@
 pub mod Computing
+mod Tests
+pub mod Judging
+pub mod Found
+mod QueriesFit
+mod StatementsFit
+pub mod BoundRequestsFit
+pub mod Growth
+pub mod Made
 mod Site
 mod NameExamples
 mod DefinitionExamples

@@ -73,6 +73,11 @@ column_missing : bound site 0 (insert note (id ∷ []) ((int 1 ∷ []) ∷ [])) 
 unfolding binding
 column_missing = refl
 
+-- though all kinds fit
+number_missing : bound site 0 (insert bill (id ∷ []) ((int 1 ∷ []) ∷ [])) ≡ Err fault.TypeMismatch
+unfolding binding
+number_missing = refl
+
 short_row : bound site 0 (insert note [] (row 1 [] ∷ (int 2 ∷ []) ∷ [])) ≡ Err fault.TypeMismatch
 unfolding binding
 short_row = refl
@@ -80,6 +85,15 @@ short_row = refl
 long_row : bound site 0 (insert note [] ((int 1 ∷ text [] ∷ int 1 ∷ []) ∷ [])) ≡ Err fault.TypeMismatch
 unfolding binding
 long_row = refl
+
+-- though each listed column has its value
+long_listed_row : bound site 0 (insert note (body ∷ id ∷ []) ((text [] ∷ int 1 ∷ int 2 ∷ []) ∷ [])) ≡ Err fault.TypeMismatch
+unfolding binding
+long_listed_row = refl
+
+short_listed_row : bound site 0 (insert note (body ∷ id ∷ []) ((text [] ∷ []) ∷ [])) ≡ Err fault.TypeMismatch
+unfolding binding
+short_listed_row = refl
 
 other_kind : bound site 0 (insert note (body ∷ id ∷ []) (row 1 [] ∷ [])) ≡ Err fault.TypeMismatch
 unfolding binding
@@ -110,6 +124,12 @@ computes : bound site 0 (q.Update bill (set pence (e.Mul (e.Column (bare pence))
     ≡ Ok (b.Update 1 (record { column = 1; expr = be.Mul (be.Column (at 0 1)) (be.Literal (int 2)) } ∷ []) None (0 ∷ []))
 unfolding binding
 computes = refl
+
+-- UPDATE bill SET pence = pence - (id + 1)
+subtracts : bound site 0 (update bill (set pence (e.Sub (e.Column (bare pence)) (e.Add (e.Column (bare id)) (e.Literal (int 1)))) ∷ []) None)
+    ≡ Ok (b.Update 1 (record { column = 1; expr = be.Sub (be.Column (at 0 1)) (be.Add (be.Column (at 0 0)) (be.Literal (int 1))) } ∷ []) None [])
+unfolding binding
+subtracts = refl
 
 unknown_table : bound site 0 (update (codes "nope") (set body z ∷ []) None) ≡ Err fault.UnknownName
 unfolding binding

@@ -13,6 +13,6 @@ abbrev pub ◌when◌ : Fault → Bool → Check
 fault when comes = record { fault = fault; comes = comes }
 
 -- the first refusal that comes, or else the bound request
-abbrev pub judged : List Check → Bound → Result Bound Fault
+unfoldable pub judged : List Check → Bound → Result Bound Fault
 judged [] bound = Ok bound
 judged (check ∷ checks) bound = if check.comes then Err check.fault else judged checks bound

@@ -7,3 +7,5 @@ pub mod Queries
 pub mod Statements
 pub mod Definitions
 pub mod Binding
+pub mod Fits
+pub mod Laws

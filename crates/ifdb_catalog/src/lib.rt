@@ -1,4 +1,7 @@
 //! The public state: principals, tags, grants, tables and views; its changes; and what a request's names stand for in it.
 #![tactic(auto)]
 
+mod laws;
+
 pub use ifdb_bound::Relation;
+pub use laws::{bound_requests_fit, tags_stay_well_formed};

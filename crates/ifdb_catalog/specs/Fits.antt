@@ -1,0 +1,108 @@
+-- Whether a bound request fits the public state: its numbers stand for something, and its trees fit the columns that they are over.
+use Rattle.std.specs.Prelude.{ℕ, Bool, true, false, ◌&&◌, ◌==◌, not, List, [], ◌∷◌, map, length, nat_lt, Some}
+use Rattle.std.specs.List.{list_all, list_any}
+use Rattle.ifdb_value.specs.declared.value.ValueKind.{ValueKind}
+use Rattle.ifdb_value.specs.declared.column.Column.{Column}
+use Rattle.ifdb_label.specs.Tags.{are_made, are_compound}
+use Rattle.ifdb_label.specs.Label.{is_rising}
+use Rattle.ifdb_bound.specs.Kinds.{select_fits, where_fits}
+use Rattle.ifdb_bound.specs.declared.request.Bound.{Bound}
+use Rattle.ifdb_bound.specs.declared.request.Bound.TheVariants as b
+use Rattle.ifdb_bound.specs.declared.request.BoundAssignment.{BoundAssignment}
+use Rattle.ifdb_bound.specs.declared.request.Change.{Change}
+use Rattle.ifdb_bound.specs.declared.request.Change.TheVariants as change
+use Rattle.ifdb_bound.specs.declared.schema.Foreign.{Foreign}
+use Rattle.ifdb_bound.specs.declared.schema.Schema.{Schema}
+use Rattle.ifdb_bound.specs.declared.schema.ViewDef.{ViewDef}
+use Rattle.ifdb_bound.specs.declared.select.BoundSelect.{BoundSelect}
+use Rattle.ifdb_bound.specs.declared.select.BoundSource.{BoundSource}
+use Rattle.ifdb_bound.specs.declared.select.Relation.{Relation}
+use Rattle.ifdb_bound.specs.declared.select.Relation.TheVariants as relation
+use Rattle.ifdb_catalog.specs.Public.{Public, tags_of, table_at}
+use Rattle.ifdb_catalog.specs.Scope.{kinds_of, relation_columns}
+use Rattle.ifdb_catalog.specs.Statements.{values_fit, assignment_fits}
+use Rattle.ifdb_catalog.specs.Definitions.{foreign_fits}
+
+-- ---- numbers
+
+abbrev pub is_principal : Public → ℕ → Bool
+is_principal p n = nat_lt n (length p.principals)
+
+abbrev pub is_tag : Public → ℕ → Bool
+is_tag p t = nat_lt t (length p.tags)
+
+abbrev pub is_table : Public → ℕ → Bool
+is_table p t = nat_lt t (length p.tables)
+
+abbrev pub is_relation : Public → Relation → Bool
+is_relation p (relation.Table t) = is_table p t
+is_relation p (relation.View v) = nat_lt v (length p.views)
+
+-- a label over made tags
+abbrev pub label_fits : Public → List ℕ → Bool
+label_fits p label = are_made (length p.tags) label && is_rising label
+
+-- ---- queries
+
+-- the kinds of the columns of each source
+abbrev pub source_kinds : Public → List BoundSource → List (List ValueKind)
+source_kinds p sources = map (λ (s : BoundSource). kinds_of (relation_columns p (Some s.relation))) sources
+
+abbrev pub query_fits : Public → BoundSelect → Bool
+query_fits p s = list_all (λ (x : BoundSource). is_relation p x.relation) s.sources && select_fits (source_kinds p s.sources) s
+
+-- ---- tables and views
+
+abbrev pub foreign_key_fits : Public → List Column → Foreign → Bool
+foreign_key_fits p columns f = is_table p f.parent && foreign_fits p columns f
+
+abbrev pub schema_fits : Public → Schema → Bool
+schema_fits p t = list_all (λ place. nat_lt place (length t.columns)) t.key && list_all (foreign_key_fits p t.columns) t.foreign
+
+abbrev pub is_of_table : Relation → Bool
+is_of_table (relation.Table t) = true
+is_of_table (relation.View v) = false
+
+abbrev pub is_over_table : BoundSource → Bool
+is_over_table s = is_of_table s.relation
+
+-- a view is over tables, and has a name for each item
+abbrev pub view_fits : Public → ViewDef → Bool
+view_fits p v =
+    query_fits p v.select
+    && (list_all is_over_table v.select.sources
+    && ((length v.names == length v.select.items)
+    && label_fits p v.declassifying))
+
+-- ---- requests
+
+abbrev pub change_fits : Public → Change → Bool
+change_fits p (change.Principal asker name key) = true
+change_fits p (change.Tag asker name kind parents) = are_made (length p.tags) parents && are_compound (tags_of p) parents
+change_fits p (change.Table asker schema) = schema_fits p schema
+change_fits p (change.View view) = view_fits p view
+change_fits p (change.Grant asker tag to) = is_tag p tag && is_principal p to
+change_fits p (change.Revoke asker tag from) = is_tag p tag && is_principal p from
+
+-- a written column isn't one of the primary key
+abbrev pub spares_key : Schema → BoundAssignment → Bool
+spares_key t a = not (list_any (λ place. place == a.column) t.key)
+
+-- the assignments of an UPDATE
+abbrev pub assignments_fit : Schema → List BoundAssignment → Bool
+assignments_fit t assignments =
+    list_all (spares_key t) assignments && list_all (assignment_fits t.columns (kinds_of t.columns ∷ [])) assignments
+
+abbrev pub bound_fits : Public → Bound → Bool
+bound_fits p (b.Change c) = change_fits p c
+bound_fits p (b.SetLabel label) = label_fits p label
+bound_fits p (b.Select s) = query_fits p s
+bound_fits p (b.Insert t rows given) =
+    is_table p t && (list_all (values_fit (kinds_of (table_at p t).columns)) rows && label_fits p given)
+bound_fits p (b.Update t assignments cond given) =
+    is_table p t
+    && (assignments_fit (table_at p t) assignments
+    && (where_fits (kinds_of (table_at p t).columns ∷ []) cond
+    && label_fits p given))
+bound_fits p (b.Delete t cond) = is_table p t && where_fits (kinds_of (table_at p t).columns ∷ []) cond
+bound_fits p b.Other = true

@@ -1,0 +1,17 @@
+-- What the laws say.
+use Rattle.std.specs.Prelude.{◌≡◌, ℕ, true, Ok}
+use Rattle.ifdb_label.specs.Tags.{AreWellFormed}
+use Rattle.ifdb_syntax.specs.declared.request.Request.{Request}
+use Rattle.ifdb_bound.specs.declared.request.Bound.{Bound}
+use Rattle.ifdb_bound.specs.declared.request.Change.{Change}
+use Rattle.ifdb_catalog.specs.Public.{Public, tags_of, changed}
+use Rattle.ifdb_catalog.specs.Binding.{bound}
+use Rattle.ifdb_catalog.specs.Fits.{bound_fits, change_fits}
+
+-- what is bound fits the public state that it is bound in
+abbrev pub BoundFits : Type 0
+BoundFits = (p : Public) (asker : ℕ) (request : Request) (x : Bound) → bound p asker request ≡ Ok x → bound_fits p x ≡ true
+
+-- a change that fits leaves each tag's parents older than the tag
+abbrev pub TagsStayWellFormed : Type 0
+TagsStayWellFormed = (p : Public) (c : Change) → AreWellFormed (tags_of p) → change_fits p c ≡ true → AreWellFormed (tags_of (changed p c))

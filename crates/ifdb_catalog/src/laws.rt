@@ -1,0 +1,13 @@
+// Laws of the definitions: each function's contract is one, and it does nothing.
+ghost use Rattle.ifdb_catalog.specs.Laws.{BoundFits, TagsStayWellFormed};
+
+/// What is bound fits the public state that it is bound in: its numbers stand for something, its labels are over made tags, and its
+/// trees fit the columns that they are over.
+pub fn bound_requests_fit()
+    ensures { BoundFits }
+{}
+
+/// A change that fits leaves each tag's parents older than the tag.
+pub fn tags_stay_well_formed()
+    ensures { TagsStayWellFormed }
+{}
