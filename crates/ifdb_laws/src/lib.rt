@@ -4,6 +4,8 @@
 //! the laws stand in `specs/`. A level is any list of tags. A session is inside it while its label flows to it.
 #![tactic(auto)]
 
+mod line_laws;
+mod row_laws;
 mod worked;
 
 ghost use Rattle.std.specs.Prelude.{◌≡◌, [], true};
@@ -16,7 +18,11 @@ ghost use Rattle.ifdb_laws.specs.Laws.{OutsideStep, InsideStep, StepsKeepOrder, 
 ghost use Rattle.ifdb_laws.specs.Scripts.{TwoScripts};
 ghost use Rattle.ifdb_laws.specs.Worked.{first_script, second_script, first_told, second_told, both_heard};
 
-pub use worked::{commit_rows, label_rows, query_rows, reference_rows, view_rows};
+pub use line_laws::{refusals_change_nothing, transactions_are_frozen};
+pub use row_laws::parents_live;
+pub use worked::{
+    clinic_rows, commit_rows, crossing_rows, label_rows, query_rows, reference_rows, view_rows, world_rows,
+};
 
 /// A step that is asked outside a level leaves what is inside as it is.
 pub fn outside_step()

@@ -5,6 +5,8 @@ ghost use Rattle.ifdb_laws.specs.server.CommitRows.{commit_label_row, first_comm
 ghost use Rattle.ifdb_laws.specs.server.ReferenceRows.{secret_child_row, broken_reference_row};
 ghost use Rattle.ifdb_laws.specs.server.ViewRows.{view_row};
 ghost use Rattle.ifdb_laws.specs.server.QueryRows.{range_row, order_row};
+ghost use Rattle.ifdb_laws.specs.server.ClinicRow.{clinic_row};
+ghost use Rattle.ifdb_laws.specs.server.Pairs.{HaveSameLow, AreQuiet, AreHeard, ShowCrossing, first_world, second_world, worlds_heard, came_down, came_down_idle, referred_up, referred_up_to_nothing, referred_down, referred_down_idle};
 
 /// What labels see: compound tags, one key at two labels, a row committed at a lower label than it was written at.
 pub fn label_rows()
@@ -35,4 +37,25 @@ pub fn view_rows()
 pub fn query_rows()
     ensures range { Plays range_row }
     ensures order { Plays order_row }
+{}
+
+/// A clinic with forty patients: each has a tag in a compound, a doctor holds the compound, and billing sees fees by a view.
+pub fn clinic_rows()
+    ensures { Plays clinic_row }
+{}
+
+/// Two scripts that agree below the empty level, what each writes, and what is heard there of both.
+pub fn world_rows()
+    ensures first { Plays first_world }
+    ensures second { Plays second_world }
+    ensures low { HaveSameLow first_world second_world }
+    ensures quiet { AreQuiet first_world second_world }
+    ensures heard { AreHeard first_world second_world worlds_heard }
+{}
+
+/// For each case of a step that crosses a level a pair of scripts that agree below it, where what is told there differs.
+pub fn crossing_rows()
+    ensures comes_down { ShowCrossing came_down came_down_idle }
+    ensures refers_up { ShowCrossing referred_up referred_up_to_nothing }
+    ensures refers_down { ShowCrossing referred_down referred_down_idle }
 {}

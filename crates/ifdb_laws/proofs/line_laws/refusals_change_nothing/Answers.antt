@@ -1,0 +1,11 @@
+use Rattle.ifdb_laws.proofs.server.Refusals.{refusals_lem, refused_steps_lem, refused_commits_lem}
+use Rattle.ifdb_laws.proofs.line_laws.refusals_change_nothing.Goals as goal
+
+pub returns-clause-lines : goal.returns-clause-lines
+returns-clause-lines c = refusals_lem
+
+pub returns-clause-steps : goal.returns-clause-steps
+returns-clause-steps c = refused_steps_lem
+
+pub returns-clause-commits : goal.returns-clause-commits
+returns-clause-commits c = refused_commits_lem

@@ -1,0 +1,5 @@
+use Rattle.ifdb_laws.proofs.server.Frozen.{frozen_lem}
+use Rattle.ifdb_laws.proofs.line_laws.transactions_are_frozen.Goals as goal
+
+pub returns : goal.returns
+returns c = frozen_lem

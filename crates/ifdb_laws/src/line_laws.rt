@@ -1,0 +1,14 @@
+// Laws of single lines of the whole server: each function's contract is one, and it does nothing.
+ghost use Rattle.ifdb_laws.specs.server.StepLaws.{TransactionsAreFrozen, RefusalsChangeNothing, RefusedCommitsEnd, RefusedStepsChangeNothing};
+
+/// In a transaction each line but COMMIT is answered by what was before its BEGIN, its own writes and its session alone.
+pub fn transactions_are_frozen()
+    ensures { TransactionsAreFrozen }
+{}
+
+/// A refused line leaves its session, its transaction and the log as they were. A refused COMMIT ends its transaction.
+pub fn refusals_change_nothing()
+    ensures lines { RefusalsChangeNothing }
+    ensures steps { RefusedStepsChangeNothing }
+    ensures commits { RefusedCommitsEnd }
+{}
