@@ -37,7 +37,8 @@ abbrev pub AloneEndsAlike : Type 0
 AloneEndsAlike = (read : Reader) (level : List ℕ) (steps : List Step) → quiet read level opening steps ≡ true
     → part level (run read opening (low read level opening steps)) ≡ part level (run read opening steps)
 
--- two lists of steps, neither of which crosses the level, agree below it
+-- Two lists of steps, neither of which crosses the level, agree below it. Steps that are refused for want of memory may
+-- stand in both.
 pub record Agree (read : Reader) (level : List ℕ) (xs ys : List Step) : Type 0 where
   pub first_quiet : quiet read level opening xs ≡ true
   pub second_quiet : quiet read level opening ys ≡ true

@@ -30,8 +30,9 @@ use Rattle.ifdb_laws.proofs.server.Statements.{is_good, writes_good}
 use Rattle.ifdb_laws.proofs.server.Sided.{is_whole, written_all, writes_sided, outside_sided}
 use Rattle.ifdb_laws.proofs.server.Logs.{all_commits, txn_all, is_made_slot, seen_all, seen_widens, new_tags, tags_append}
 use Rattle.ifdb_laws.proofs.server.Alike.{Fit}
+use Rattle.ifdb_laws.proofs.server.rows.Runs.{session_has}
 use Rattle.ifdb_laws.proofs.server.two_worlds.Outcomes.{PassesWrites, outcome_writes, is_hidden, outcome_hidden}
-use Rattle.ifdb_laws.proofs.server.two_worlds.Sound.{is_sound_write, are_sound, SoundLog, SoundSession, Sound, sound_fits, commits_from, txn_from, commits_join, log_after, line_tidy, log_sound_before, own_sound_before, session_sound, asked_sound, left_sound, next_sound, of_number, opening_sound}
+use Rattle.ifdb_laws.proofs.server.two_worlds.Sound.{is_sound_write, are_sound, SoundLog, SoundSession, Sound, sound_fits, commits_from, txn_from, commits_join, log_after, line_tidy, log_sound_before, own_sound_before, session_sound, asked_sound, left_sound, next_sound, opening_sound}
 
 pub record SidedLog (level : List ℕ) (log : List Entry) : Type 0 where
   pub sided : all_commits (are_sided_writes (is_inside_slot (all_tags log) level)) log ≡ true
@@ -234,7 +235,7 @@ no_txn_is_sided level log s e = record {
 }
 
 pub session_sided : (level : List ℕ) (st : State) → Facts level st → (n : ℕ) → SidedSession level st.log (session_of st n)
-session_sided level st f n = of_number (SidedSession level st.log) st n f.sided_sessions (no_txn_is_sided level st.log no_session refl)
+session_sided level st f n = session_has (SidedSession level st.log) st f.sided_sessions (no_txn_is_sided level st.log no_session refl) n
 
 -- what a line of a session inside reads and writes is on the side
 pub session_fits : (level : List ℕ) (st : State) → Facts level st → (n : ℕ) → flows (all_tags st.log) (session_of st n).label level ≡ true → Fit level st.log (session_of st n)

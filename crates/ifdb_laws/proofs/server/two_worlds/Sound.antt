@@ -1,12 +1,12 @@
 -- What holds in each state of each run: parents of tags are made before them, each write fits its slot, the labels of
 -- slots, parents and sessions are made, and each transaction began within the log.
-use Rattle.std.proofs.Common.{◌≡◌, ℕ, ◌-◌, ◌≤◌, Bool, true, false, List, [], ◌∷◌, ◌++◌, length, get_or, refl, sym, ap, ◌∙◌, arith, cond, ◌&&◌, leb, Some, None, Ok, Err, Option, Result, inl, inr}
+use Rattle.std.proofs.Common.{◌≡◌, ℕ, ◌-◌, ◌≤◌, Bool, true, false, List, [], ◌∷◌, ◌++◌, length, refl, ap, ◌∙◌, arith, cond, ◌&&◌, Some, None, Ok, Err, Option, Result}
 use Rattle.std.specs.Prelude.{All, option_to_list}
 use Rattle.std.specs.List.{list_all}
-use Rattle.std.proofs.lemmas.Bool.{cases_lt, leb-true, le-leb}
+use Rattle.std.proofs.lemmas.Bool.{leb-true, le-leb}
 use Rattle.std.proofs.lemmas.Bool.Decides.{nat_tests}
-use Rattle.std.proofs.lemmas.List.{length-append, append-nil, get_or_past}
-use Rattle.std.proofs.lemmas.List.Elements.{All-nil, All-get_or, All-set, All-push, All-weaker}
+use Rattle.std.proofs.lemmas.List.{length-append, append-nil}
+use Rattle.std.proofs.lemmas.List.Elements.{All-nil, All-set, All-push, All-weaker}
 use Rattle.ifdb_label.specs.Tags.{MadeTag, made_tag, are_made, AreWellFormed}
 use Rattle.ifdb_label.proofs.AncestorLemmas.{well_formed-append}
 use Rattle.ifdb_row.specs.declared.slot.Slot.{Slot}
@@ -27,6 +27,7 @@ use Rattle.ifdb_laws.proofs.server.Shapes.{shape}
 use Rattle.ifdb_laws.proofs.server.Statements.{is_good, writes_good}
 use Rattle.ifdb_laws.proofs.server.Sided.{is_whole, is_whole_write, written_all, writes_from_rows}
 use Rattle.ifdb_laws.proofs.server.Logs.{all_commits, all_commits_append, txn_all, begins_within, is_made_slot, seen_all, new_tags, tags_append}
+use Rattle.ifdb_laws.proofs.server.rows.Runs.{session_has}
 use Rattle.ifdb_laws.proofs.server.two_worlds.Outcomes.{outcome_writes, PassesWrites, is_made_entry, IsTidy, more_made, outcome_tidy}
 
 -- of so many tags: the write fits its slot, and the labels of the slot and of the row's parents are made
@@ -187,18 +188,8 @@ module _ (log : List Entry) (s : Session) (l : SoundLog log) (k : SoundSession (
 no_txn_is_sound : (tags entries : ℕ) (s : Session) → are_made tags s.label ≡ true → s.txn ≡ None → SoundSession tags entries s
 no_txn_is_sound tags entries s m e = record { label_made = m; own = ap (txn_all (are_sound tags)) e; begins = ap (begins_within entries) e }
 
--- what all sessions satisfy, and one that was never opened
-pub at_place : (P : Session → Type 0) (xs : List Session) (i : ℕ) → All P xs → P no_session → P (get_or xs i no_session)
-at_place P xs i h c = elim (cases_lt i (length xs)) [ inl lt ↦ All-get_or P xs i no_session lt h | inr le ↦ let e = get_or_past xs i no_session le in rw e c ]
-
-pub of_number : (P : Session → Type 0) (st : State) (n : ℕ) → All P st.sessions → P no_session → P (session_of st n)
-of_number P st n h c = by (Rattle.std.proofs.Common.ltb 0 n) where
-  by : (b : Bool) → P (cond b (get_or st.sessions (n - 1) no_session) no_session)
-  by true = at_place P st.sessions (n - 1) h c
-  by false = c
-
 pub session_sound : (st : State) → Sound st → (n : ℕ) → SoundSession (length (all_tags st.log)) (length st.log) (session_of st n)
-session_sound st v n = of_number (SoundSession (length (all_tags st.log)) (length st.log)) st n v.sound_sessions (no_txn_is_sound (length (all_tags st.log)) (length st.log) no_session refl refl)
+session_sound st v n = session_has (SoundSession (length (all_tags st.log)) (length st.log)) st v.sound_sessions (no_txn_is_sound (length (all_tags st.log)) (length st.log) no_session refl refl) n
 
 pub asked_sound : (read : Reader) (st : State) → Sound st → (n : ℕ) (line : List ℕ) → Sound (with_outcome st n (ask read st.log (session_of st n) line))
 asked_sound read st v n line =
