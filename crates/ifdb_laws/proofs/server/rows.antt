@@ -1,3 +1,4 @@
 pub mod Rooted
 pub mod Keys
 pub mod Runs
+pub mod Fresh

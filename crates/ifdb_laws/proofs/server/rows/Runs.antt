@@ -88,7 +88,7 @@ added_rooted log s line o (wrote asker r b w a t e d) f h =
     (writes_rooted (seen log s).rows (ap all_rooted whole ∙ h) (seen log s).public asker s.label b) (written_fits log s asker b w e) d
 added_rooted log s line o (done x t j) f h = go_rooted (all_tags log) (content_of log) (written_of (Rattle.std.proofs.Common.drop x.begin log)) x.own s.label (ap (txn_all are_fitting) (sym t) ∙ f) h j
 
-content_append : (rows : List Row) (a b : List Entry) → content_from rows (commits_of (a ++ b)) ≡ content_from (content_from rows (commits_of a)) (commits_of b)
+pub content_append : (rows : List Row) (a b : List Entry) → content_from rows (commits_of (a ++ b)) ≡ content_from (content_from rows (commits_of a)) (commits_of b)
 content_append rows [] b = refl
 content_append rows (changes c ∷ a) b = content_append rows a b
 content_append rows (commits ws ∷ a) b = content_append (after rows ws) a b
