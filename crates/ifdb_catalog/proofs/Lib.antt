@@ -7,6 +7,7 @@ mod StatementsFit
 pub mod BoundRequestsFit
 pub mod Growth
 pub mod Made
+mod StatesFit
 mod Site
 mod NameExamples
 mod DefinitionExamples

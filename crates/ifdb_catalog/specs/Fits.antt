@@ -106,3 +106,9 @@ bound_fits p (b.Update t assignments cond given) =
     && label_fits p given))
 bound_fits p (b.Delete t cond) = is_table p t && where_fits (kinds_of (table_at p t).columns ∷ []) cond
 bound_fits p b.Other = true
+
+-- ---- states
+
+-- each table's places and parents stand, and each view's tables, places and tags
+abbrev pub state_fits : Public → Bool
+state_fits p = list_all (schema_fits p) p.tables && list_all (view_fits p) p.views

@@ -4,9 +4,9 @@ use Rattle.ifdb_label.specs.Tags.{AreWellFormed}
 use Rattle.ifdb_syntax.specs.declared.request.Request.{Request}
 use Rattle.ifdb_bound.specs.declared.request.Bound.{Bound}
 use Rattle.ifdb_bound.specs.declared.request.Change.{Change}
-use Rattle.ifdb_catalog.specs.Public.{Public, tags_of, changed}
+use Rattle.ifdb_catalog.specs.Public.{Public, opening, tags_of, changed}
 use Rattle.ifdb_catalog.specs.Binding.{bound}
-use Rattle.ifdb_catalog.specs.Fits.{bound_fits, change_fits}
+use Rattle.ifdb_catalog.specs.Fits.{bound_fits, change_fits, state_fits}
 
 -- what is bound fits the public state that it is bound in
 abbrev pub BoundFits : Type 0
@@ -15,3 +15,8 @@ BoundFits = (p : Public) (asker : ℕ) (request : Request) (x : Bound) → bound
 -- a change that fits leaves each tag's parents older than the tag
 abbrev pub TagsStayWellFormed : Type 0
 TagsStayWellFormed = (p : Public) (c : Change) → AreWellFormed (tags_of p) → change_fits p c ≡ true → AreWellFormed (tags_of (changed p c))
+
+-- the opening fits, and a change that fits leaves a state that fits fitting
+pub record StatesStayFitting : Type 0 where
+  pub first : state_fits opening ≡ true
+  pub next : (p : Public) (c : Change) → state_fits p ≡ true → change_fits p c ≡ true → state_fits (changed p c) ≡ true

@@ -1,5 +1,5 @@
 // Laws of the definitions: each function's contract is one, and it does nothing.
-ghost use Rattle.ifdb_catalog.specs.Laws.{BoundFits, TagsStayWellFormed};
+ghost use Rattle.ifdb_catalog.specs.Laws.{BoundFits, TagsStayWellFormed, StatesStayFitting};
 
 /// What is bound fits the public state that it is bound in: its numbers stand for something, its labels are over made tags, and its
 /// trees fit the columns that they are over.
@@ -10,4 +10,10 @@ pub fn bound_requests_fit()
 /// A change that fits leaves each tag's parents older than the tag.
 pub fn tags_stay_well_formed()
     ensures { TagsStayWellFormed }
+{}
+
+/// A public state that starts at the opening and takes changes that fit it keeps fitting: each table's places and parents stand, and
+/// so do each view's tables, places and tags.
+pub fn states_stay_fitting()
+    ensures { StatesStayFitting }
 {}

@@ -4,4 +4,4 @@
 mod laws;
 
 pub use ifdb_bound::Relation;
-pub use laws::{bound_requests_fit, tags_stay_well_formed};
+pub use laws::{bound_requests_fit, states_stay_fitting, tags_stay_well_formed};

@@ -9,3 +9,4 @@ pub mod Refusals
 pub mod Frozen
 pub mod Clinic
 pub mod PairExamples
+pub mod two_worlds

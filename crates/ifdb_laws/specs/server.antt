@@ -10,3 +10,5 @@ pub mod RowLaws
 pub mod StepLaws
 pub mod ClinicRow
 pub mod Pairs
+pub mod TwoWorlds
+pub mod OneSide

@@ -7,6 +7,7 @@
 mod line_laws;
 mod row_laws;
 mod worked;
+pub mod worlds;
 
 ghost use Rattle.std.specs.Prelude.{◌≡◌, [], true};
 ghost use Rattle.ifdb_model.specs.Machine.{opening};
@@ -21,7 +22,8 @@ ghost use Rattle.ifdb_laws.specs.Worked.{first_script, second_script, first_told
 pub use line_laws::{refusals_change_nothing, transactions_are_frozen};
 pub use row_laws::parents_live;
 pub use worked::{
-    clinic_rows, commit_rows, crossing_rows, label_rows, query_rows, reference_rows, view_rows, world_rows,
+    clinic_rows, commit_rows, crossing_rows, label_rows, query_rows, reference_rows, view_rows,
+    world_rows,
 };
 
 /// A step that is asked outside a level leaves what is inside as it is.

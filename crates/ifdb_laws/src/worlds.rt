@@ -1,0 +1,38 @@
+//! Laws of the whole server of `ifdb_model`: nobody below a level of labels hears what happens above it, as long as no
+//! step crosses the level.
+//!
+//! A step crosses a level where it brings its session from outside to inside; where it is asked inside and declassifies a
+//! tag that doesn't flow to the level; and where it is asked outside and binds a row to a parent inside. These are the
+//! uses of authority across the level. The laws hold for every reading of lines, so whatever forms of requests are built.
+
+ghost use Rattle.ifdb_laws.specs.server.TwoWorlds.{OutsideStep, InsideStep, AloneIsHeard, AloneEndsAlike, TwoWorlds};
+ghost use Rattle.ifdb_laws.specs.server.OneSide.{QuietRunsAreOneSided, InsideSinceTheStart};
+
+/// In a run, a step that is asked outside a level, and doesn't cross it, leaves what is inside as it is.
+pub fn outside_step()
+    ensures { OutsideStep }
+{}
+
+/// After a run without a crossing, a step that is asked inside, and doesn't cross the level, depends on what is inside,
+/// and on nothing else.
+pub fn inside_step()
+    ensures { InsideStep }
+{}
+
+/// The steps that are asked inside, run alone, are told what they are told among the others, and end with an equal part.
+pub fn inside_alone()
+    ensures heard { AloneIsHeard }
+    ensures end { AloneEndsAlike }
+{}
+
+/// Two lists of steps that agree below a level, neither with a step that crosses it, are heard alike there. Steps that
+/// are refused for want of memory may stand in both.
+pub fn two_worlds()
+    ensures { TwoWorlds }
+{}
+
+/// In a run without a crossing each session, each commit, and each row with its bound parents stays on one side of the level.
+pub fn one_side()
+    ensures states { QuietRunsAreOneSided }
+    ensures sessions { InsideSinceTheStart }
+{}
