@@ -1,5 +1,5 @@
 -- What a statement writes stands on one side of a level with its parents, and what is made stays made.
-use Rattle.std.proofs.Common.{◌≡◌, ℕ, Bool, true, false, List, [], ◌∷◌, length, refl, ap, ◌∙◌, arith, cond, ◌&&◌, eqb, Some, None, Ok, Err, Option, Result}
+use Rattle.std.proofs.Common.{◌≡◌, ℕ, Bool, true, false, List, [], ◌∷◌, length, refl, ap, ◌∙◌, arith, cond, ◌&&◌, Some, None, Ok, Err, Option, Result}
 use Rattle.std.specs.Prelude.{filter, not, map, option_to_list}
 use Rattle.std.specs.List.{list_any, list_all}
 use Rattle.std.proofs.lemmas.Bool.Decides.{nat_tests}
@@ -13,13 +13,12 @@ use Rattle.ifdb_row.specs.declared.write.Write.{Write}
 use Rattle.ifdb_row.specs.Slots.{is_of_key, is_same_label}
 use Rattle.ifdb_row.specs.Writes.{is_fitting}
 use Rattle.ifdb_row.specs.Content.{after}
-use Rattle.ifdb_row.specs.Seen.{clash, candidate, candidates, first_slot, parent_of}
+use Rattle.ifdb_row.specs.Seen.{clash, candidate, candidates, first_slot}
 use Rattle.ifdb_row.specs.Sides.{are_alike, is_sided, is_sided_write, are_sided_writes}
 use Rattle.ifdb_row.proofs.Lists.{filter_all, all_from, all_filter}
 use Rattle.ifdb_row.proofs.SlotOrder.{slot_same, label_exact}
 use Rattle.ifdb_bound.specs.declared.schema.Schema.{Schema}
 use Rattle.ifdb_bound.specs.declared.schema.Foreign.{Foreign}
-use Rattle.ifdb_bound.specs.declared.condition.BoundCond.{BoundCond}
 use Rattle.ifdb_bound.specs.declared.request.Bound.{Bound}
 use Rattle.ifdb_bound.specs.declared.request.Bound.TheVariants as bound
 use Rattle.ifdb_bound.specs.declared.request.BoundAssignment.{BoundAssignment}

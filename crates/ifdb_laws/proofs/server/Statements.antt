@@ -1,5 +1,5 @@
 -- A statement and a SELECT inside a level, over the rows inside, are those over all rows.
-use Rattle.std.proofs.Common.{◌≡◌, ℕ, Bool, true, false, List, [], ◌∷◌, length, refl, sym, ap, ◌∙◌, arith, cond, ◌&&◌, eqb, Some, None, Ok, Err, Option, Result}
+use Rattle.std.proofs.Common.{◌≡◌, ℕ, Bool, true, false, List, [], ◌∷◌, length, refl, ap, ◌∙◌, arith, cond, ◌&&◌, Some, None, Ok, Err, Option, Result}
 use Rattle.std.specs.Prelude.{filter, map, slice_get}
 use Rattle.std.specs.List.{list_all}
 use Rattle.std.proofs.lemmas.Bool.Decides.{nat_tests}
@@ -30,13 +30,13 @@ use Rattle.ifdb_bound.specs.declared.request.Bound.{Bound}
 use Rattle.ifdb_bound.specs.declared.request.Bound.TheVariants as bound
 use Rattle.ifdb_bound.specs.declared.request.BoundAssignment.{BoundAssignment}
 use Rattle.ifdb_bound.specs.Query.{SourceRow, all_some, matching}
-use Rattle.ifdb_expr.specs.View.{source_row, of_table, table_rows, base_rows, base_sources, view_row, view_rows}
+use Rattle.ifdb_expr.specs.View.{source_row, of_table, table_rows, base_rows, view_row, view_rows}
 use Rattle.ifdb_expr.specs.Query.{view_authority, is_allowed, rows_of_view, source_rows, over_sources, query}
 use Rattle.ifdb_wire.specs.declared.fault.Fault.{Fault}
 use Rattle.ifdb_wire.specs.declared.fault.Fault.TheVariants as fault
 use Rattle.ifdb_catalog.specs.Public.{Public, tags_of, has_tags, table_at}
 use Rattle.ifdb_model.specs.server.Query.{setting_of}
-use Rattle.ifdb_model.specs.server.Writes.{Written, Scene, values_at, bound_parent, bound_parents, and_slot, new_write, new_slot, inserted, insert_one, insert_all, is_matched, matched, are_writable, assigned, is_assigned, rebound, updated, update_to, update_one, and_write, update_all, deletion, counted, update_matched, delete_matched, scene_of, writes_of, given_of}
+use Rattle.ifdb_model.specs.server.Writes.{Written, Scene, values_at, bound_parent, bound_parents, and_slot, new_write, new_slot, inserted, insert_one, insert_all, is_matched, matched, are_writable, assigned, is_assigned, rebound, updated, update_to, and_write, update_all, deletion, counted, update_matched, delete_matched, scene_of, writes_of, given_of}
 use Rattle.ifdb_model.specs.server.Low.{is_inside_slot}
 use Rattle.ifdb_model.specs.server.Crossing.{view_flows, source_flows}
 
@@ -236,7 +236,7 @@ module _ (tags : List MadeTag) (level : List ℕ) (p : Public) (w : Widens (tags
       let one = matched_alike tags level (tags_of p) w rows t c label h in
       let two = update_all_alike tags level (scene_of p rows label given) w h k (table_at p t) assignments (matched (tags_of p) rows t c label) in
       let three : update_all (scene_of p (rows_on (is_inside_slot tags level) rows) label given) (table_at p t) assignments (matched (tags_of p) (rows_on (is_inside_slot tags level) rows) t c label)
-          ≡ update_all (scene_of p rows label given) (table_at p t) assignments (matched (tags_of p) rows t c label) =
+      ≡ update_all (scene_of p rows label given) (table_at p t) assignments (matched (tags_of p) rows t c label) =
       ap (update_all (scene_of p (rows_on (is_inside_slot tags level) rows) label given) (table_at p t) assignments) one ∙ two in
       λ i. cond (has_tags p asker given) (cond (are_writable label (one i)) (counted (length (one i)) (three i)) (Err fault.WriteLabel)) (Err fault.NoAuthority)
   writes_alike (bound.Delete t c) k = ap (delete_matched label) (matched_alike tags level (tags_of p) w rows t c label h)

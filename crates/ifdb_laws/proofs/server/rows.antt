@@ -2,3 +2,4 @@ pub mod Rooted
 pub mod Keys
 pub mod Runs
 pub mod Fresh
+pub mod Apart

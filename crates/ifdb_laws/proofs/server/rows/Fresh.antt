@@ -1,5 +1,5 @@
 -- What a line adds to the log is fresh: beside a slot that it brings to live, each row of its key at a lower label is written.
-use Rattle.std.proofs.Common.{◌≡◌, ℕ, Bool, true, false, List, [], ◌∷◌, ◌++◌, length, take, drop, refl, sym, ap, ◌∙◌, arith, cond, ◌&&◌, ◌||◌, Some, None, Ok, Err, Option, Result}
+use Rattle.std.proofs.Common.{◌≡◌, ℕ, Bool, true, false, List, [], ◌∷◌, ◌++◌, length, take, drop, refl, sym, ap, ◌∙◌, arith, cond, Some, None, Ok, Option, Result}
 use Rattle.std.specs.Prelude.{option_to_list}
 use Rattle.std.specs.List.{list_any, list_all}
 use Rattle.std.proofs.lemmas.Bool.Decides.{nat_tests}
@@ -8,10 +8,10 @@ use Rattle.ifdb_label.specs.Tags.{MadeTag, are_made, AreWellFormed}
 use Rattle.ifdb_row.specs.declared.slot.Slot.{Slot}
 use Rattle.ifdb_row.specs.declared.row.Row.{Row}
 use Rattle.ifdb_row.specs.declared.write.Write.{Write}
-use Rattle.ifdb_row.specs.Writes.{is_fitting, are_fitting, merged, slots_of}
+use Rattle.ifdb_row.specs.Writes.{is_fitting, are_fitting, slots_of}
 use Rattle.ifdb_row.specs.Content.{after, content_from}
 use Rattle.ifdb_row.specs.Sides.{are_on}
-use Rattle.ifdb_row.specs.Verdict.{Verdict, commit_label, conflict, broken_reference, still_referenced, go, is_above, meets, breaks, leaves, verdict}
+use Rattle.ifdb_row.specs.Verdict.{commit_label, conflict, broken_reference, still_referenced, go, is_above, meets, breaks, leaves, verdict}
 use Rattle.ifdb_row.proofs.SlotOrder.{slot_same}
 use Rattle.ifdb_row.proofs.KeyLaws.{are_fresh, merged_fresh, slots_written, commit_fresh}
 use Rattle.ifdb_bound.specs.declared.request.Bound.{Bound}
@@ -19,7 +19,7 @@ use Rattle.ifdb_syntax.specs.declared.request.Request.{Request}
 use Rattle.ifdb_wire.specs.declared.fault.Fault.{Fault}
 use Rattle.ifdb_catalog.specs.Public.{tags_of}
 use Rattle.ifdb_model.specs.server.Log.{Entry, changes, commits, all_tags, commits_of, content_of, written_of}
-use Rattle.ifdb_model.specs.server.Session.{Txn, Session, Seen, seen_in, seen}
+use Rattle.ifdb_model.specs.server.Session.{Txn, Session, seen_in, seen}
 use Rattle.ifdb_model.specs.server.Writes.{Written, writes_of}
 use Rattle.ifdb_model.specs.server.Step.{Outcome, judged}
 use Rattle.ifdb_laws.proofs.server.Shapes.{Shape, stayed, greeted_as, relabelled_to, begun, ended, published, joined, wrote, done}

@@ -1,5 +1,5 @@
 -- What a statement writes is fresh over what it sees.
-use Rattle.std.proofs.Common.{◌≡◌, ℕ, Bool, true, false, List, [], ◌∷◌, length, refl, ap, ◌∙◌, arith, cond, ◌&&◌, ◌||◌, Some, None, Ok, Err, Option, Result}
+use Rattle.std.proofs.Common.{◌≡◌, ℕ, Bool, true, false, List, [], ◌∷◌, length, refl, arith, cond, Some, None, Ok, Err, Option, Result}
 use Rattle.std.specs.Prelude.{map}
 use Rattle.std.specs.List.{list_all}
 use Rattle.std.proofs.lemmas.Bool.Decides.{nat_tests}
@@ -10,7 +10,6 @@ use Rattle.ifdb_row.specs.declared.row.Row.{Row}
 use Rattle.ifdb_row.specs.declared.write.Write.{Write}
 use Rattle.ifdb_row.specs.Content.{after, live}
 use Rattle.ifdb_row.specs.Seen.{clash}
-use Rattle.ifdb_row.proofs.Lists.{all_filter}
 use Rattle.ifdb_row.proofs.LiveLaws.{all_live}
 use Rattle.ifdb_row.proofs.KeyLaws.{are_fresh, put_fresh, is_at_live, at_live_fresh}
 use Rattle.ifdb_bound.specs.declared.schema.Schema.{Schema}

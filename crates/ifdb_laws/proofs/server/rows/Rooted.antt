@@ -1,5 +1,5 @@
 -- Statements keep each row's parents live.
-use Rattle.std.proofs.Common.{◌≡◌, ℕ, Bool, true, false, List, [], ◌∷◌, length, refl, ap, ◌∙◌, arith, cond, ◌&&◌, ◌||◌, Some, None, Ok, Err, Option, Result}
+use Rattle.std.proofs.Common.{◌≡◌, ℕ, Bool, true, false, List, [], ◌∷◌, length, refl, arith, cond, ◌&&◌, ◌||◌, Some, None, Ok, Err, Option, Result}
 use Rattle.std.specs.Prelude.{map, not}
 use Rattle.std.specs.List.{list_all}
 use Rattle.std.proofs.lemmas.Bool.Decides.{nat_tests}
@@ -24,8 +24,8 @@ use Rattle.ifdb_wire.specs.declared.fault.Fault.{Fault}
 use Rattle.ifdb_wire.specs.declared.fault.Fault.TheVariants as fault
 use Rattle.ifdb_catalog.specs.Public.{Public, tags_of, has_tags, table_at}
 use Rattle.ifdb_model.specs.server.Writes.{Written, Scene, values_at, and_slot, bound_parent, bound_parents, new_write, new_slot, inserted, insert_one, insert_all, matched, are_writable, assigned, is_assigned, rebound, updated, update_to, and_write, update_all, deletion, counted, update_matched, scene_of, writes_of, is_delete}
-use Rattle.ifdb_laws.proofs.server.Statements.{matched_all, are_good, is_good}
-use Rattle.ifdb_laws.proofs.server.Sided.{result_all, written_all, all_of, one_of, first_all}
+use Rattle.ifdb_laws.proofs.server.Statements.{matched_all}
+use Rattle.ifdb_laws.proofs.server.Sided.{result_all, all_of, one_of, first_all}
 
 abbrev row_write : Scene → Write → Bool
 row_write x w = is_row_write (live x.rows) w.row
