@@ -1,5 +1,5 @@
 -- The labels of a view's rows.
-use Rattle.std.proofs.Common.{◌≡◌, ℕ, Bool, true, List, [], ◌∷◌, ◌++◌, refl, sym, ap, ◌∙◌, arith, Some, None, Option}
+use Rattle.std.proofs.Common.{eqb, ◌≡◌, ℕ, Bool, true, List, [], ◌∷◌, ◌++◌, refl, sym, ap, ◌∙◌, arith, Some, None, Option}
 use Rattle.std.specs.Prelude.{map, flat_map, not, option_map}
 use Rattle.std.specs.List.{list_all}
 use Rattle.std.proofs.lemmas.Bool.Decides.{nat_tests}
@@ -7,7 +7,8 @@ use Rattle.ifdb_label.specs.Tags.{MadeTag}
 use Rattle.ifdb_label.specs.Label.{is_below_some, flows, reduce, union, strip}
 use Rattle.ifdb_label.proofs.LabelLaws.{reduce_all, reduce_any, strip_all}
 use Rattle.ifdb_row.specs.declared.row.Row.{Row}
-use Rattle.ifdb_row.proofs.Lists.{any_append, all_append, all_from, all_filter, filter_all}
+use Rattle.ifdb_row.specs.Seen.{see}
+use Rattle.ifdb_row.proofs.Lists.{any_append, all_append, all_from, all_map, all_filter, filter_all}
 use Rattle.ifdb_value.specs.declared.value.Value.{Value}
 use Rattle.ifdb_bound.specs.declared.schema.ViewDef.{ViewDef}
 use Rattle.ifdb_bound.specs.declared.select.BoundSource.{BoundSource}
@@ -15,7 +16,7 @@ use Rattle.ifdb_bound.specs.declared.select.Relation.{Relation}
 use Rattle.ifdb_bound.specs.declared.select.Relation.TheVariants as relation
 use Rattle.ifdb_bound.specs.Conditions.{passes}
 use Rattle.ifdb_bound.specs.Query.{SourceRow, Combination, values_of, combinations, matching, both, all_some, answer_row}
-use Rattle.ifdb_expr.specs.View.{Setting, table_rows, base_rows, base_sources, view_label, labelled, view_row, view_rows}
+use Rattle.ifdb_expr.specs.View.{Setting, source_row, of_table, table_rows, base_rows, base_sources, view_label, labelled, view_row, view_rows}
 
 all_both : (p q r : ℕ → Bool) (list : List ℕ) → ((t : ℕ) → p t ≡ true → q t ≡ true → r t ≡ true) → list_all p list ≡ true → list_all q list ≡ true → list_all r list ≡ true
 all_both p q r [] h a b = refl
@@ -59,8 +60,9 @@ abbrev is_seen_row : List MadeTag → List ℕ → SourceRow → Bool
 is_seen_row tags label r = flows tags r.label label
 
 table_seen : (tags : List MadeTag) (rows : List Row) (table : ℕ) (label : List ℕ) → list_all (is_seen_row tags label) (table_rows tags rows table label) ≡ true
-table_seen tags [] table label = refl
-table_seen tags (r ∷ rows) table label = grind (arith, nat_tests, table_seen tags rows table label)
+table_seen tags rows table label =
+    all_map (is_seen_row tags label) source_row (of_table table (see tags rows label))
+    ∙ all_filter (λ (r : Row). eqb r.slot.table table) (λ (r : Row). flows tags r.slot.label label) (see tags rows label) (filter_all (λ (r : Row). flows tags r.slot.label label) rows)
 
 base_seen : (tags : List MadeTag) (rows : List Row) (label : List ℕ) (x : Relation) → list_all (is_seen_row tags label) (base_rows tags rows label x) ≡ true
 base_seen tags rows label (relation.Table t) = table_seen tags rows t label

@@ -1,9 +1,10 @@
 -- The rows of tables and views that a label sees.
-use Rattle.std.specs.Prelude.{ℕ, Bool, List, [], ◌∷◌, ◌==◌, ◌&&◌, filter, map, flat_map, Option, option_map}
+use Rattle.std.specs.Prelude.{ℕ, Bool, List, [], ◌∷◌, ◌==◌, filter, map, flat_map, Option, option_map}
 use Rattle.ifdb_value.specs.declared.value.Value.{Value}
 use Rattle.ifdb_label.specs.Tags.{MadeTag}
-use Rattle.ifdb_label.specs.Label.{flows, reduce, union, strip}
+use Rattle.ifdb_label.specs.Label.{reduce, union, strip}
 use Rattle.ifdb_row.specs.declared.row.Row.{Row}
+use Rattle.ifdb_row.specs.Seen.{see}
 use Rattle.ifdb_bound.specs.declared.schema.ViewDef.{ViewDef}
 use Rattle.ifdb_bound.specs.declared.select.BoundSource.{BoundSource}
 use Rattle.ifdb_bound.specs.declared.select.Relation.{Relation}
@@ -21,13 +22,13 @@ pub record Setting : Type 0 where
 abbrev pub source_row : Row → SourceRow
 source_row r = record { values = r.values; label = r.slot.label }
 
--- the row is of the table, and the label sees it
-abbrev pub is_seen_in : List MadeTag → ℕ → List ℕ → Row → Bool
-is_seen_in tags table label r = (r.slot.table == table) && flows tags r.slot.label label
+-- the rows of a table
+abbrev pub of_table : ℕ → List Row → List Row
+of_table table rows = filter (λ (r : Row). r.slot.table == table) rows
 
 -- a table's rows that a label sees, by key, then label
 abbrev pub table_rows : List MadeTag → List Row → ℕ → List ℕ → List SourceRow
-table_rows tags rows table label = map source_row (filter (is_seen_in tags table label) rows)
+table_rows tags rows table label = map source_row (of_table table (see tags rows label))
 
 -- the rows of a source of a view, which is a table
 abbrev pub base_rows : List MadeTag → List Row → List ℕ → Relation → List SourceRow

@@ -10,3 +10,4 @@ pub mod Frozen
 pub mod Clinic
 pub mod PairExamples
 pub mod two_worlds
+pub mod ReadBack

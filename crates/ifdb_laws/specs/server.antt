@@ -12,3 +12,4 @@ pub mod ClinicRow
 pub mod Pairs
 pub mod TwoWorlds
 pub mod OneSide
+pub mod Bytes

@@ -4,6 +4,7 @@
 //! the laws stand in `specs/`. A level is any list of tags. A session is inside it while its label flows to it.
 #![tactic(auto)]
 
+mod byte_laws;
 mod line_laws;
 mod row_laws;
 mod worked;
@@ -19,8 +20,9 @@ ghost use Rattle.ifdb_laws.specs.Laws.{OutsideStep, InsideStep, StepsKeepOrder, 
 ghost use Rattle.ifdb_laws.specs.Scripts.{TwoScripts};
 ghost use Rattle.ifdb_laws.specs.Worked.{first_script, second_script, first_told, second_told, both_heard};
 
+pub use byte_laws::replies_read_back;
 pub use line_laws::{refusals_change_nothing, transactions_are_frozen};
-pub use row_laws::parents_live;
+pub use row_laws::{keys_apart, parents_live};
 pub use worked::{
     clinic_rows, commit_rows, crossing_rows, label_rows, query_rows, reference_rows, view_rows,
     world_rows,

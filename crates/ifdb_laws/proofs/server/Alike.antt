@@ -1,6 +1,6 @@
 -- A line of a session inside a level is answered over the smaller log as over the whole one.
-use Rattle.std.proofs.Common.{◌≡◌, ℕ, ◌≤◌, Bool, true, false, List, [], ◌∷◌, ◌++◌, length, take, drop, refl, sym, ap, ◌∙◌, arith, cond, ◌&&◌, Some, None, Ok, Err, Option, Result}
-use Rattle.std.specs.Prelude.{filter, not}
+use Rattle.std.proofs.Common.{◌≡◌, ℕ, ◌≤◌, Bool, true, false, List, [], length, take, drop, refl, sym, ap, ◌∙◌, arith, cond, ◌&&◌, Some, None, Ok, Err, Option, Result}
+use Rattle.std.specs.Prelude.{filter}
 use Rattle.std.specs.List.{list_all}
 use Rattle.std.proofs.lemmas.Bool.{not-false}
 use Rattle.std.proofs.lemmas.Bool.Decides.{nat_tests}
@@ -8,13 +8,12 @@ use Rattle.std.proofs.lemmas.List.{take_all}
 use Rattle.ifdb_label.specs.Tags.{MadeTag, AreWellFormed}
 use Rattle.ifdb_label.specs.Label.{flows, strip}
 use Rattle.ifdb_label.proofs.LabelLaws.{flows_trans}
-use Rattle.ifdb_row.specs.declared.slot.Slot.{Slot}
 use Rattle.ifdb_row.specs.declared.row.Row.{Row}
 use Rattle.ifdb_row.specs.declared.write.Write.{Write}
 use Rattle.ifdb_row.specs.Writes.{are_fitting}
 use Rattle.ifdb_row.specs.Content.{after, rising}
 use Rattle.ifdb_row.specs.Sides.{rows_on, are_on, is_sided, is_sided_write, are_sided_writes}
-use Rattle.ifdb_row.specs.Verdict.{Verdict, verdict, leaves}
+use Rattle.ifdb_row.specs.Verdict.{verdict, leaves}
 use Rattle.ifdb_row.proofs.ContentLaws.{all-after}
 use Rattle.ifdb_row.proofs.VerdictLaws.{after_on, leaves_alike, verdict_alike}
 use Rattle.ifdb_bound.specs.declared.select.BoundSource.{BoundSource}
@@ -27,11 +26,11 @@ use Rattle.ifdb_wire.specs.declared.fault.Fault.TheVariants as fault
 use Rattle.ifdb_wire.specs.declared.reply.Reply.TheVariants as reply
 use Rattle.ifdb_catalog.specs.Public.{Public, tags_of, has_tags, principal_named, is_key, refusal}
 use Rattle.ifdb_catalog.specs.Binding.{bound as bound_request}
-use Rattle.ifdb_model.specs.server.Log.{Entry, changes, commits, public_of, all_tags, content_of, written_of}
-use Rattle.ifdb_model.specs.server.Session.{Txn, Session, in_txn, Seen, seen_in, seen}
+use Rattle.ifdb_model.specs.server.Log.{Entry, commits, public_of, all_tags, content_of, written_of}
+use Rattle.ifdb_model.specs.server.Session.{Txn, Session, in_txn, seen}
 use Rattle.ifdb_model.specs.server.Query.{table_reply}
 use Rattle.ifdb_model.specs.server.Writes.{Written, writes_of, is_delete, given_of}
-use Rattle.ifdb_model.specs.server.Step.{Reader, Outcome, tells, refuses, adds, greeted, hello, relabelled, set_label, show_label, publish_it, publish_bound, is_empty, publish, look_reply, look, land_in, land, write_bound, begin, rollback, verdict_fault, committed, judged, commit, Form, greets, publishes, relabels, shows_label, begins, ends, rolls_back, leaves_us, looks, writes, form_of, ask_as, ask_new, ask_by, ask_read, ask}
+use Rattle.ifdb_model.specs.server.Step.{Reader, Outcome, tells, refuses, adds, greeted, hello, relabelled, set_label, publish_it, publish_bound, is_empty, publish, look_reply, land_in, land, write_bound, begin, rollback, verdict_fault, committed, judged, commit, Form, greets, publishes, relabels, shows_label, begins, ends, rolls_back, leaves_us, looks, writes, form_of, ask_as, ask_new, ask_by, ask_read, ask}
 use Rattle.ifdb_model.specs.server.Low.{is_inside_slot, keep, reindex, reindex_txn}
 use Rattle.ifdb_model.specs.server.Crossing.{source_flows, look_names, write_names, names_out}
 use Rattle.ifdb_laws.proofs.server.Statements.{Widens, query_alike, writes_alike, are_good, is_good, writes_good}
@@ -168,7 +167,7 @@ judged_alike : (level : List ℕ) (log : List Entry) (s : Session) (x : Txn) →
 judged_alike level log s x w f g a b i =
     let tags = all_tags log in
     let one : judged (keep tags level log) (reindex tags level log s) (record { begin = length (keep tags level (take x.begin log)); own = x.own })
-        ≡ verdict tags (rows_on (is_inside_slot tags level) (content_of log)) (filter (is_inside_slot tags level) (written_of (drop x.begin log))) x.own s.label =
+    ≡ verdict tags (rows_on (is_inside_slot tags level) (content_of log)) (filter (is_inside_slot tags level) (written_of (drop x.begin log))) x.own s.label =
     (λ j. verdict (tags_of (public_keep tags level log j)) (content_keep tags level log f j) ((ap written_of (keep_drop tags level x.begin log) ∙ written_keep tags level (drop x.begin log)) j) x.own s.label) in
     one ∙ verdict_alike tags (is_inside_slot tags level) (λ p q e k. flows_trans tags w p.label q.label level e k) (content_of log) (written_of (drop x.begin log)) x.own s.label (rising_content log f) g i b
     (content_all (is_sided (is_inside_slot tags level)) [] log a refl)

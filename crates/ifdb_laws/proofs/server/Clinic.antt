@@ -1,10 +1,8 @@
 -- The clinic, computed.
 use Rattle.std.proofs.Common.{refl}
 use Rattle.std.specs.Fmt.{digits}
-use denote.Hole.Carrier.{fold, hidden}
+use denote.Hole.Carrier.{fold}
 use Rattle.ifdb_row.specs.Slots.{slot_cmp}
-use Rattle.ifdb_bound.specs.declared.expression.BoundExpr.TheBlock.{hidden-the_row-BoundExpr-0}
-use Rattle.ifdb_syntax.specs.declared.expression.Expr.TheBlock.{hidden-the_row-Expr-0}
 use Rattle.ifdb_bound.specs.Expressions.{value_of}
 use Rattle.ifdb_bound.specs.Conditions.{holds}
 use Rattle.ifdb_catalog.proofs.Computing.{binding}

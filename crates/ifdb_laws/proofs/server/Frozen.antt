@@ -1,15 +1,14 @@
 -- In a transaction each line but COMMIT is answered by what was before its BEGIN.
-use Rattle.std.proofs.Common.{◌≡◌, ℕ, Bool, true, false, List, [], ◌∷◌, length, take, refl, sym, ap, ◌∙◌, cond, Some, None, Ok, Err, Option, Result}
+use Rattle.std.proofs.Common.{◌≡◌, ℕ, false, List, [], length, take, refl, sym, ap, ◌∙◌, cond, Some, Ok, Err, Result}
 use Rattle.std.proofs.lemmas.Bool.{false≢true}
 use Rattle.ifdb_row.specs.Content.{after}
 use Rattle.ifdb_syntax.specs.declared.request.Request.{Request}
 use Rattle.ifdb_wire.specs.declared.fault.Fault.{Fault}
 use Rattle.ifdb_wire.specs.declared.fault.Fault.TheVariants as fault
 use Rattle.ifdb_wire.specs.declared.reply.Reply.TheVariants as reply
-use Rattle.ifdb_catalog.specs.Binding.{bound as bound_request}
 use Rattle.ifdb_model.specs.server.Log.{Entry, public_of, content_of}
 use Rattle.ifdb_model.specs.server.Session.{Txn, Session, in_txn, Seen, seen_in, seen}
-use Rattle.ifdb_model.specs.server.Step.{Reader, tells, refuses, begin, Form, greets, publishes, relabels, shows_label, begins, ends, rolls_back, leaves_us, looks, writes, form_of, ask_as, ask_by, ask_read}
+use Rattle.ifdb_model.specs.server.Step.{tells, refuses, begin, Form, greets, publishes, relabels, shows_label, begins, ends, rolls_back, leaves_us, looks, writes, form_of, ask_as, ask_by, ask_read}
 use Rattle.ifdb_laws.specs.server.StepLaws.{is_ending, is_commit, TransactionsAreFrozen}
 
 -- what is seen in a transaction

@@ -1,6 +1,6 @@
 -- The smaller log gives the smaller content and the same public state; and tags are only added.
-use Rattle.std.proofs.Common.{◌≡◌, ℕ, ◌+◌, ◌<◌, ◌≤◌, Bool, true, false, List, [], ◌∷◌, ◌++◌, length, take, drop, refl, sym, ap, ◌∙◌, arith, ◌&&◌, Some, None, Option, ltb, leb, inl, inr}
-use Rattle.std.specs.Prelude.{filter, map, option_to_list}
+use Rattle.std.proofs.Common.{◌≡◌, ℕ, ◌≤◌, Bool, true, List, [], ◌∷◌, ◌++◌, length, take, drop, refl, sym, ap, ◌∙◌, arith, ◌&&◌, Some, None, Option, leb, inl, inr}
+use Rattle.std.specs.Prelude.{filter, option_to_list}
 use Rattle.std.specs.List.{list_all}
 use Rattle.std.proofs.lemmas.Bool.{cases_lt}
 use Rattle.std.proofs.lemmas.Bool.Decides.{nat_tests}
@@ -8,7 +8,6 @@ use Rattle.std.proofs.lemmas.List.{take-append-drop, take_at, drop_at, take-appe
 use Rattle.std.proofs.lemmas.List.Elements.{filter-append}
 use Rattle.std.proofs.lemmas.Grind.{flat_map-append}
 use Rattle.ifdb_label.specs.Tags.{MadeTag, made_tag, lone_tag, parents_of, are_made, AreMade, AreWellFormed}
-use Rattle.ifdb_label.specs.Label.{flows}
 use Rattle.ifdb_label.proofs.TagLaws.{parents_of-append}
 use Rattle.ifdb_label.proofs.LabelLaws.{flows_stays, flows_trans, flows-append}
 use Rattle.ifdb_row.specs.declared.slot.Slot.{Slot}
@@ -17,14 +16,13 @@ use Rattle.ifdb_row.specs.declared.write.Write.{Write}
 use Rattle.ifdb_row.specs.Writes.{are_fitting, slots_of}
 use Rattle.ifdb_row.specs.Content.{after, rising, content_from}
 use Rattle.ifdb_row.specs.Sides.{rows_on, writes_on, are_on}
-use Rattle.ifdb_row.proofs.Lists.{filter_same_on, all_append}
+use Rattle.ifdb_row.proofs.Lists.{filter_same_on}
 use Rattle.ifdb_row.proofs.ContentLaws.{side_after, rising_after, all-after}
 use Rattle.ifdb_row.proofs.VerdictLaws.{slots_on, after_on}
-use Rattle.ifdb_bound.specs.declared.request.Change.{Change}
 use Rattle.ifdb_bound.specs.declared.request.Change.TheVariants as change
 use Rattle.ifdb_catalog.specs.Public.{Public, KnownTag, tags_of, changed}
 use Rattle.ifdb_model.specs.server.Log.{Entry, changes, commits, public_from, public_of, all_tags, commits_of, content_of, written_of}
-use Rattle.ifdb_model.specs.server.Session.{Txn, Session, Seen, seen_in, seen}
+use Rattle.ifdb_model.specs.server.Session.{Txn, seen_in}
 use Rattle.ifdb_model.specs.server.Low.{is_inside_slot, if_any, keep_entry, keep, reindex_txn}
 use Rattle.ifdb_laws.proofs.server.Statements.{Widens}
 

@@ -1,10 +1,8 @@
 -- A refused line changes nothing, but for a refused COMMIT, which ends its transaction.
-use Rattle.std.proofs.Common.{◌≡◌, ℕ, ◌-◌, Bool, true, false, List, [], ◌∷◌, ◌++◌, length, get_or, set, refl, sym, ap, ◌∙◌, cond, ◌&&◌, ltb, Some, None, Ok, Err, Option, Result}
-use Rattle.std.specs.Prelude.{option_to_list}
+use Rattle.std.proofs.Common.{◌≡◌, ℕ, ◌-◌, Bool, true, false, List, [], ◌++◌, length, get_or, set, refl, sym, ap, ◌∙◌, cond, ◌&&◌, ltb, Some, None, Ok, Err, Option, Result}
 use Rattle.std.proofs.lemmas.Bool.{false≢true}
 use Rattle.std.proofs.lemmas.List.{append-nil, set-get_or}
 use Rattle.ifdb_label.specs.Label.{strip}
-use Rattle.ifdb_row.specs.Writes.{merged}
 use Rattle.ifdb_row.specs.Content.{after}
 use Rattle.ifdb_row.specs.Verdict.{leaves}
 use Rattle.ifdb_bound.specs.Query.{label_names}
@@ -22,8 +20,8 @@ use Rattle.ifdb_catalog.specs.Binding.{bound as bound_request}
 use Rattle.ifdb_model.specs.server.Log.{Entry, commits, public_of}
 use Rattle.ifdb_model.specs.server.Session.{Txn, Session, no_session, closed, in_txn, Seen, seen}
 use Rattle.ifdb_model.specs.server.Writes.{Written, writes_of, is_delete}
-use Rattle.ifdb_model.specs.server.Step.{Reader, Outcome, tells, refuses, adds, greeted, relabelled, set_label, publish_it, publish_bound, is_empty, publish, look_reply, land_in, land, write_bound, begin, rollback, verdict_fault, committed, judged, commit, Form, greets, publishes, relabels, shows_label, begins, ends, rolls_back, leaves_us, looks, writes, form_of, ask_as, ask_new, ask_by, ask_read, ask}
-use Rattle.ifdb_model.specs.server.Run.{State, session_of, asks, outcome_of, with_outcome, next}
+use Rattle.ifdb_model.specs.server.Step.{Outcome, tells, refuses, adds, greeted, relabelled, set_label, publish_it, publish_bound, is_empty, publish, look_reply, land_in, land, write_bound, begin, rollback, verdict_fault, committed, judged, commit, Form, greets, publishes, relabels, shows_label, begins, ends, rolls_back, leaves_us, looks, writes, form_of, ask_as, ask_new, ask_by, ask_read, ask}
+use Rattle.ifdb_model.specs.server.Run.{State, session_of, with_outcome}
 use Rattle.ifdb_laws.specs.server.StepLaws.{is_ending, is_commit, RefusalsChangeNothing, RefusedCommitsEnd, RefusedStepsChangeNothing}
 
 abbrev is_refused : Reply → Bool

@@ -1,5 +1,5 @@
 -- What a statement writes stands on one side of a level with its parents, and what is made stays made.
-use Rattle.std.proofs.Common.{◌≡◌, ℕ, Bool, true, false, List, [], ◌∷◌, length, refl, ap, ◌∙◌, arith, cond, ◌&&◌, eqb, Some, None, Ok, Err, Option, Result}
+use Rattle.std.proofs.Common.{◌≡◌, ℕ, Bool, true, false, List, [], ◌∷◌, length, refl, ap, ◌∙◌, arith, cond, ◌&&◌, Some, None, Ok, Err, Option, Result}
 use Rattle.std.specs.Prelude.{filter, not, map, option_to_list}
 use Rattle.std.specs.List.{list_any, list_all}
 use Rattle.std.proofs.lemmas.Bool.Decides.{nat_tests}
@@ -13,23 +13,22 @@ use Rattle.ifdb_row.specs.declared.write.Write.{Write}
 use Rattle.ifdb_row.specs.Slots.{is_of_key, is_same_label}
 use Rattle.ifdb_row.specs.Writes.{is_fitting}
 use Rattle.ifdb_row.specs.Content.{after}
-use Rattle.ifdb_row.specs.Seen.{clash, candidate, candidates, first_slot, parent_of}
+use Rattle.ifdb_row.specs.Seen.{clash, candidate, candidates, first_slot}
 use Rattle.ifdb_row.specs.Sides.{are_alike, is_sided, is_sided_write, are_sided_writes}
 use Rattle.ifdb_row.proofs.Lists.{filter_all, all_from, all_filter}
 use Rattle.ifdb_row.proofs.SlotOrder.{slot_same, label_exact}
 use Rattle.ifdb_bound.specs.declared.schema.Schema.{Schema}
 use Rattle.ifdb_bound.specs.declared.schema.Foreign.{Foreign}
-use Rattle.ifdb_bound.specs.declared.condition.BoundCond.{BoundCond}
 use Rattle.ifdb_bound.specs.declared.request.Bound.{Bound}
 use Rattle.ifdb_bound.specs.declared.request.Bound.TheVariants as bound
 use Rattle.ifdb_bound.specs.declared.request.BoundAssignment.{BoundAssignment}
 use Rattle.ifdb_wire.specs.declared.fault.Fault.{Fault}
 use Rattle.ifdb_wire.specs.declared.fault.Fault.TheVariants as fault
 use Rattle.ifdb_catalog.specs.Public.{Public, tags_of, has_tags, table_at}
-use Rattle.ifdb_model.specs.server.Writes.{Written, Scene, values_at, and_slot, bound_parent, bound_parents, new_slot, new_write, inserted, insert_one, insert_all, is_matched, matched, are_writable, assigned, is_assigned, rebound, updated, update_to, and_write, update_all, deletion, counted, update_matched, scene_of, writes_of, given_of}
+use Rattle.ifdb_model.specs.server.Writes.{Written, Scene, values_at, and_slot, bound_parent, bound_parents, new_slot, new_write, inserted, insert_one, insert_all, matched, are_writable, assigned, is_assigned, rebound, updated, update_to, and_write, update_all, deletion, counted, update_matched, scene_of, writes_of, given_of}
 use Rattle.ifdb_model.specs.server.Low.{is_inside_slot}
 use Rattle.ifdb_model.specs.server.Crossing.{refs_of}
-use Rattle.ifdb_laws.proofs.server.Statements.{Widens, within, are_good, put_all}
+use Rattle.ifdb_laws.proofs.server.Statements.{matched_all, Widens, within, are_good, put_all}
 
 -- a row's slot and its parents pass
 abbrev pub is_whole : (Slot → Bool) → Row → Bool
@@ -155,7 +154,7 @@ module _ (p : Public) (rows : List Row) (label : List ℕ) (q : Slot → Bool) (
       or_refused (is_whole_write q) (has_tags p asker given) (update_matched (scene_of p rows label given) (table_at p t) a rs) fault.NoAuthority
       (λ e. or_refused (is_whole_write q) (are_writable label rs) (counted (length rs) (update_all (scene_of p rows label given) (table_at p t) a rs)) fault.WriteLabel
       (λ l. counted_all (is_whole_write q) (length rs) (update_all (scene_of p rows label given) (table_at p t) a rs)
-      (update_all_whole (scene_of p rows label given) q at parent (table_at p t) a rs (at_label rs (all_filter (is_matched (tags_of p) t c label) keeps rows all) l))))
+      (update_all_whole (scene_of p rows label given) q at parent (table_at p t) a rs (at_label rs (matched_all keeps (tags_of p) rows t c label all) l))))
   writes_whole asker (bound.Delete t c) parent =
       let rs = matched (tags_of p) rows t c label in
       or_refused (is_whole_write q) (are_writable label rs) (counted (length rs) (Ok (map deletion rs))) fault.WriteLabel (λ l. deletions_whole q rs)

@@ -1,5 +1,5 @@
 -- A statement and a SELECT inside a level, over the rows inside, are those over all rows.
-use Rattle.std.proofs.Common.{◌≡◌, ℕ, Bool, true, false, List, [], ◌∷◌, length, refl, sym, ap, ◌∙◌, arith, cond, ◌&&◌, eqb, Some, None, Ok, Err, Option, Result}
+use Rattle.std.proofs.Common.{◌≡◌, ℕ, Bool, true, false, List, [], ◌∷◌, length, refl, ap, ◌∙◌, arith, cond, ◌&&◌, Some, None, Ok, Err, Option, Result}
 use Rattle.std.specs.Prelude.{filter, map, slice_get}
 use Rattle.std.specs.List.{list_all}
 use Rattle.std.proofs.lemmas.Bool.Decides.{nat_tests}
@@ -13,9 +13,9 @@ use Rattle.ifdb_row.specs.declared.write.Write.{Write}
 use Rattle.ifdb_row.specs.Slots.{is_of_key, is_same_label}
 use Rattle.ifdb_row.specs.Writes.{is_fitting, are_fitting, put}
 use Rattle.ifdb_row.specs.Content.{after, rising}
-use Rattle.ifdb_row.specs.Seen.{clash, candidate, first_slot, parent_of}
+use Rattle.ifdb_row.specs.Seen.{see, clash, candidate, first_slot, parent_of}
 use Rattle.ifdb_row.specs.Sides.{rows_on, are_on}
-use Rattle.ifdb_row.proofs.Lists.{filter_filter, any_of_filter, map_same, map_same_on, all_from}
+use Rattle.ifdb_row.proofs.Lists.{filter_filter, any_of_filter, map_same, map_same_on, all_from, all_filter}
 use Rattle.ifdb_row.proofs.VerdictLaws.{after_on}
 use Rattle.ifdb_row.proofs.SlotOrder.{slot_itself, label_exact}
 use Rattle.ifdb_bound.specs.declared.schema.Schema.{Schema}
@@ -30,13 +30,13 @@ use Rattle.ifdb_bound.specs.declared.request.Bound.{Bound}
 use Rattle.ifdb_bound.specs.declared.request.Bound.TheVariants as bound
 use Rattle.ifdb_bound.specs.declared.request.BoundAssignment.{BoundAssignment}
 use Rattle.ifdb_bound.specs.Query.{SourceRow, all_some, matching}
-use Rattle.ifdb_expr.specs.View.{source_row, is_seen_in, table_rows, base_rows, base_sources, view_row, view_rows}
+use Rattle.ifdb_expr.specs.View.{source_row, of_table, table_rows, base_rows, view_row, view_rows}
 use Rattle.ifdb_expr.specs.Query.{view_authority, is_allowed, rows_of_view, source_rows, over_sources, query}
 use Rattle.ifdb_wire.specs.declared.fault.Fault.{Fault}
 use Rattle.ifdb_wire.specs.declared.fault.Fault.TheVariants as fault
 use Rattle.ifdb_catalog.specs.Public.{Public, tags_of, has_tags, table_at}
 use Rattle.ifdb_model.specs.server.Query.{setting_of}
-use Rattle.ifdb_model.specs.server.Writes.{Written, Scene, values_at, bound_parent, bound_parents, and_slot, new_write, new_slot, inserted, insert_one, insert_all, is_matched, matched, are_writable, assigned, is_assigned, rebound, updated, update_to, update_one, and_write, update_all, deletion, counted, update_matched, delete_matched, scene_of, writes_of, given_of}
+use Rattle.ifdb_model.specs.server.Writes.{Written, Scene, values_at, bound_parent, bound_parents, and_slot, new_write, new_slot, inserted, insert_one, insert_all, is_matched, matched, are_writable, assigned, is_assigned, rebound, updated, update_to, and_write, update_all, deletion, counted, update_matched, delete_matched, scene_of, writes_of, given_of}
 use Rattle.ifdb_model.specs.server.Low.{is_inside_slot}
 use Rattle.ifdb_model.specs.server.Crossing.{view_flows, source_flows}
 
@@ -49,9 +49,11 @@ module _ (tags : List MadeTag) (level : List ℕ) (older : List MadeTag) (w : Wi
   pub within : (a b : List ℕ) → flows tags b level ≡ true → flows older a b ≡ true → flows tags a level ≡ true
   within a b h e = w.trans a b level (w.mono a b e) h
 
+  pub see_alike : (rows : List Row) (label : List ℕ) → flows tags label level ≡ true → see older (rows_on (is_inside_slot tags level) rows) label ≡ see older rows label
+  see_alike rows label h = filter_filter (λ (r : Row). is_inside_slot tags level r.slot) (λ (r : Row). flows older r.slot.label label) rows (λ r e. within r.slot.label label h e)
+
   pub table_alike : (rows : List Row) (t : ℕ) (label : List ℕ) → flows tags label level ≡ true → table_rows older (rows_on (is_inside_slot tags level) rows) t label ≡ table_rows older rows t label
-  table_alike rows t label h = ap (map source_row) (filter_filter (λ (r : Row). is_inside_slot tags level r.slot) (is_seen_in older t label) rows
-      (λ r e. within r.slot.label label h (grind (arith, nat_tests))))
+  table_alike rows t label h = ap (λ x. map source_row (of_table t x)) (see_alike rows label h)
 
   base_alike : (rows : List Row) (label : List ℕ) → flows tags label level ≡ true → (x : Relation) → base_rows older (rows_on (is_inside_slot tags level) rows) label x ≡ base_rows older rows label x
   base_alike rows label h (relation.Table t) = table_alike rows t label h
@@ -220,8 +222,11 @@ module _ (tags : List MadeTag) (level : List ℕ) (x : Scene) (w : Widens x.tags
 
 matched_alike : (tags : List MadeTag) (level : List ℕ) (older : List MadeTag) → Widens older tags → (rows : List Row) (t : ℕ) (c : Option BoundCond) (label : List ℕ) → flows tags label level ≡ true
     → matched older (rows_on (is_inside_slot tags level) rows) t c label ≡ matched older rows t c label
-matched_alike tags level older w rows t c label h = filter_filter (λ (r : Row). is_inside_slot tags level r.slot) (is_matched older t c label) rows
-    (λ r e. within tags level older w r.slot.label label h (grind (arith, nat_tests)))
+matched_alike tags level older w rows t c label h = ap (filter (is_matched t c)) (see_alike tags level older w rows label h)
+
+-- what holds of all rows holds of those that are matched
+pub matched_all : (q : Row → Bool) (tags : List MadeTag) (rows : List Row) (t : ℕ) (c : Option BoundCond) (label : List ℕ) → list_all q rows ≡ true → list_all q (matched tags rows t c label) ≡ true
+matched_all q tags rows t c label h = all_filter (is_matched t c) q (see tags rows label) (all_filter (λ (r : Row). flows tags r.slot.label label) q rows h)
 
 module _ (tags : List MadeTag) (level : List ℕ) (p : Public) (w : Widens (tags_of p) tags) (asker : ℕ) (rows : List Row) (label : List ℕ) (r : rising rows ≡ true) (h : flows tags label level ≡ true) where
   pub writes_alike : (b : Bound) → flows tags (given_of b) level ≡ true → writes_of p asker (rows_on (is_inside_slot tags level) rows) label b ≡ writes_of p asker rows label b
@@ -231,7 +236,7 @@ module _ (tags : List MadeTag) (level : List ℕ) (p : Public) (w : Widens (tags
       let one = matched_alike tags level (tags_of p) w rows t c label h in
       let two = update_all_alike tags level (scene_of p rows label given) w h k (table_at p t) assignments (matched (tags_of p) rows t c label) in
       let three : update_all (scene_of p (rows_on (is_inside_slot tags level) rows) label given) (table_at p t) assignments (matched (tags_of p) (rows_on (is_inside_slot tags level) rows) t c label)
-          ≡ update_all (scene_of p rows label given) (table_at p t) assignments (matched (tags_of p) rows t c label) =
+      ≡ update_all (scene_of p rows label given) (table_at p t) assignments (matched (tags_of p) rows t c label) =
       ap (update_all (scene_of p (rows_on (is_inside_slot tags level) rows) label given) (table_at p t) assignments) one ∙ two in
       λ i. cond (has_tags p asker given) (cond (are_writable label (one i)) (counted (length (one i)) (three i)) (Err fault.WriteLabel)) (Err fault.NoAuthority)
   writes_alike (bound.Delete t c) k = ap (delete_matched label) (matched_alike tags level (tags_of p) w rows t c label h)

@@ -1,3 +1,5 @@
 pub mod Rooted
 pub mod Keys
 pub mod Runs
+pub mod Fresh
+pub mod Apart

@@ -1,5 +1,5 @@
 -- A worked script: a clinic, where each patient has a tag, a doctor reads all of them, and billing sees the fees.
-use Rattle.std.specs.Prelude.{ℕ, zero, suc, ◌+◌, ◌*◌, pos, Bool, true, false, List, [], ◌∷◌, ◌++◌, codes, decimal, Option, Some, None, Ok}
+use Rattle.std.specs.Prelude.{ℕ, zero, suc, ◌+◌, ◌*◌, true, false, List, [], ◌∷◌, ◌++◌, codes, decimal, Some, None, Ok}
 use Rattle.ifdb_value.specs.declared.value.Compare.TheVariants as how
 use Rattle.ifdb_syntax.specs.declared.expression.Expr.TheVariants as expr
 use Rattle.ifdb_syntax.specs.declared.expression.Operand.TheVariants as operand
@@ -16,10 +16,10 @@ clinic_setup =
     ∷ done 1 (codes "HELLO admin KEY 'admin'") (hello (codes "admin") (codes "admin"))
     ∷ done 1 (codes "CREATE COMPOUND TAG patients") (create_tag (codes "patients") true [])
     ∷ done 1 (codes "CREATE TABLE patient (id INT, name TEXT, PRIMARY KEY (id))")
-      (create_table (codes "patient") (int_column (codes "id") ∷ text_column (codes "name") ∷ []) (codes "id" ∷ []) [])
+    (create_table (codes "patient") (int_column (codes "id") ∷ text_column (codes "name") ∷ []) (codes "id" ∷ []) [])
     ∷ done 1 (codes "CREATE TABLE visit (id INT, pid INT, fee INT, why TEXT, PRIMARY KEY (id), FOREIGN KEY (pid) REFERENCES patient)")
-      (create_table (codes "visit") (int_column (codes "id") ∷ int_column (codes "pid") ∷ int_column (codes "fee") ∷ text_column (codes "why") ∷ []) (codes "id" ∷ [])
-      (record { columns = codes "pid" ∷ []; parent = codes "patient" } ∷ []))
+    (create_table (codes "visit") (int_column (codes "id") ∷ int_column (codes "pid") ∷ int_column (codes "fee") ∷ text_column (codes "why") ∷ []) (codes "id" ∷ [])
+    (record { columns = codes "pid" ∷ []; parent = codes "patient" } ∷ []))
     ∷ done 1 (codes "CREATE PRINCIPAL doctor KEY 'd'") (create_principal (codes "doctor") (codes "d"))
     ∷ done 1 (codes "CREATE PRINCIPAL billing KEY 'b'") (create_principal (codes "billing") (codes "b"))
     ∷ done 1 (codes "GRANT patients TO doctor") (grant (codes "patients") (codes "doctor"))
@@ -38,9 +38,9 @@ patient i =
     done 1 (codes "CREATE TAG " ++ tag_of i ++ codes " IN (patients)") (create_tag (tag_of i) false (codes "patients" ∷ []))
     ∷ done 2 (codes "SET LABEL (" ++ tag_of i ++ codes ")") (set_label (tag_of i ∷ []))
     ∷ says_one 2 (codes "INSERT INTO patient VALUES (" ++ decimal i ++ codes ", 'n" ++ decimal i ++ codes "')")
-      (insert (codes "patient") ((int i ∷ text (codes "n" ++ decimal i) ∷ []) ∷ []) []) (codes "OK 1")
+    (insert (codes "patient") ((int i ∷ text (codes "n" ++ decimal i) ∷ []) ∷ []) []) (codes "OK 1")
     ∷ says_one 2 (codes "INSERT INTO visit VALUES (" ++ decimal i ++ codes ", " ++ decimal i ++ codes ", " ++ decimal (100 * i) ++ codes ", 'flu')")
-      (insert (codes "visit") ((int i ∷ int i ∷ int (100 * i) ∷ text (codes "flu") ∷ []) ∷ []) []) (codes "OK 1")
+    (insert (codes "visit") ((int i ∷ int i ∷ int (100 * i) ∷ text (codes "flu") ∷ []) ∷ []) []) (codes "OK 1")
     ∷ done 2 (codes "SET LABEL ()") (set_label [])
     ∷ []
 
@@ -63,14 +63,14 @@ clinic_questions =
     ∷ says 3 (codes "SELECT COUNT(*) FROM visit") (select count_all (codes "visit" ∷ []) None) (codes "ROWS 1 1" ∷ codes "0" ∷ [])
     ∷ says 3 (codes "SELECT COUNT(*) FROM fees") (select count_all (codes "fees" ∷ []) None) (codes "ROWS 1 1" ∷ codes "40" ∷ [])
     ∷ says 3 (codes "SELECT pid, SUM(fee) FROM fees WHERE fee >= 3900 GROUP BY pid")
-      (Ok (request.Select (record {
-        items = shows (codes "pid") ∷ item.Sum (ref (codes "fee")) None ∷ [];
-        sources = source (codes "fees") ∷ [];
-        cond = Some (cond.Compare (operand.Column (ref (codes "fee"))) how.AtLeast (operand.Literal (int 3900)));
-        group = ref (codes "pid") ∷ [];
-        order = [];
-      })))
-      (codes "ROWS 2 2" ∷ codes "39\t3900" ∷ codes "40\t4000" ∷ [])
+    (Ok (request.Select (record {
+      items = shows (codes "pid") ∷ item.Sum (ref (codes "fee")) None ∷ [];
+      sources = source (codes "fees") ∷ [];
+      cond = Some (cond.Compare (operand.Column (ref (codes "fee"))) how.AtLeast (operand.Literal (int 3900)));
+      group = ref (codes "pid") ∷ [];
+      order = [];
+    })))
+    (codes "ROWS 2 2" ∷ codes "39\t3900" ∷ codes "40\t4000" ∷ [])
     ∷ says_one 3 (codes "SELECT why FROM visit") (select (shows (codes "why") ∷ []) (codes "visit" ∷ []) None) (codes "ROWS 0 1")
     ∷ done 3 (codes "SET LABEL (p7)") (set_label (codes "p7" ∷ []))
     ∷ says 3 (codes "SELECT name FROM patient") (select (shows (codes "name") ∷ []) (codes "patient" ∷ []) None) (codes "ROWS 1 1" ∷ codes "n7" ∷ [])

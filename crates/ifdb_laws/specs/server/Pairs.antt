@@ -1,5 +1,5 @@
 -- Worked pairs of scripts: two that agree below the empty level, and pairs of which each shows a case of crossing it.
-use Rattle.std.specs.Prelude.{◌≡◌, ℕ, true, false, List, [], ◌∷◌, ◌++◌, codes, Option, Some, None, Result, Ok, Err}
+use Rattle.std.specs.Prelude.{◌≡◌, ℕ, true, false, List, [], ◌∷◌, ◌++◌, codes, None, Ok}
 use Rattle.ifdb_syntax.specs.declared.request.Request.TheVariants as request
 use Rattle.ifdb_model.specs.server.Step.{Reader}
 use Rattle.ifdb_model.specs.server.Run.{opening, Step}
@@ -51,7 +51,7 @@ first_world = setup ++
     ∷ done 2 (codes "BEGIN") (Ok request.Begin)
     ∷ done 1 (codes "COMMIT") (Ok request.Commit)
     ∷ says 1 (codes "SELECT id, body FROM note") (select (shows (codes "id") ∷ shows (codes "body") ∷ []) (codes "note" ∷ []) None)
-      (codes "ROWS 1 2" ∷ codes "1\tp" ∷ [])
+    (codes "ROWS 1 2" ∷ codes "1\tp" ∷ [])
     ∷ [])
 
 abbrev pub second_world : List Played
@@ -63,7 +63,7 @@ second_world = setup ++
     ∷ says_one 1 (codes "INSERT INTO note VALUES (1, 'p')") (insert_note 1 (codes "p")) (codes "OK 1")
     ∷ done 1 (codes "COMMIT") (Ok request.Commit)
     ∷ says 1 (codes "SELECT id, body FROM note") (select (shows (codes "id") ∷ shows (codes "body") ∷ []) (codes "note" ∷ []) None)
-      (codes "ROWS 1 2" ∷ codes "1\tp" ∷ [])
+    (codes "ROWS 1 2" ∷ codes "1\tp" ∷ [])
     ∷ says_one 2 (codes "SELECT id FROM note") (select (shows (codes "id") ∷ []) (codes "note" ∷ []) None) (codes "ROWS 0 1")
     ∷ [])
 

@@ -10,7 +10,7 @@ use Rattle.ifdb_row.specs.Writes.{is_written}
 use Rattle.ifdb_row.specs.Content.{after, live, are_rooted}
 use Rattle.ifdb_model.specs.server.Log.{commits, all_tags, content_of}
 use Rattle.ifdb_model.specs.server.Step.{Reader, ask}
-use Rattle.ifdb_model.specs.server.Run.{State, opening, session_of, Step, run}
+use Rattle.ifdb_model.specs.server.Run.{opening, session_of, Step, run}
 
 -- in every content of a run each live row's bound parents are live
 abbrev pub ParentsLive : Type 0

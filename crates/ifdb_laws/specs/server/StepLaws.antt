@@ -6,7 +6,7 @@ use Rattle.ifdb_wire.specs.declared.reply.Reply.TheVariants as reply
 use Rattle.ifdb_model.specs.server.Log.{Entry}
 use Rattle.ifdb_model.specs.server.Session.{Txn, Session}
 use Rattle.ifdb_model.specs.server.Step.{Reader, Form, ends, form_of, refuses, ask}
-use Rattle.ifdb_model.specs.server.Run.{State, Step, asks, outcome_of, next}
+use Rattle.ifdb_model.specs.server.Run.{State, asks, outcome_of, next}
 
 abbrev pub is_ending : Form → Bool
 is_ending ends = true

@@ -3,14 +3,13 @@ use Rattle.std.specs.Prelude.{ℕ, Bool, true, false, List, [], ◌∷◌, ◌==
 use Rattle.std.specs.List.{list_any, list_all}
 use Rattle.ifdb_value.specs.declared.value.Value.{Value}
 use Rattle.ifdb_label.specs.Tags.{MadeTag}
-use Rattle.ifdb_label.specs.Label.{flows}
 use Rattle.ifdb_row.specs.declared.slot.Slot.{Slot}
 use Rattle.ifdb_row.specs.declared.row.Row.{Row}
 use Rattle.ifdb_row.specs.declared.write.Write.{Write}
 use Rattle.ifdb_row.specs.Slots.{is_same_label}
 use Rattle.ifdb_row.specs.Writes.{put}
 use Rattle.ifdb_row.specs.Content.{after}
-use Rattle.ifdb_row.specs.Seen.{clash, parent_of}
+use Rattle.ifdb_row.specs.Seen.{see, clash, parent_of}
 use Rattle.ifdb_bound.specs.declared.schema.Schema.{Schema}
 use Rattle.ifdb_bound.specs.declared.schema.Foreign.{Foreign}
 use Rattle.ifdb_bound.specs.declared.condition.BoundCond.{BoundCond}
@@ -78,12 +77,13 @@ insert_all x t schema (values ∷ more) (Ok earlier) = insert_all x t schema mor
 
 -- ---- UPDATE and DELETE
 
--- the row is of the table, the label sees it, and the condition holds
-abbrev pub is_matched : List MadeTag → ℕ → Option BoundCond → List ℕ → Row → Bool
-is_matched tags t cond label r = (r.slot.table == t) && (flows tags r.slot.label label && passes cond (r.values ∷ []))
+-- the row is of the table, and the condition holds
+abbrev pub is_matched : ℕ → Option BoundCond → Row → Bool
+is_matched t cond r = (r.slot.table == t) && passes cond (r.values ∷ [])
 
+-- of the rows that the label sees
 abbrev pub matched : List MadeTag → List Row → ℕ → Option BoundCond → List ℕ → List Row
-matched tags rows t cond label = filter (is_matched tags t cond label) rows
+matched tags rows t cond label = filter (is_matched t cond) (see tags rows label)
 
 -- each row has the session's label
 abbrev pub are_writable : List ℕ → List Row → Bool

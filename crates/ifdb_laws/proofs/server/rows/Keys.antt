@@ -1,5 +1,5 @@
 -- What a statement writes is fresh over what it sees.
-use Rattle.std.proofs.Common.{◌≡◌, ℕ, Bool, true, false, List, [], ◌∷◌, length, refl, ap, ◌∙◌, arith, cond, ◌&&◌, ◌||◌, Some, None, Ok, Err, Option, Result}
+use Rattle.std.proofs.Common.{◌≡◌, ℕ, Bool, true, false, List, [], ◌∷◌, length, refl, arith, cond, Some, None, Ok, Err, Option, Result}
 use Rattle.std.specs.Prelude.{map}
 use Rattle.std.specs.List.{list_all}
 use Rattle.std.proofs.lemmas.Bool.Decides.{nat_tests}
@@ -10,7 +10,6 @@ use Rattle.ifdb_row.specs.declared.row.Row.{Row}
 use Rattle.ifdb_row.specs.declared.write.Write.{Write}
 use Rattle.ifdb_row.specs.Content.{after, live}
 use Rattle.ifdb_row.specs.Seen.{clash}
-use Rattle.ifdb_row.proofs.Lists.{all_filter}
 use Rattle.ifdb_row.proofs.LiveLaws.{all_live}
 use Rattle.ifdb_row.proofs.KeyLaws.{are_fresh, put_fresh, is_at_live, at_live_fresh}
 use Rattle.ifdb_bound.specs.declared.schema.Schema.{Schema}
@@ -20,7 +19,8 @@ use Rattle.ifdb_bound.specs.declared.request.BoundAssignment.{BoundAssignment}
 use Rattle.ifdb_wire.specs.declared.fault.Fault.{Fault}
 use Rattle.ifdb_wire.specs.declared.fault.Fault.TheVariants as fault
 use Rattle.ifdb_catalog.specs.Public.{Public, tags_of, has_tags, table_at}
-use Rattle.ifdb_model.specs.server.Writes.{Written, Scene, values_at, bound_parents, new_write, new_slot, inserted, insert_one, insert_all, is_matched, matched, are_writable, assigned, rebound, updated, update_to, and_write, update_all, deletion, counted, update_matched, scene_of, writes_of}
+use Rattle.ifdb_model.specs.server.Writes.{Written, Scene, values_at, bound_parents, new_write, new_slot, inserted, insert_one, insert_all, matched, are_writable, assigned, rebound, updated, update_to, and_write, update_all, deletion, counted, update_matched, scene_of, writes_of}
+use Rattle.ifdb_laws.proofs.server.Statements.{matched_all}
 use Rattle.ifdb_laws.proofs.server.Sided.{result_all}
 
 abbrev fresh_result : List MadeTag → List Row → Result (List Write) Fault → Bool
@@ -86,7 +86,7 @@ module _ (p : Public) (asker : ℕ) (rows : List Row) (label : List ℕ) where
       or_refused (has_tags p asker given) (update_matched (scene_of p rows label given) (table_at p t) a rs) fault.NoAuthority
       (or_refused (are_writable label rs) (counted (length rs) (update_all (scene_of p rows label given) (table_at p t) a rs)) fault.WriteLabel
       (of_counted (length rs) (update_all (scene_of p rows label given) (table_at p t) a rs) (of_live (update_all (scene_of p rows label given) (table_at p t) a rs)
-      (update_live (scene_of p rows label given) (table_at p t) a rs (all_filter (is_matched (tags_of p) t c label) (λ (r : Row). live rows r.slot) rows (all_live rows))))))
+      (update_live (scene_of p rows label given) (table_at p t) a rs (matched_all (λ (r : Row). live rows r.slot) (tags_of p) rows t c label (all_live rows))))))
   writes_fresh (bound.Delete t c) =
       let rs = matched (tags_of p) rows t c label in
       or_refused (are_writable label rs) (counted (length rs) (Ok (map deletion rs))) fault.WriteLabel (at_live_fresh (tags_of p) rows (map deletion rs) (deletions_live rows rs))

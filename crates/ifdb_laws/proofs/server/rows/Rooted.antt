@@ -1,5 +1,5 @@
 -- Statements keep each row's parents live.
-use Rattle.std.proofs.Common.{◌≡◌, ℕ, Bool, true, false, List, [], ◌∷◌, length, refl, ap, ◌∙◌, arith, cond, ◌&&◌, ◌||◌, Some, None, Ok, Err, Option, Result}
+use Rattle.std.proofs.Common.{◌≡◌, ℕ, Bool, true, false, List, [], ◌∷◌, length, refl, arith, cond, ◌&&◌, ◌||◌, Some, None, Ok, Err, Option, Result}
 use Rattle.std.specs.Prelude.{map, not}
 use Rattle.std.specs.List.{list_all}
 use Rattle.std.proofs.lemmas.Bool.Decides.{nat_tests}
@@ -23,9 +23,9 @@ use Rattle.ifdb_bound.specs.declared.request.BoundAssignment.{BoundAssignment}
 use Rattle.ifdb_wire.specs.declared.fault.Fault.{Fault}
 use Rattle.ifdb_wire.specs.declared.fault.Fault.TheVariants as fault
 use Rattle.ifdb_catalog.specs.Public.{Public, tags_of, has_tags, table_at}
-use Rattle.ifdb_model.specs.server.Writes.{Written, Scene, values_at, and_slot, bound_parent, bound_parents, new_write, new_slot, inserted, insert_one, insert_all, is_matched, matched, are_writable, assigned, is_assigned, rebound, updated, update_to, and_write, update_all, deletion, counted, update_matched, scene_of, writes_of, is_delete}
-use Rattle.ifdb_laws.proofs.server.Statements.{are_good, is_good}
-use Rattle.ifdb_laws.proofs.server.Sided.{result_all, written_all, all_of, one_of, first_all}
+use Rattle.ifdb_model.specs.server.Writes.{Written, Scene, values_at, and_slot, bound_parent, bound_parents, new_write, new_slot, inserted, insert_one, insert_all, matched, are_writable, assigned, is_assigned, rebound, updated, update_to, and_write, update_all, deletion, counted, update_matched, scene_of, writes_of, is_delete}
+use Rattle.ifdb_laws.proofs.server.Statements.{matched_all}
+use Rattle.ifdb_laws.proofs.server.Sided.{result_all, all_of, one_of, first_all}
 
 abbrev row_write : Scene → Write → Bool
 row_write x w = is_row_write (live x.rows) w.row
@@ -127,7 +127,7 @@ module _ (rows : List Row) (h : are_rooted rows rows ≡ true) where
       let rs = matched (tags_of p) rows t c label in
       or_refused (has_tags p asker given) false (update_matched (scene_of p rows label given) (table_at p t) a rs) fault.NoAuthority
       (or_refused (are_writable label rs) false (counted (length rs) (update_all (scene_of p rows label given) (table_at p t) a rs)) fault.WriteLabel
-      (rows_kept (length rs) (update_all (scene_of p rows label given) (table_at p t) a rs) (update_rows (scene_of p rows label given) (table_at p t) a rs (all_filter (is_matched (tags_of p) t c label) (is_rooted rows) rows h))))
+      (rows_kept (length rs) (update_all (scene_of p rows label given) (table_at p t) a rs) (update_rows (scene_of p rows label given) (table_at p t) a rs (matched_all (is_rooted rows) (tags_of p) rows t c label h))))
   writes_rooted p asker label (bound.Delete t c) =
       let rs = matched (tags_of p) rows t c label in
       or_refused (are_writable label rs) true (counted (length rs) (Ok (map deletion rs))) fault.WriteLabel (deletions_kept rs)

@@ -1,14 +1,13 @@
 -- In every run each row's parents are live.
 use Rattle.std.proofs.Common.{◌≡◌, ℕ, ◌-◌, Bool, true, false, List, [], ◌∷◌, ◌++◌, length, get_or, refl, sym, ap, ◌∙◌, arith, cond, ◌&&◌, ltb, Some, None, Ok, Err, Option, Result, inl, inr}
-use Rattle.std.specs.Prelude.{option_to_list, All, slice_set}
-use Rattle.std.specs.List.{list_all}
+use Rattle.std.specs.Prelude.{option_to_list, All}
 use Rattle.std.proofs.lemmas.Bool.{cases_lt}
 use Rattle.std.proofs.lemmas.Bool.Decides.{nat_tests}
 use Rattle.std.proofs.lemmas.List.{get_or_past}
 use Rattle.std.proofs.lemmas.List.Elements.{All-nil, All-get_or, All-set, All-push}
 use Rattle.ifdb_row.specs.declared.row.Row.{Row}
 use Rattle.ifdb_row.specs.declared.write.Write.{Write}
-use Rattle.ifdb_row.specs.Writes.{is_fitting, are_fitting, merged}
+use Rattle.ifdb_row.specs.Writes.{is_fitting, are_fitting}
 use Rattle.ifdb_row.specs.Content.{after, content_from, are_rooted}
 use Rattle.ifdb_row.specs.Verdict.{leaves}
 use Rattle.ifdb_row.proofs.LiveLaws.{merged_all}
@@ -17,7 +16,7 @@ use Rattle.ifdb_bound.specs.declared.request.Bound.{Bound}
 use Rattle.ifdb_syntax.specs.declared.request.Request.{Request}
 use Rattle.ifdb_wire.specs.declared.fault.Fault.{Fault}
 use Rattle.ifdb_model.specs.server.Log.{Entry, changes, commits, all_tags, commits_of, content_of, written_of}
-use Rattle.ifdb_model.specs.server.Session.{Txn, Session, new_session, no_session, closed, Seen, seen_in, seen}
+use Rattle.ifdb_model.specs.server.Session.{Txn, Session, new_session, no_session, closed, seen_in, seen}
 use Rattle.ifdb_model.specs.server.Writes.{Written, writes_of, is_delete}
 use Rattle.ifdb_model.specs.server.Step.{Reader, Outcome, ask}
 use Rattle.ifdb_model.specs.server.Run.{State, opening, session_of, Step, opens, asks, refused, long, stray, leaves as left_out, with_outcome, with_session, next, run}
@@ -88,7 +87,7 @@ added_rooted log s line o (wrote asker r b w a t e d) f h =
     (writes_rooted (seen log s).rows (ap all_rooted whole ∙ h) (seen log s).public asker s.label b) (written_fits log s asker b w e) d
 added_rooted log s line o (done x t j) f h = go_rooted (all_tags log) (content_of log) (written_of (Rattle.std.proofs.Common.drop x.begin log)) x.own s.label (ap (txn_all are_fitting) (sym t) ∙ f) h j
 
-content_append : (rows : List Row) (a b : List Entry) → content_from rows (commits_of (a ++ b)) ≡ content_from (content_from rows (commits_of a)) (commits_of b)
+pub content_append : (rows : List Row) (a b : List Entry) → content_from rows (commits_of (a ++ b)) ≡ content_from (content_from rows (commits_of a)) (commits_of b)
 content_append rows [] b = refl
 content_append rows (changes c ∷ a) b = content_append rows a b
 content_append rows (commits ws ∷ a) b = content_append (after rows ws) a b

@@ -1,0 +1,5 @@
+use Rattle.ifdb_laws.proofs.server.rows.Apart.{keys_apart_lem}
+use Rattle.ifdb_laws.proofs.row_laws.keys_apart.Goals as goal
+
+pub returns : goal.returns
+returns c = keys_apart_lem
