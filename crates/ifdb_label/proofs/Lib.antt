@@ -1,4 +1,4 @@
 mod Elements
 pub mod TagLaws
 pub mod LabelLaws
-mod AncestorLemmas
+pub mod AncestorLemmas
