@@ -27,7 +27,8 @@ use Rattle.ifdb_model.specs.server.Run.{State, opening, session_of, Step, opens,
 use Rattle.ifdb_laws.specs.server.RowLaws.{is_apart, are_apart, KeysApart}
 use Rattle.ifdb_laws.proofs.server.Shapes.{shape}
 use Rattle.ifdb_laws.proofs.server.Logs.{all_commits, txn_all, begins_within, is_made_slot}
-use Rattle.ifdb_laws.proofs.server.two_worlds.Sound.{are_sound, sound_fits, sound_slots, SoundLog, SoundSession, Sound, commits_from, txn_from, log_after, line_tidy, log_stays_sound, other_stays_sound, session_stays_sound, asked_sound, left_sound, next_sound, opening_sound}
+use Rattle.ifdb_laws.proofs.server.two_worlds.Outcomes.{added_by, log_after}
+use Rattle.ifdb_laws.proofs.server.two_worlds.Sound.{are_sound, sound_fits, sound_slots, SoundLog, SoundSession, Sound, commits_from, txn_from, line_tidy, log_stays_sound, later_sound, session_stays_sound, asked_sound, left_sound, next_sound, opening_sound}
 use Rattle.ifdb_laws.proofs.server.rows.Runs.{session_has, added_fits}
 use Rattle.ifdb_laws.proofs.server.rows.Fresh.{txn_fresh, adds_fresh, Fronts, outcome_fresh}
 
@@ -70,7 +71,7 @@ SoundFronts log = (b : ℕ) → SoundLog (take b log)
 
 -- a session is sound, and its own writes are fresh
 record Both (log : List Entry) (s : Session) : Type 0 where
-  pub sound : SoundSession (length (all_tags log)) (length log) s
+  pub sound : SoundSession log s
   pub fresh : txn_fresh log s.txn ≡ true
 
 record Keyed (st : State) : Type 0 where
@@ -125,14 +126,20 @@ asked_keyed read st v n line =
     let s = session_of st n in
     let k = (both_at st v n).sound in
     let o = ask read st.log s line in
-    let later = log_after st.log o in
+    let more = added_by read st.log s line in
+    let later = log_after read st.log s line in
     let l = v.sound.sound_log in
     record {
       sound = asked_sound read st v.sound n line;
       fronts = fronts_grow st.log o.added v.fronts (log_stays_sound st.log s l k read line);
-      sessions = All-set (Both later) st.sessions (n - 1) o.session
-          (record { sound = session_stays_sound st.log s l k read line; fresh = fresh_grows st.log (option_to_list o.added) o.session.txn (line_tidy st.log s l k read line).begins (line_fresh read st v n line).0 })
-          (All-weaker (Both st.log) (Both later) (λ u b. record { sound = other_stays_sound st.log s l k read line u b.sound; fresh = fresh_grows st.log (option_to_list o.added) u.txn b.sound.begins b.fresh }) st.sessions v.sessions);
+      sessions =
+          let here : Both later o.session = record {
+            sound = session_stays_sound st.log s l k read line;
+            fresh = fresh_grows st.log more o.session.txn (line_tidy st.log s l k read line).begins (line_fresh read st v n line).0;
+          } in
+          let others = All-weaker (Both st.log) (Both later)
+          (λ u b. record { sound = later_sound st.log more u b.sound; fresh = fresh_grows st.log more u.txn b.sound.begins b.fresh }) st.sessions v.sessions in
+          All-set (Both later) st.sessions (n - 1) o.session here others;
     }
 
 either : (b : Bool) (st u : State) → Keyed st → Keyed u → Keyed (cond b st u)

@@ -1,10 +1,8 @@
 -- Runs without a crossing stay on one side: their states, and each of their sessions.
 use Rattle.std.proofs.Common.{◌≡◌, ℕ, ◌-◌, ◌<◌, Bool, true, false, List, [], ◌∷◌, ◌++◌, length, get_or, set, refl, sym, ap, ◌∙◌, arith, cond, ltb, Some, None, Option, inl, inr}
-use Rattle.std.specs.Prelude.{option_to_list}
 use Rattle.std.proofs.lemmas.Bool.{false≢true, cases_eq, cases_lt, cases_Bool}
 use Rattle.std.proofs.lemmas.Bool.Decides.{nat_tests}
 use Rattle.std.proofs.lemmas.List.{get_or-set_other, get_or-set_same, get_or_append_left, get_or_past}
-use Rattle.ifdb_label.specs.Tags.{MadeTag}
 use Rattle.ifdb_label.specs.Label.{flows}
 use Rattle.ifdb_label.proofs.LabelLaws.{flows-append}
 use Rattle.ifdb_row.specs.declared.write.Write.{Write}
@@ -17,7 +15,8 @@ use Rattle.ifdb_model.specs.server.Low.{is_inside}
 use Rattle.ifdb_model.specs.server.Crossing.{crosses_at, crosses, quiet}
 use Rattle.ifdb_laws.specs.server.OneSide.{own_of, side_of, IsOneSided, QuietRunsAreOneSided, InsideSinceTheStart}
 use Rattle.ifdb_laws.proofs.server.Logs.{txn_all, content_all, new_tags, tags_append}
-use Rattle.ifdb_laws.proofs.server.two_worlds.Sound.{Sound, log_after, session_sound, next_sound}
+use Rattle.ifdb_laws.proofs.server.two_worlds.Outcomes.{is_in, added_by, log_after}
+use Rattle.ifdb_laws.proofs.server.two_worlds.Sound.{Sound, session_sound, next_sound}
 use Rattle.ifdb_laws.proofs.server.two_worlds.Facts.{Facts, session_sided, stays_outside, opening_facts, run_facts}
 use Rattle.ifdb_laws.proofs.server.two_worlds.Parts.{outside_place}
 
@@ -63,49 +62,56 @@ open_number st n h = by (ltb 0 n) refl where
 in_range : (level : List ℕ) (st : State) (n : ℕ) → is_inside level st n ≡ false → n - 1 < length st.sessions
 in_range level st n h = elim (cases_lt (n - 1) (length st.sessions)) [
   | inl lt ↦ lt
-  | inr le ↦ absurd (false≢true (sym h ∙ ap (λ (s : Session). flows (all_tags st.log) s.label level) (outside_place level st n h ∙ get_or_past st.sessions (n - 1) no_session le)))
+  | inr le ↦ absurd (false≢true (sym h ∙ ap (is_in st.log level) (outside_place level st n h ∙ get_or_past st.sessions (n - 1) no_session le)))
 ]
 
 -- a label beside a longer log
-same_label : (level : List ℕ) (st : State) → Sound st → (n : ℕ) (more : List Entry) → flows (all_tags (st.log ++ more)) (session_of st n).label level ≡ flows (all_tags st.log) (session_of st n).label level
+same_label : (level : List ℕ) (st : State) → Sound st → (n : ℕ) (more : List Entry)
+    → is_in (st.log ++ more) level (session_of st n) ≡ is_in st.log level (session_of st n)
 same_label level st v n more =
     ap (λ tags. flows tags (session_of st n).label level) (tags_append st.log more)
     ∙ flows-append (all_tags st.log) (new_tags more) v.sound_log.formed (session_of st n).label level (session_sound st v n).label_made
 
-set_stays : (level : List ℕ) (tags : List MadeTag) (xs : List Session) (i j : ℕ) (s : Session) → i < length xs → (i ≡ j → flows tags s.label level ≡ false) → flows tags (get_or xs i no_session).label level ≡ false
-    → flows tags (get_or (set xs j s) i no_session).label level ≡ false
-set_stays level tags xs i j s lt h k = elim (cases_eq i j) [
-  | inl e ↦ ap (λ (u : Session). flows tags u.label level) (ap (λ x. get_or (set xs x s) i no_session) (sym e) ∙ get_or-set_same xs i s no_session lt) ∙ h e
-  | inr d ↦ ap (λ (u : Session). flows tags u.label level) (get_or-set_other xs j i s no_session d) ∙ k
+set_stays : (level : List ℕ) (log : List Entry) (xs : List Session) (i j : ℕ) (s : Session) → i < length xs → (i ≡ j → is_in log level s ≡ false)
+    → is_in log level (get_or xs i no_session) ≡ false → is_in log level (get_or (set xs j s) i no_session) ≡ false
+set_stays level log xs i j s lt h k = elim (cases_eq i j) [
+  | inl e ↦ ap (is_in log level) (ap (λ x. get_or (set xs x s) i no_session) (sym e) ∙ get_or-set_same xs i s no_session lt) ∙ h e
+  | inr d ↦ ap (is_in log level) (get_or-set_other xs j i s no_session d) ∙ k
 ]
 
 -- session m's step, seen from session n
-asked_stays : (read : Reader) (level : List ℕ) (st : State) → Sound st → (m : ℕ) (line : List ℕ) (n : ℕ) → (session_of st m).is_open ≡ true → crosses_at read level st.log (session_of st m) line ≡ false
+asked_stays : (read : Reader) (level : List ℕ) (st : State) → Sound st → (m : ℕ) (line : List ℕ) (n : ℕ) → (session_of st m).is_open ≡ true
+    → crosses_at read level st.log (session_of st m) line ≡ false
     → is_inside level st n ≡ false → is_inside level (with_outcome st m (ask read st.log (session_of st m) line)) n ≡ false
 asked_stays read level st v m line n o q h =
     let out = ask read st.log (session_of st m) line in
-    let tags = all_tags (log_after st.log out) in
-    let there : flows tags (get_or st.sessions (n - 1) no_session).label level ≡ false =
-    ap (λ (u : Session). flows tags u.label level) (sym (outside_place level st n h)) ∙ same_label level st v n (option_to_list out.added) ∙ h in
-    let here : n - 1 ≡ m - 1 → flows tags out.session.label level ≡ false = λ e.
+    let later = log_after read st.log (session_of st m) line in
+    let there : is_in later level (get_or st.sessions (n - 1) no_session) ≡ false =
+    ap (is_in later level) (sym (outside_place level st n h)) ∙ same_label level st v n (added_by read st.log (session_of st m) line) ∙ h in
+    let here : n - 1 ≡ m - 1 → is_in later level out.session ≡ false = λ e.
     let same = outside_place level st n h ∙ ap (λ i. get_or st.sessions i no_session) e ∙ sym (at_number st m (open_number st m o)) in
-    stays_outside read level st.log (session_of st m) line v.sound_log (session_sound st v m) q (ap (λ (u : Session). flows (all_tags st.log) u.label level) (sym same) ∙ h) in
-    ap (λ (u : Session). flows tags u.label level) (at_number (with_outcome st m out) n (outside_number level st n h))
-    ∙ set_stays level tags st.sessions (n - 1) (m - 1) out.session (in_range level st n h) here there
+    let before = ap (is_in st.log level) (sym same) ∙ h in
+    stays_outside read level st.log (session_of st m) line v.sound_log (session_sound st v m) q before in
+    ap (is_in later level) (at_number (with_outcome st m out) n (outside_number level st n h))
+    ∙ set_stays level later st.sessions (n - 1) (m - 1) out.session (in_range level st n h) here there
 
-left_stays : (level : List ℕ) (st : State) (m n : ℕ) → (session_of st m).is_open ≡ true → is_inside level st n ≡ false → is_inside level (with_session st m (closed (session_of st m))) n ≡ false
+left_stays : (level : List ℕ) (st : State) (m n : ℕ) → (session_of st m).is_open ≡ true → is_inside level st n ≡ false
+    → is_inside level (with_session st m (closed (session_of st m))) n ≡ false
 left_stays level st m n o h =
-    let there : flows (all_tags st.log) (get_or st.sessions (n - 1) no_session).label level ≡ false = ap (λ (u : Session). flows (all_tags st.log) u.label level) (sym (outside_place level st n h)) ∙ h in
-    let here : n - 1 ≡ m - 1 → flows (all_tags st.log) (closed (session_of st m)).label level ≡ false = λ e.
-    ap (λ (u : Session). flows (all_tags st.log) u.label level) (at_number st m (open_number st m o) ∙ ap (λ i. get_or st.sessions i no_session) (sym e)) ∙ there in
-    ap (λ (u : Session). flows (all_tags st.log) u.label level) (at_number (with_session st m (closed (session_of st m))) n (outside_number level st n h))
-    ∙ set_stays level (all_tags st.log) st.sessions (n - 1) (m - 1) (closed (session_of st m)) (in_range level st n h) here there
+    let there : is_in st.log level (get_or st.sessions (n - 1) no_session) ≡ false = ap (is_in st.log level) (sym (outside_place level st n h)) ∙ h in
+    let here : n - 1 ≡ m - 1 → is_in st.log level (closed (session_of st m)) ≡ false = λ e.
+    ap (is_in st.log level) (at_number st m (open_number st m o) ∙ ap (λ i. get_or st.sessions i no_session) (sym e)) ∙ there in
+    ap (is_in st.log level) (at_number (with_session st m (closed (session_of st m))) n (outside_number level st n h))
+    ∙ set_stays level st.log st.sessions (n - 1) (m - 1) (closed (session_of st m)) (in_range level st n h) here there
 
-next_stays : (read : Reader) (level : List ℕ) (st : State) (x : Step) (n : ℕ) → Sound st → crosses read level st x ≡ false → is_inside level st n ≡ false → is_inside level (next read st x) n ≡ false
+next_stays : (read : Reader) (level : List ℕ) (st : State) (x : Step) (n : ℕ) → Sound st → crosses read level st x ≡ false → is_inside level st n ≡ false
+    → is_inside level (next read st x) n ≡ false
 next_stays read level st opens n v q h =
-    let there : flows (all_tags st.log) (get_or st.sessions (n - 1) no_session).label level ≡ false = ap (λ (u : Session). flows (all_tags st.log) u.label level) (sym (outside_place level st n h)) ∙ h in
-    ap (λ (u : Session). flows (all_tags st.log) u.label level)
-    (at_number (record st { sessions = st.sessions ++ new_session ∷ [] }) n (outside_number level st n h) ∙ get_or_append_left st.sessions (new_session ∷ []) no_session (n - 1) (in_range level st n h)) ∙ there
+    let there : is_in st.log level (get_or st.sessions (n - 1) no_session) ≡ false = ap (is_in st.log level) (sym (outside_place level st n h)) ∙ h in
+    let opened : State = record st { sessions = st.sessions ++ new_session ∷ [] } in
+    let older = get_or_append_left st.sessions (new_session ∷ []) no_session (n - 1) (in_range level st n h) in
+    let same = at_number opened n (outside_number level st n h) ∙ older in
+    ap (is_in st.log level) same ∙ there
 next_stays read level st (asks m line) n v q h = by (session_of st m).is_open refl where
   by : (b : Bool) → (session_of st m).is_open ≡ b → is_inside level (cond b (with_outcome st m (ask read st.log (session_of st m) line)) st) n ≡ false
   by true e = asked_stays read level st v m line n e (rw e at q) h

@@ -1,6 +1,6 @@
 -- What a line comes to, by its shape: the writes, the tags, the session's label and begin; and that a session outside a
 -- level adds nothing inside.
-use Rattle.std.proofs.Common.{◌≡◌, ℕ, ◌≤◌, Bool, true, false, List, [], ◌∷◌, length, take, drop, refl, sym, ap, ◌∙◌, arith, ◌&&◌, ◌||◌, leb, Some, None, Ok, Err, Option, Result}
+use Rattle.std.proofs.Common.{◌≡◌, ℕ, ◌≤◌, Bool, true, false, List, [], ◌∷◌, ◌++◌, length, take, drop, refl, sym, ap, ◌∙◌, arith, ◌&&◌, ◌||◌, ltb, Some, None, Ok, Option, Result}
 use Rattle.std.specs.Prelude.{not, is_none, option_to_list}
 use Rattle.std.specs.List.{list_any, list_all}
 use Rattle.std.proofs.lemmas.Bool.{false≢true, lt-ltb, ltb-true}
@@ -28,12 +28,35 @@ use Rattle.ifdb_catalog.proofs.Made.{parents_made}
 use Rattle.ifdb_model.specs.server.Log.{Entry, changes, commits, all_tags, content_of, written_of}
 use Rattle.ifdb_model.specs.server.Session.{Txn, Session, in_txn, seen_in, seen}
 use Rattle.ifdb_model.specs.server.Writes.{Written, writes_of}
-use Rattle.ifdb_model.specs.server.Step.{Outcome, is_empty}
+use Rattle.ifdb_model.specs.server.Step.{Reader, Outcome, is_empty, ask}
 use Rattle.ifdb_model.specs.server.Low.{is_inside_slot}
 use Rattle.ifdb_laws.proofs.server.Shapes.{IsWrite, Shape, stayed, greeted_as, relabelled_to, begun, ended, published, joined, wrote, done}
 use Rattle.ifdb_laws.proofs.server.Statements.{put_all}
 use Rattle.ifdb_laws.proofs.server.Sided.{written_all}
 use Rattle.ifdb_laws.proofs.server.Logs.{all_commits, txn_all, begins_within, tags_split}
+
+-- how many tags a log makes
+abbrev pub tag_count : List Entry → ℕ
+tag_count log = length (all_tags log)
+
+-- a slot is inside, by the tags of a log
+abbrev pub side_by : List Entry → List ℕ → Slot → Bool
+side_by log level = is_inside_slot (all_tags log) level
+
+-- a session is inside
+abbrev pub is_in : List Entry → List ℕ → Session → Bool
+is_in log level s = flows (all_tags log) s.label level
+
+-- what a bound request writes, over what its session sees
+abbrev pub writes_by : List Entry → Session → ℕ → Bound → Result Written Fault
+writes_by log s asker b = writes_of (seen log s).public asker (seen log s).rows s.label b
+
+-- what a line adds to the log, and the log after it
+abbrev pub added_by : Reader → List Entry → Session → List ℕ → List Entry
+added_by read log s line = option_to_list (ask read log s line).added
+
+abbrev pub log_after : Reader → List Entry → Session → List ℕ → List Entry
+log_after read log s line = log ++ added_by read log s line
 
 -- ---- own writes and the writes of a commit pass what the own writes before and the new ones pass
 
@@ -48,13 +71,16 @@ outcome_all q o = txn_all (list_all q) o.session.txn && all_commits (list_all q)
 
 -- what the line writes, if it asks for a write, passes
 abbrev pub PassesWrites : (Write → Bool) → List Entry → Session → Result Request Fault → Type 0
-PassesWrites q log s line = (asker : ℕ) (r : Request) (b : Bound) → IsWrite log s line asker r b → written_all q (writes_of (seen log s).public asker (seen log s).rows s.label b) ≡ true
+PassesWrites q log s line =
+    (asker : ℕ) (r : Request) (b : Bound) → IsWrite log s line asker r b → written_all q (writes_by log s asker b) ≡ true
 
-module _ (q : Write → Bool) (log : List Entry) (s : Session) (line : Result Request Fault) (own : txn_all (list_all q) s.txn ≡ true) (new : PassesWrites q log s line) where
+module _ (q : Write → Bool) (log : List Entry) (s : Session) (line : Result Request Fault) (own : txn_all (list_all q) s.txn ≡ true)
+    (new : PassesWrites q log s line) where
   own_writes : (x : Txn) → s.txn ≡ Some x → list_all q x.own ≡ true
   own_writes x t = sym (ap (txn_all (list_all q)) t) ∙ own
 
-  new_writes : (asker : ℕ) (r : Request) (b : Bound) (w : Written) → IsWrite log s line asker r b → writes_of (seen log s).public asker (seen log s).rows s.label b ≡ Ok w → list_all q w.writes ≡ true
+  new_writes : (asker : ℕ) (r : Request) (b : Bound) (w : Written) → IsWrite log s line asker r b
+      → writes_by log s asker b ≡ Ok w → list_all q w.writes ≡ true
   new_writes asker r b w i e = ap (written_all q) (sym e) ∙ new asker r b i
 
   pub outcome_writes : (o : Outcome) → Shape log s line o → outcome_all q o ≡ true
@@ -64,7 +90,8 @@ module _ (q : Write → Bool) (log : List Entry) (s : Session) (line : Result Re
   outcome_writes o (begun t) = refl
   outcome_writes o (ended b r) = refl
   outcome_writes o (published asker r c t i e p) = grind (arith, nat_tests)
-  outcome_writes o (joined asker r b x w i t e) = let all = merged_all q x.own w.writes (own_writes x t) (new_writes asker r b w i e) in grind (arith, nat_tests)
+  outcome_writes o (joined asker r b x w i t e) =
+      let all = merged_all q x.own w.writes (own_writes x t) (new_writes asker r b w i e) in grind (arith, nat_tests)
   outcome_writes o (wrote asker r b w i t e d) = let all = new_writes asker r b w i e in grind (arith, nat_tests)
   outcome_writes o (done x t j) = let all = own_writes x t in grind (arith, nat_tests)
 
@@ -100,27 +127,28 @@ pub record IsTidy (n tags : ℕ) (o : Outcome) : Type 0 where
   pub label_made : are_made tags o.session.label ≡ true
 
 pub more_made : (n m : ℕ) (label : List ℕ) → n ≤ m → are_made n label ≡ true → are_made m label ≡ true
-more_made n m label le h = all_from (λ t. Rattle.std.proofs.Common.ltb t n) (λ t. Rattle.std.proofs.Common.ltb t m) label (λ t e. let lt = ltb-true t n e in lt-ltb t m (omega arith)) h
+more_made n m label le h =
+    all_from (λ t. ltb t n) (λ t. ltb t m) label (λ t e. let lt = ltb-true t n e in lt-ltb t m (omega arith)) h
 
-older_tags : (n : ℕ) (log : List Entry) → length (all_tags (take n log)) ≤ length (all_tags log)
+older_tags : (n : ℕ) (log : List Entry) → length (all_tags (take n log)) ≤ tag_count log
 older_tags n log = rw (tags_split n log) (simp length-append (omega arith))
 
-seen_tags : (log : List Entry) (o : Option Txn) → length (tags_of (seen_in log o).public) ≤ length (all_tags log)
+seen_tags : (log : List Entry) (o : Option Txn) → length (tags_of (seen_in log o).public) ≤ tag_count log
 seen_tags log None = omega arith
 seen_tags log (Some x) = older_tags x.begin log
 
-module _ (log : List Entry) (s : Session) (line : Result Request Fault) (begins : begins_within (length log) s.txn ≡ true) (made : are_made (length (all_tags log)) s.label ≡ true) where
-  at_now : (x : Option Txn) → s.txn ≡ x → in_txn s.txn ≡ in_txn x
-  at_now x t = ap in_txn t
-
-  pub outcome_tidy : (o : Outcome) → Shape log s line o → IsTidy (length log) (length (all_tags log)) o
+module _ (log : List Entry) (s : Session) (line : Result Request Fault) (begins : begins_within (length log) s.txn ≡ true)
+    (made : are_made (tag_count log) s.label ≡ true) where
+  pub outcome_tidy : (o : Outcome) → Shape log s line o → IsTidy (length log) (tag_count log) o
   outcome_tidy o (stayed r) = record { begins = begins; free = refl; entry_made = refl; label_made = made }
   outcome_tidy o (greeted_as n) = record { begins = begins; free = refl; entry_made = refl; label_made = made }
   outcome_tidy o (relabelled_to asker r label e h) = record {
     begins = begins;
     free = refl;
     entry_made = refl;
-    label_made = more_made (length (tags_of (seen log s).public)) (length (all_tags log)) label (seen_tags log s.txn) (made_by_binding.label_made (seen log s).public asker r label e);
+    label_made =
+        more_made (length (tags_of (seen log s).public)) (tag_count log) label (seen_tags log s.txn)
+        (made_by_binding.label_made (seen log s).public asker r label e);
   }
   outcome_tidy o (begun t) = record { begins = grind (arith, nat_tests); free = refl; entry_made = refl; label_made = made }
   outcome_tidy o (ended b r) = record { begins = refl; free = refl; entry_made = refl; label_made = made }
@@ -130,7 +158,8 @@ module _ (log : List Entry) (s : Session) (line : Result Request Fault) (begins 
     entry_made = ap (λ x. is_made_change (length (tags_of (seen_in log x).public)) c) (sym t) ∙ change_made (seen log s).public asker r c e;
     label_made = made;
   }
-  outcome_tidy o (joined asker r b x w i t e) = record { begins = sym (ap (begins_within (length log)) t) ∙ begins; free = refl; entry_made = refl; label_made = made }
+  outcome_tidy o (joined asker r b x w i t e) =
+      record { begins = sym (ap (begins_within (length log)) t) ∙ begins; free = refl; entry_made = refl; label_made = made }
   outcome_tidy o (wrote asker r b w i t e d) = record { begins = begins; free = ap (λ x. not (in_txn x)) t; entry_made = refl; label_made = made }
   outcome_tidy o (done x t j) = record { begins = refl; free = refl; entry_made = refl; label_made = made }
 
@@ -143,18 +172,18 @@ is_hidden side (Some (changes c)) = false
 is_hidden side (Some (commits ws)) = are_on (λ s. not (side s)) ws
 
 module _ (level : List ℕ) (log : List Entry) (s : Session) (line : Result Request Fault)
-    (trans : (a b c : List ℕ) → flows (all_tags log) a b ≡ true → flows (all_tags log) b c ≡ true → flows (all_tags log) a c ≡ true) (out : flows (all_tags log) s.label level ≡ false)
-    (new : PassesWrites (λ (w : Write). not (is_inside_slot (all_tags log) level w.slot)) log s line) where
+    (trans : (a b c : List ℕ) → flows (all_tags log) a b ≡ true → flows (all_tags log) b c ≡ true → flows (all_tags log) a c ≡ true)
+    (out : is_in log level s ≡ false) (new : PassesWrites (λ (w : Write). not (side_by log level w.slot)) log s line) where
   empty_inside : (label : List ℕ) → is_empty label ≡ true → flows (all_tags log) label level ≡ true
   empty_inside [] e = refl
   empty_inside (t ∷ ts) e = absurd (false≢true e)
 
   -- what lies above a label outside is outside
-  above_outside : (ws : List Write) → list_any (is_above (all_tags log) s.label) ws ≡ false → are_on (λ p. not (is_inside_slot (all_tags log) level p)) ws ≡ true
+  above_outside : (ws : List Write) → list_any (is_above (all_tags log) s.label) ws ≡ false → are_on (λ p. not (side_by log level p)) ws ≡ true
   above_outside [] h = refl
   above_outside (w ∷ ws) h = grind (arith, nat_tests, above_outside ws, trans s.label w.slot.label level)
 
-  pub outcome_hidden : (o : Outcome) → Shape log s line o → is_hidden (is_inside_slot (all_tags log) level) o.added ≡ true
+  pub outcome_hidden : (o : Outcome) → Shape log s line o → is_hidden (side_by log level) o.added ≡ true
   outcome_hidden o (stayed r) = refl
   outcome_hidden o (greeted_as n) = refl
   outcome_hidden o (relabelled_to asker r label e h) = refl
@@ -162,5 +191,5 @@ module _ (level : List ℕ) (log : List Entry) (s : Session) (line : Result Requ
   outcome_hidden o (ended b r) = refl
   outcome_hidden o (published asker r c t i e p) = absurd (false≢true (sym out ∙ empty_inside s.label i))
   outcome_hidden o (joined asker r b x w i t e) = refl
-  outcome_hidden o (wrote asker r b w i t e d) = ap (written_all (λ (v : Write). not (is_inside_slot (all_tags log) level v.slot))) (sym e) ∙ new asker r b i
+  outcome_hidden o (wrote asker r b w i t e d) = ap (written_all (λ (v : Write). not (side_by log level v.slot))) (sym e) ∙ new asker r b i
   outcome_hidden o (done x t j) = above_outside x.own (go_is_above (all_tags log) (content_of log) (written_of (drop x.begin log)) x.own s.label j)

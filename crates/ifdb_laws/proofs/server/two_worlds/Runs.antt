@@ -14,15 +14,15 @@ use Rattle.ifdb_wire.specs.declared.reply.Reply.TheVariants as reply
 use Rattle.ifdb_catalog.specs.Public.{tags_of}
 use Rattle.ifdb_model.specs.server.Log.{Entry, all_tags}
 use Rattle.ifdb_model.specs.server.Session.{Txn, Session, new_session, closed, in_txn, Seen, seen}
-use Rattle.ifdb_model.specs.server.Step.{Reader, Outcome, ask}
+use Rattle.ifdb_model.specs.server.Step.{Reader, Outcome, refuses, ask}
 use Rattle.ifdb_model.specs.server.Run.{State, opening, session_of, Step, opens, asks, refused, long, stray, leaves, with_outcome, with_session, next, Told, tell, told, run, replies}
 use Rattle.ifdb_model.specs.server.Low.{keep, reindex, shown, Part, part, is_inside, asked, low, heard}
 use Rattle.ifdb_model.specs.server.Crossing.{crosses_by, crosses_at, crosses, quiet}
 use Rattle.ifdb_laws.specs.server.TwoWorlds.{IsAlike, TwoWorlds, AloneIsHeard, AloneEndsAlike, OutsideStep, InsideStep}
 use Rattle.ifdb_laws.proofs.server.Logs.{public_keep, new_tags, tags_append}
 use Rattle.ifdb_laws.proofs.server.Alike.{reindexed, names_by, ask_alike, same_seen}
-use Rattle.ifdb_laws.proofs.server.two_worlds.Outcomes.{is_free}
-use Rattle.ifdb_laws.proofs.server.two_worlds.Sound.{log_after, line_tidy, session_sound, run_sound, opening_sound}
+use Rattle.ifdb_laws.proofs.server.two_worlds.Outcomes.{is_in, is_free}
+use Rattle.ifdb_laws.proofs.server.two_worlds.Sound.{line_tidy, session_sound, run_sound, opening_sound}
 use Rattle.ifdb_laws.proofs.server.two_worlds.Facts.{Facts, session_fits, next_facts, opening_facts, run_facts}
 use Rattle.ifdb_laws.proofs.server.two_worlds.Parts.{sessions_later, keep_later, step_outside, part_session, part_asked, asked_is, shown_inside}
 
@@ -79,7 +79,7 @@ names_are tags level log s None r h = refl
 names_are tags level log s (Some asker) (Err f) h = refl
 names_are tags level log s (Some asker) (Ok r) h = rw h refl
 
-crosses_names : (read : Reader) (level : List ℕ) (log : List Entry) (s : Session) (line : List ℕ) → flows (all_tags log) s.label level ≡ true
+crosses_names : (read : Reader) (level : List ℕ) (log : List Entry) (s : Session) (line : List ℕ) → is_in log level s ≡ true
     → crosses_at read level log s line ≡ names_by (all_tags log) level (seen log s).public s.principal (read line)
 crosses_names read level log s line h = let one = names_are (all_tags log) level log s s.principal (read line) h in grind (arith, nat_tests)
 
@@ -87,72 +87,90 @@ crosses_names read level log s line h = let one = names_are (all_tags log) level
 free_reindex : (tags : List MadeTag) (level : List ℕ) (log : List Entry) (o : Outcome) → is_free o ≡ true
     → reindex (tags ++ new_tags (option_to_list o.added)) level (log ++ option_to_list o.added) o.session ≡ reindex tags level log o.session
 free_reindex tags level log o h = by o.session o.added o.session.txn refl h where
-  by : (s : Session) (a : Option Entry) (x : Option Txn) → s.txn ≡ x → is_none a || not (in_txn s.txn) ≡ true → reindex (tags ++ new_tags (option_to_list a)) level (log ++ option_to_list a) s ≡ reindex tags level log s
+  by : (s : Session) (a : Option Entry) (x : Option Txn) → s.txn ≡ x → is_none a || not (in_txn s.txn) ≡ true
+      → reindex (tags ++ new_tags (option_to_list a)) level (log ++ option_to_list a) s ≡ reindex tags level log s
   by s None x e h = λ i. reindex (append-nil tags i) level (append-nil log i) s
   by s (Some a) None e h = rw e refl
   by s (Some a) (Some x) e h = absurd (false≢true (rw e at h))
 
 module _ (read : Reader) (level : List ℕ) (st : State) (f : Facts level st) where
+  -- a session beside the smaller log, and what its line comes to
+  abbrev inner : ℕ → Session
+  inner n = reindex (all_tags st.log) level st.log (session_of st n)
+
+  abbrev outcome : ℕ → List ℕ → Outcome
+  outcome n line = ask read st.log (session_of st n) line
+
   part_tags : all_tags (part level st).log ≡ all_tags st.log
   part_tags = ap tags_of (public_keep (all_tags st.log) level st.log)
 
   same_ask : (n : ℕ) (line : List ℕ) → is_inside level st n ≡ true → crosses_at read level st.log (session_of st n) line ≡ false
-      → ask read (part level st).log (reindex (all_tags st.log) level st.log (session_of st n)) line ≡ reindexed (all_tags st.log) level st.log (ask read st.log (session_of st n) line)
+      → ask read (part level st).log (inner n) line ≡ reindexed (all_tags st.log) level st.log (outcome n line)
   same_ask n line h q =
       ask_alike level st.log (session_of st n) (session_fits level st f n h) h read line (sym (crosses_names read level st.log (session_of st n) line h) ∙ q)
 
   landed_is : (n : ℕ) (line : List ℕ) → is_inside level st n ≡ true → crosses_at read level st.log (session_of st n) line ≡ false
-      → part level (with_outcome st n (ask read st.log (session_of st n) line)) ≡ landed level (part level st) n (reindexed (all_tags st.log) level st.log (ask read st.log (session_of st n) line))
+      → part level (with_outcome st n (outcome n line)) ≡ landed level (part level st) n (reindexed (all_tags st.log) level st.log (outcome n line))
   landed_is n line h q =
       let s = session_of st n in
-      let o = ask read st.log s line in
+      let o = outcome n line in
       let more = option_to_list o.added in
       let tags = all_tags st.log in
       let l = f.sound.sound_log in
+      let free = free_reindex tags level st.log o (line_tidy st.log s l (session_sound st f.sound n) read line).free in
       let back : tags ++ new_tags more ≡ all_tags (part level st).log ++ new_tags more = ap (λ u. u ++ new_tags more) (sym part_tags) in
       let logs = keep_later level st.log more l ∙ ap (λ u. keep tags level st.log ++ keep u level more) back in
-      let show = shown (all_tags (log_after st.log o)) level (log_after st.log o) in
-      let here : show o.session ≡ cond (flows (all_tags (part level st).log ++ new_tags more) o.session.label level) (Some (reindex tags level st.log o.session)) None =
-      ap (λ u. shown u level (st.log ++ more) o.session) (tags_append st.log more)
-      ∙ (λ i. cond (flows (back i) o.session.label level) (Some (free_reindex tags level st.log o (line_tidy st.log s l (session_sound st f.sound n) read line).free i)) None) in
-      λ i. record { log = logs i; sessions = (map-set show st.sessions (n - 1) o.session ∙ (λ j. set (sessions_later level st f.sound more j) (n - 1) (here j))) i }
+      let show = shown (all_tags (st.log ++ more)) level (st.log ++ more) in
+      let here = ap (λ u. shown u level (st.log ++ more) o.session) (tags_append st.log more)
+      ∙ (λ i. cond (flows (back i) o.session.label level) (Some (free i)) None) in
+      let sessions = map-set show st.sessions (n - 1) o.session ∙ (λ j. set (sessions_later level st f.sound more j) (n - 1) (here j)) in
+      λ i. record { log = logs i; sessions = sessions i }
 
-  asked_inside : (n : ℕ) (line : List ℕ) → is_inside level st n ≡ true → crosses read level st (asks n line) ≡ false → part level (next read st (asks n line)) ≡ part_next read level (part level st) (asks n line)
+  asked_inside : (n : ℕ) (line : List ℕ) → is_inside level st n ≡ true → crosses read level st (asks n line) ≡ false
+      → part level (next read st (asks n line)) ≡ part_next read level (part level st) (asks n line)
   asked_inside n line h q = by (session_of st n).is_open refl ∙ ap (part_ask read level (part level st) n line) (sym (shown_inside level st n h)) where
-    by : (b : Bool) → (session_of st n).is_open ≡ b → part level (cond b (with_outcome st n (ask read st.log (session_of st n) line)) st)
-        ≡ cond b (landed level (part level st) n (ask read (part level st).log (reindex (all_tags st.log) level st.log (session_of st n)) line)) (part level st)
-    by true e = let c : crosses_at read level st.log (session_of st n) line ≡ false = rw e at q in landed_is n line h c ∙ ap (landed level (part level st) n) (sym (same_ask n line h c))
+    by : (b : Bool) → (session_of st n).is_open ≡ b → part level (cond b (with_outcome st n (outcome n line)) st)
+        ≡ cond b (landed level (part level st) n (ask read (part level st).log (inner n) line)) (part level st)
+    by true e =
+        let c : crosses_at read level st.log (session_of st n) line ≡ false = rw e at q in
+        landed_is n line h c ∙ ap (landed level (part level st) n) (sym (same_ask n line h c))
     by false e = refl
 
-  told_inside : (n : ℕ) (line : List ℕ) → is_inside level st n ≡ true → crosses read level st (asks n line) ≡ false → told read st (asks n line) ≡ part_told read (part level st) (asks n line)
+  told_inside : (n : ℕ) (line : List ℕ) → is_inside level st n ≡ true → crosses read level st (asks n line) ≡ false
+      → told read st (asks n line) ≡ part_told read (part level st) (asks n line)
   told_inside n line h q = ap (tell n) (by (session_of st n).is_open refl ∙ ap (part_reply read (part level st) line) (sym (shown_inside level st n h))) where
-    by : (b : Bool) → (session_of st n).is_open ≡ b → (cond b (ask read st.log (session_of st n) line) (Rattle.ifdb_model.specs.server.Step.refuses (session_of st n) fault.NoSession)).reply
-        ≡ cond b (ask read (part level st).log (reindex (all_tags st.log) level st.log (session_of st n)) line).reply (reply.Refused fault.NoSession)
+    by : (b : Bool) → (session_of st n).is_open ≡ b → (cond b (outcome n line) (refuses (session_of st n) fault.NoSession)).reply
+        ≡ cond b (ask read (part level st).log (inner n) line).reply (reply.Refused fault.NoSession)
     by true e = let c : crosses_at read level st.log (session_of st n) line ≡ false = rw e at q in ap (λ (o : Outcome). o.reply) (sym (same_ask n line h c))
     by false e = refl
 
-  crosses_inside : (n : ℕ) (line : List ℕ) → is_inside level st n ≡ true → crosses read level st (asks n line) ≡ part_crosses read level (part level st) (asks n line)
+  crosses_inside : (n : ℕ) (line : List ℕ) → is_inside level st n ≡ true
+      → crosses read level st (asks n line) ≡ part_crosses read level (part level st) (asks n line)
   crosses_inside n line h = by (session_of st n).is_open ∙ ap (crosses_in read level (part level st) line) (sym (shown_inside level st n h)) where
-    same_public : (seen (part level st).log (reindex (all_tags st.log) level st.log (session_of st n))).public ≡ (seen st.log (session_of st n)).public
+    same_public : (seen (part level st).log (inner n)).public ≡ (seen st.log (session_of st n)).public
     same_public = ap (λ (x : Seen). x.public) (same_seen level st.log (session_of st n) (session_fits level st f n h) h)
 
     by : (b : Bool) → cond b (crosses_at read level st.log (session_of st n) line) false
-        ≡ cond b (names_by (all_tags (part level st).log) level (seen (part level st).log (reindex (all_tags st.log) level st.log (session_of st n))).public (session_of st n).principal (read line)) false
-    by true = crosses_names read level st.log (session_of st n) line h ∙ (λ i. names_by (sym part_tags i) level (sym same_public i) (session_of st n).principal (read line))
+        ≡ cond b (names_by (all_tags (part level st).log) level (seen (part level st).log (inner n)).public (session_of st n).principal (read line)) false
+    by true =
+        crosses_names read level st.log (session_of st n) line h
+        ∙ (λ i. names_by (sym part_tags i) level (sym same_public i) (session_of st n).principal (read line))
     by false = refl
 
   left_inside : (n : ℕ) → is_inside level st n ≡ true → part level (next read st (leaves n)) ≡ part_next read level (part level st) (leaves n)
   left_inside n h = by (session_of st n).is_open ∙ ap (part_leave (part level st) n) (sym (shown_inside level st n h)) where
     by : (b : Bool) → part level (cond b (with_session st n (closed (session_of st n))) st)
-        ≡ cond b (record { log = (part level st).log; sessions = set (part level st).sessions (n - 1) (Some (closed (reindex (all_tags st.log) level st.log (session_of st n)))) }) (part level st)
+        ≡ cond b (record { log = (part level st).log; sessions = set (part level st).sessions (n - 1) (Some (closed (inner n))) }) (part level st)
     by true =
         let show = shown (all_tags st.log) level st.log in
-        let here : show (closed (session_of st n)) ≡ Some (closed (reindex (all_tags st.log) level st.log (session_of st n))) = rw h refl in
-        λ i. record { log = keep (all_tags st.log) level st.log; sessions = (map-set show st.sessions (n - 1) (closed (session_of st n)) ∙ ap (set (map show st.sessions) (n - 1)) here) i }
+        let here : show (closed (session_of st n)) ≡ Some (closed (inner n)) = rw h refl in
+        let sessions = map-set show st.sessions (n - 1) (closed (session_of st n)) ∙ ap (set (map show st.sessions) (n - 1)) here in
+        λ i. record { log = keep (all_tags st.log) level st.log; sessions = sessions i }
     by false = refl
 
   next_in_part : (x : Step) → asked level st x ≡ true → crosses read level st x ≡ false → part level (next read st x) ≡ part_next read level (part level st) x
-  next_in_part opens h q = λ i. record { log = keep (all_tags st.log) level st.log; sessions = map-append (shown (all_tags st.log) level st.log) st.sessions (new_session ∷ []) i }
+  next_in_part opens h q =
+      λ i. record { log = keep (all_tags st.log) level st.log; sessions = map-append (shown (all_tags st.log) level st.log) st.sessions (new_session ∷ []) i }
   next_in_part (asks n line) h q = asked_inside n line h q
   next_in_part (refused n) h q = refl
   next_in_part long h q = refl
@@ -177,7 +195,8 @@ module _ (read : Reader) (level : List ℕ) (st : State) (f : Facts level st) wh
 
 -- ---- over equal parts
 
-step_inside : (read : Reader) (level : List ℕ) (s t : State) (x : Step) → Facts level s → Facts level t → part level s ≡ part level t → asked level s x ≡ true → crosses read level s x ≡ false → IsAlike read level s t x
+step_inside : (read : Reader) (level : List ℕ) (s t : State) (x : Step) → Facts level s → Facts level t → part level s ≡ part level t → asked level s x ≡ true
+    → crosses read level s x ≡ false → IsAlike read level s t x
 step_inside read level s t x f g e h q =
     let a = asked_is level t x ∙ ap (λ p. part_asked p x) (sym e) ∙ sym (asked_is level s x) ∙ h in
     let c = crosses_in_part read level t g x a ∙ ap (λ p. part_crosses read level p x) (sym e) ∙ sym (crosses_in_part read level s f x h) ∙ q in
@@ -193,7 +212,9 @@ outside_leaves_part read level steps x h q = step_outside read level (run read o
 
 pub inside_is_alike : InsideStep
 inside_is_alike read level xs ys x q r e h c =
-    step_inside read level (run read opening xs) (run read opening ys) x (run_facts read level opening xs (opening_facts level) q) (run_facts read level opening ys (opening_facts level) r) e h c
+    let f = run_facts read level opening xs (opening_facts level) q in
+    let g = run_facts read level opening ys (opening_facts level) r in
+    step_inside read level (run read opening xs) (run read opening ys) x f g e h c
 
 -- ---- the steps inside, run alone from a state with an equal part
 
@@ -201,22 +222,26 @@ record Alone (read : Reader) (level : List ℕ) (s t : State) (steps : List Step
   pub same_told : replies read t (low read level s steps) ≡ heard read level s steps
   pub same_end : part level (run read t (low read level s steps)) ≡ part level (run read s steps)
 
-by_step : (read : Reader) (level : List ℕ) (s t : State) (x : Step) (steps : List Step) (b : Bool) → asked level s x ≡ b → Facts level s → Facts level t → part level s ≡ part level t → crosses read level s x ≡ false
+by_step : (read : Reader) (level : List ℕ) (s t : State) (x : Step) (steps : List Step) (b : Bool) → asked level s x ≡ b → Facts level s → Facts level t
+    → part level s ≡ part level t → crosses read level s x ≡ false
     → ((u : State) → Facts level u → part level (next read s x) ≡ part level u → Alone read level (next read s x) u steps) → Alone read level s t (x ∷ steps)
 by_step read level s t x steps true h f g e q rest =
     let a = step_inside read level s t x f g e h q in
     let more = rest (next read t x) (next_facts read level t x g a.quiet_second) a.same_part in
-    let told_same : replies read t (x ∷ low read level (next read s x) steps) ≡ told read s x ++ heard read level (next read s x) steps = λ i. sym a.same_told i ++ more.same_told i in
-    record { same_told = rw h told_same; same_end = rw h more.same_end }
+    let same : replies read t (x ∷ low read level (next read s x) steps) ≡ told read s x ++ heard read level (next read s x) steps =
+    λ i. sym a.same_told i ++ more.same_told i in
+    record { same_told = rw h same; same_end = rw h more.same_end }
 by_step read level s t x steps false h f g e q rest =
     let more = rest t g (step_outside read level s x f.sound h q ∙ e) in
     record { same_told = rw h more.same_told; same_end = rw h more.same_end }
 
-alone_from : (read : Reader) (level : List ℕ) (s t : State) (steps : List Step) → Facts level s → Facts level t → part level s ≡ part level t → quiet read level s steps ≡ true → Alone read level s t steps
+alone_from : (read : Reader) (level : List ℕ) (s t : State) (steps : List Step) → Facts level s → Facts level t → part level s ≡ part level t
+    → quiet read level s steps ≡ true → Alone read level s t steps
 alone_from read level s t [] f g e q = record { same_told = refl; same_end = sym e }
 alone_from read level s t (x ∷ steps) f g e q =
     let parts : (crosses read level s x ≡ false) × (quiet read level (next read s x) steps ≡ true) = grind (arith, nat_tests) in
-    by_step read level s t x steps (asked level s x) refl f g e parts.0 (λ u k d. alone_from read level (next read s x) u steps (next_facts read level s x f parts.0) k d parts.1)
+    by_step read level s t x steps (asked level s x) refl f g e parts.0
+    (λ u k d. alone_from read level (next read s x) u steps (next_facts read level s x f parts.0) k d parts.1)
 
 alone : (read : Reader) (level : List ℕ) (steps : List Step) → quiet read level opening steps ≡ true → Alone read level opening opening steps
 alone read level steps q = alone_from read level opening opening steps (opening_facts level) (opening_facts level) refl q
@@ -228,4 +253,5 @@ pub alone_ends_alike : AloneEndsAlike
 alone_ends_alike read level steps q = (alone read level steps q).same_end
 
 pub heard_alike : TwoWorlds
-heard_alike read level xs ys a = sym (alone_is_heard read level xs a.first_quiet) ∙ ap (replies read opening) a.same_low ∙ alone_is_heard read level ys a.second_quiet
+heard_alike read level xs ys a =
+    sym (alone_is_heard read level xs a.first_quiet) ∙ ap (replies read opening) a.same_low ∙ alone_is_heard read level ys a.second_quiet

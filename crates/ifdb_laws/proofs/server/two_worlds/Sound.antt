@@ -20,15 +20,15 @@ use Rattle.ifdb_syntax.specs.declared.request.Request.{Request}
 use Rattle.ifdb_wire.specs.declared.fault.Fault.{Fault}
 use Rattle.ifdb_model.specs.server.Log.{Entry, changes, commits, all_tags, commits_of}
 use Rattle.ifdb_model.specs.server.Session.{Txn, Session, new_session, no_session, closed, seen}
-use Rattle.ifdb_model.specs.server.Writes.{Written, writes_of}
-use Rattle.ifdb_model.specs.server.Step.{Reader, Outcome, ask}
+use Rattle.ifdb_model.specs.server.Writes.{Written}
+use Rattle.ifdb_model.specs.server.Step.{Reader, ask}
 use Rattle.ifdb_model.specs.server.Run.{State, opening, session_of, Step, opens, asks, refused, long, stray, leaves, with_outcome, with_session, next, run}
 use Rattle.ifdb_laws.proofs.server.Shapes.{shape}
 use Rattle.ifdb_laws.proofs.server.Statements.{is_good, writes_good}
 use Rattle.ifdb_laws.proofs.server.Sided.{is_whole, is_whole_write, written_all, writes_from_rows}
 use Rattle.ifdb_laws.proofs.server.Logs.{all_commits, all_commits_append, txn_all, begins_within, is_made_slot, seen_all, new_tags, tags_append}
 use Rattle.ifdb_laws.proofs.server.rows.Runs.{session_has}
-use Rattle.ifdb_laws.proofs.server.two_worlds.Outcomes.{outcome_writes, PassesWrites, is_made_entry, IsTidy, more_made, outcome_tidy}
+use Rattle.ifdb_laws.proofs.server.two_worlds.Outcomes.{tag_count, writes_by, added_by, log_after, outcome_writes, PassesWrites, is_made_entry, IsTidy, more_made, outcome_tidy}
 
 -- of so many tags: the write fits its slot, and the labels of the slot and of the row's parents are made
 abbrev pub is_sound_write : ℕ → Write → Bool
@@ -39,17 +39,17 @@ are_sound n ws = list_all (is_sound_write n) ws
 
 pub record SoundLog (log : List Entry) : Type 0 where
   pub formed : AreWellFormed (all_tags log)
-  pub writes : all_commits (are_sound (length (all_tags log))) log ≡ true
+  pub writes : all_commits (are_sound (tag_count log)) log ≡ true
 
--- a session beside a log with so many tags and entries
-pub record SoundSession (tags entries : ℕ) (s : Session) : Type 0 where
-  pub label_made : are_made tags s.label ≡ true
-  pub own : txn_all (are_sound tags) s.txn ≡ true
-  pub begins : begins_within entries s.txn ≡ true
+-- a session beside a log
+pub record SoundSession (log : List Entry) (s : Session) : Type 0 where
+  pub label_made : are_made (tag_count log) s.label ≡ true
+  pub own : txn_all (are_sound (tag_count log)) s.txn ≡ true
+  pub begins : begins_within (length log) s.txn ≡ true
 
 pub record Sound (st : State) : Type 0 where
   pub sound_log : SoundLog st.log
-  pub sound_sessions : All (SoundSession (length (all_tags st.log)) (length st.log)) st.sessions
+  pub sound_sessions : All (SoundSession st.log) st.sessions
 
 -- ---- parts of a sound write
 
@@ -63,7 +63,8 @@ pub sound_rows : (n : ℕ) (ws : List Write) → are_sound n ws ≡ true → lis
 sound_rows n ws h = all_from (is_sound_write n) (is_whole_write (is_made_slot n)) ws (λ w e. grind (arith, nat_tests)) h
 
 -- each commit, and each open transaction
-pub commits_from : (f g : List Write → Bool) → ((ws : List Write) → f ws ≡ true → g ws ≡ true) → (log : List Entry) → all_commits f log ≡ true → all_commits g log ≡ true
+pub commits_from : (f g : List Write → Bool) → ((ws : List Write) → f ws ≡ true → g ws ≡ true) → (log : List Entry) → all_commits f log ≡ true
+    → all_commits g log ≡ true
 commits_from f g h log = all_from f g (commits_of log) h
 
 pub txn_from : (f g : List Write → Bool) → ((ws : List Write) → f ws ≡ true → g ws ≡ true) → (o : Option Txn) → txn_all f o ≡ true → txn_all g o ≡ true
@@ -98,29 +99,28 @@ more_begins : (n m : ℕ) (o : Option Txn) → n ≤ m → begins_within n o ≡
 more_begins n m None le h = refl
 more_begins n m (Some x) le h = let a = leb-true x.begin n h in le-leb x.begin m (omega arith)
 
-pub more_sound_session : (n m i j : ℕ) → n ≤ m → i ≤ j → (s : Session) → SoundSession n i s → SoundSession m j s
-more_sound_session n m i j le ge s k = record {
-  label_made = more_made n m s.label le k.label_made;
-  own = txn_from (are_sound n) (are_sound m) (more_sound n m le) s.txn k.own;
-  begins = more_begins i j s.txn ge k.begins;
-}
-
 -- ---- a line
 
--- the log after a line
-abbrev pub log_after : List Entry → Outcome → List Entry
-log_after log o = log ++ option_to_list o.added
-
-pub more_tags : (log more : List Entry) → length (all_tags log) ≤ length (all_tags (log ++ more))
+pub more_tags : (log more : List Entry) → tag_count log ≤ length (all_tags (log ++ more))
 more_tags log more = rw (tags_append log more) (simp length-append (omega arith))
 
 pub more_entries : (log more : List Entry) → length log ≤ length (log ++ more)
 more_entries log more = simp length-append (omega arith)
 
+-- a session beside a longer log
+pub later_sound : (log more : List Entry) (s : Session) → SoundSession log s → SoundSession (log ++ more) s
+later_sound log more s k = record {
+  label_made = more_made (tag_count log) (tag_count (log ++ more)) s.label (more_tags log more) k.label_made;
+  own = txn_from (are_sound (tag_count log)) (are_sound (tag_count (log ++ more)))
+      (more_sound (tag_count log) (tag_count (log ++ more)) (more_tags log more)) s.txn k.own;
+  begins = more_begins (length log) (length (log ++ more)) s.txn (more_entries log more) k.begins;
+}
+
 no_new : (tags : List MadeTag) → AreWellFormed tags → AreWellFormed (tags ++ [])
 no_new tags w = rw append-nil w
 
-formed_after : (tags : List MadeTag) (o : Option Entry) → AreWellFormed tags → is_made_entry (length tags) o ≡ true → AreWellFormed (tags ++ new_tags (option_to_list o))
+formed_after : (tags : List MadeTag) (o : Option Entry) → AreWellFormed tags → is_made_entry (length tags) o ≡ true
+    → AreWellFormed (tags ++ new_tags (option_to_list o))
 formed_after tags None w h = no_new tags w
 formed_after tags (Some (commits ws)) w h = no_new tags w
 formed_after tags (Some (changes (change.Principal asker name key))) w h = no_new tags w
@@ -131,82 +131,88 @@ formed_after tags (Some (changes (change.Grant asker tag to))) w h = no_new tags
 formed_after tags (Some (changes (change.Revoke asker tag from))) w h = no_new tags w
 
 -- what fits, has a made slot and whole rows, is sound
-sound_from : (n : ℕ) (o : Result Written Fault) → is_good (is_made_slot n) o ≡ true → written_all (is_whole_write (is_made_slot n)) o ≡ true → written_all (is_sound_write n) o ≡ true
+sound_from : (n : ℕ) (o : Result Written Fault) → is_good (is_made_slot n) o ≡ true → written_all (is_whole_write (is_made_slot n)) o ≡ true
+    → written_all (is_sound_write n) o ≡ true
 sound_from n (Err f) h k = refl
 sound_from n (Ok x) h k =
     let parts : (are_fitting x.writes ≡ true) × (are_on (is_made_slot n) x.writes ≡ true) = grind (arith, nat_tests) in
     each x.writes parts.0 parts.1 k where
-      each : (ws : List Write) → are_fitting ws ≡ true → are_on (is_made_slot n) ws ≡ true → list_all (is_whole_write (is_made_slot n)) ws ≡ true → are_sound n ws ≡ true
+      each : (ws : List Write) → are_fitting ws ≡ true → are_on (is_made_slot n) ws ≡ true → list_all (is_whole_write (is_made_slot n)) ws ≡ true
+          → are_sound n ws ≡ true
       each [] a b c = refl
       each (w ∷ ws) a b c = grind (arith, nat_tests, each ws)
 
-module _ (log : List Entry) (s : Session) (l : SoundLog log) (k : SoundSession (length (all_tags log)) (length log) s) where
+module _ (log : List Entry) (s : Session) (l : SoundLog log) (k : SoundSession log s) where
   -- the rows that the session sees
-  seen_made : list_all (is_whole (is_made_slot (length (all_tags log)))) (seen log s).rows ≡ true
-  seen_made = seen_all (is_whole (is_made_slot (length (all_tags log)))) log s.txn
-      (commits_from (are_sound (length (all_tags log))) (list_all (is_whole_write (is_made_slot (length (all_tags log))))) (sound_rows (length (all_tags log))) log l.writes)
-      (txn_from (are_sound (length (all_tags log))) (list_all (is_whole_write (is_made_slot (length (all_tags log))))) (sound_rows (length (all_tags log))) s.txn k.own)
+  seen_made : list_all (is_whole (is_made_slot (tag_count log))) (seen log s).rows ≡ true
+  seen_made = seen_all (is_whole (is_made_slot (tag_count log))) log s.txn
+      (commits_from (are_sound (tag_count log)) (list_all (is_whole_write (is_made_slot (tag_count log)))) (sound_rows (tag_count log)) log l.writes)
+      (txn_from (are_sound (tag_count log)) (list_all (is_whole_write (is_made_slot (tag_count log)))) (sound_rows (tag_count log)) s.txn k.own)
 
-  made_at : (t : Slot) → t.label ≡ s.label → is_made_slot (length (all_tags log)) t ≡ true
-  made_at t e = ap (are_made (length (all_tags log))) e ∙ k.label_made
+  made_at : (t : Slot) → t.label ≡ s.label → is_made_slot (tag_count log) t ≡ true
+  made_at t e = ap (are_made (tag_count log)) e ∙ k.label_made
 
-  pub sound_writes : (line : Result Request Fault) → PassesWrites (is_sound_write (length (all_tags log))) log s line
-  sound_writes line asker r b i = sound_from (length (all_tags log)) (writes_of (seen log s).public asker (seen log s).rows s.label b)
-      (writes_good (seen log s).public asker (seen log s).rows s.label (is_made_slot (length (all_tags log))) made_at b)
-      (writes_from_rows (is_made_slot (length (all_tags log))) (seen log s).public asker (seen log s).rows s.label b made_at seen_made)
+  pub sound_writes : (line : Result Request Fault) → PassesWrites (is_sound_write (tag_count log)) log s line
+  sound_writes line asker r b i = sound_from (tag_count log) (writes_by log s asker b)
+      (writes_good (seen log s).public asker (seen log s).rows s.label (is_made_slot (tag_count log)) made_at b)
+      (writes_from_rows (is_made_slot (tag_count log)) (seen log s).public asker (seen log s).rows s.label b made_at seen_made)
 
   module _ (read : Reader) (line : List ℕ) where
-    pub line_tidy : IsTidy (length log) (length (all_tags log)) (ask read log s line)
+    pub line_tidy : IsTidy (length log) (tag_count log) (ask read log s line)
     line_tidy = outcome_tidy log s (read line) k.begins k.label_made (ask read log s line) (shape read log s line)
 
-    line_sound : (txn_all (are_sound (length (all_tags log))) (ask read log s line).session.txn ≡ true) × (all_commits (are_sound (length (all_tags log))) (option_to_list (ask read log s line).added) ≡ true)
-    line_sound = let h = outcome_writes (is_sound_write (length (all_tags log))) log s (read line) k.own (sound_writes (read line)) (ask read log s line) (shape read log s line) in grind (arith, nat_tests)
+    line_sound : (txn_all (are_sound (tag_count log)) (ask read log s line).session.txn ≡ true)
+        × (all_commits (are_sound (tag_count log)) (added_by read log s line) ≡ true)
+    line_sound =
+        let new = sound_writes (read line) in
+        let h = outcome_writes (is_sound_write (tag_count log)) log s (read line) k.own new (ask read log s line) (shape read log s line) in
+        grind (arith, nat_tests)
 
     -- the longer log, by the tags before the line
-    pub log_sound_before : all_commits (are_sound (length (all_tags log))) (log_after log (ask read log s line)) ≡ true
-    log_sound_before = commits_join (are_sound (length (all_tags log))) log (option_to_list (ask read log s line).added) l.writes line_sound.1
+    pub log_sound_before : all_commits (are_sound (tag_count log)) (log_after read log s line) ≡ true
+    log_sound_before = commits_join (are_sound (tag_count log)) log (added_by read log s line) l.writes line_sound.1
 
-    pub own_sound_before : txn_all (are_sound (length (all_tags log))) (ask read log s line).session.txn ≡ true
+    pub own_sound_before : txn_all (are_sound (tag_count log)) (ask read log s line).session.txn ≡ true
     own_sound_before = line_sound.0
 
-    pub log_stays_sound : SoundLog (log_after log (ask read log s line))
+    pub log_stays_sound : SoundLog (log_after read log s line)
     log_stays_sound = record {
-      formed = rw (tags_append log (option_to_list (ask read log s line).added)) (formed_after (all_tags log) (ask read log s line).added l.formed line_tidy.entry_made);
-      writes = commits_from (are_sound (length (all_tags log))) (are_sound (length (all_tags (log_after log (ask read log s line)))))
-          (more_sound (length (all_tags log)) (length (all_tags (log_after log (ask read log s line)))) (more_tags log (option_to_list (ask read log s line).added))) (log_after log (ask read log s line)) log_sound_before;
+      formed = rw (tags_append log (added_by read log s line)) (formed_after (all_tags log) (ask read log s line).added l.formed line_tidy.entry_made);
+      writes =
+          let later = log_after read log s line in
+          commits_from (are_sound (tag_count log)) (are_sound (tag_count later))
+          (more_sound (tag_count log) (tag_count later) (more_tags log (added_by read log s line))) later log_sound_before;
     }
 
-    pub other_stays_sound : (u : Session) → SoundSession (length (all_tags log)) (length log) u → SoundSession (length (all_tags (log_after log (ask read log s line)))) (length (log_after log (ask read log s line))) u
-    other_stays_sound u = more_sound_session (length (all_tags log)) (length (all_tags (log_after log (ask read log s line)))) (length log) (length (log_after log (ask read log s line)))
-        (more_tags log (option_to_list (ask read log s line).added)) (more_entries log (option_to_list (ask read log s line).added)) u
-
-    pub session_stays_sound : SoundSession (length (all_tags (log_after log (ask read log s line)))) (length (log_after log (ask read log s line))) (ask read log s line).session
-    session_stays_sound = other_stays_sound (ask read log s line).session (record { label_made = line_tidy.label_made; own = line_sound.0; begins = line_tidy.begins })
+    pub session_stays_sound : SoundSession (log_after read log s line) (ask read log s line).session
+    session_stays_sound =
+        later_sound log (added_by read log s line) (ask read log s line).session
+        (record { label_made = line_tidy.label_made; own = line_sound.0; begins = line_tidy.begins })
 
 -- ---- steps and runs
 
-no_txn_is_sound : (tags entries : ℕ) (s : Session) → are_made tags s.label ≡ true → s.txn ≡ None → SoundSession tags entries s
-no_txn_is_sound tags entries s m e = record { label_made = m; own = ap (txn_all (are_sound tags)) e; begins = ap (begins_within entries) e }
+no_txn_is_sound : (log : List Entry) (s : Session) → are_made (tag_count log) s.label ≡ true → s.txn ≡ None → SoundSession log s
+no_txn_is_sound log s m e = record { label_made = m; own = ap (txn_all (are_sound (tag_count log))) e; begins = ap (begins_within (length log)) e }
 
-pub session_sound : (st : State) → Sound st → (n : ℕ) → SoundSession (length (all_tags st.log)) (length st.log) (session_of st n)
-session_sound st v n = session_has (SoundSession (length (all_tags st.log)) (length st.log)) st v.sound_sessions (no_txn_is_sound (length (all_tags st.log)) (length st.log) no_session refl refl) n
+pub session_sound : (st : State) → Sound st → (n : ℕ) → SoundSession st.log (session_of st n)
+session_sound st v n = session_has (SoundSession st.log) st v.sound_sessions (no_txn_is_sound st.log no_session refl refl) n
 
 pub asked_sound : (read : Reader) (st : State) → Sound st → (n : ℕ) (line : List ℕ) → Sound (with_outcome st n (ask read st.log (session_of st n) line))
 asked_sound read st v n line =
     let s = session_of st n in
-    let later = log_after st.log (ask read st.log s line) in
+    let later = log_after read st.log s line in
     let k = session_sound st v n in
     record {
       sound_log = log_stays_sound st.log s v.sound_log k read line;
-      sound_sessions = All-set (SoundSession (length (all_tags later)) (length later)) st.sessions (n - 1) (ask read st.log s line).session (session_stays_sound st.log s v.sound_log k read line)
-          (All-weaker (SoundSession (length (all_tags st.log)) (length st.log)) (SoundSession (length (all_tags later)) (length later)) (other_stays_sound st.log s v.sound_log k read line) st.sessions v.sound_sessions);
+      sound_sessions = All-set (SoundSession later) st.sessions (n - 1) (ask read st.log s line).session (session_stays_sound st.log s v.sound_log k read line)
+          (All-weaker (SoundSession st.log) (SoundSession later) (later_sound st.log (added_by read st.log s line)) st.sessions v.sound_sessions);
     }
 
 pub left_sound : (st : State) → Sound st → (n : ℕ) → Sound (with_session st n (closed (session_of st n)))
 left_sound st v n = record {
   sound_log = v.sound_log;
-  sound_sessions = All-set (SoundSession (length (all_tags st.log)) (length st.log)) st.sessions (n - 1) (closed (session_of st n))
-      (no_txn_is_sound (length (all_tags st.log)) (length st.log) (closed (session_of st n)) (session_sound st v n).label_made refl) v.sound_sessions;
+  sound_sessions = All-set (SoundSession st.log) st.sessions (n - 1) (closed (session_of st n))
+      (no_txn_is_sound st.log (closed (session_of st n)) (session_sound st v n).label_made refl) v.sound_sessions;
 }
 
 either : (b : Bool) (s t : State) → Sound s → Sound t → Sound (cond b s t)
@@ -217,16 +223,18 @@ either false s t h k = k
 pub next_sound : (read : Reader) (st : State) (x : Step) → Sound st → Sound (next read st x)
 next_sound read st opens v = record {
   sound_log = v.sound_log;
-  sound_sessions = All-push (SoundSession (length (all_tags st.log)) (length st.log)) st.sessions new_session v.sound_sessions (no_txn_is_sound (length (all_tags st.log)) (length st.log) new_session refl refl);
+  sound_sessions =
+      All-push (SoundSession st.log) st.sessions new_session v.sound_sessions (no_txn_is_sound st.log new_session refl refl);
 }
-next_sound read st (asks n line) v = either (session_of st n).is_open (with_outcome st n (ask read st.log (session_of st n) line)) st (asked_sound read st v n line) v
+next_sound read st (asks n line) v =
+    either (session_of st n).is_open (with_outcome st n (ask read st.log (session_of st n) line)) st (asked_sound read st v n line) v
 next_sound read st (refused n) v = v
 next_sound read st long v = v
 next_sound read st stray v = v
 next_sound read st (leaves n) v = either (session_of st n).is_open (with_session st n (closed (session_of st n))) st (left_sound st v n) v
 
 pub opening_sound : Sound opening
-opening_sound = record { sound_log = record { formed = record { older = λ t. refl }; writes = refl }; sound_sessions = All-nil (SoundSession 0 0) }
+opening_sound = record { sound_log = record { formed = record { older = λ t. refl }; writes = refl }; sound_sessions = All-nil (SoundSession []) }
 
 pub run_sound : (read : Reader) (st : State) (steps : List Step) → Sound st → Sound (run read st steps)
 run_sound read st [] v = v
