@@ -1,8 +1,9 @@
 -- Worked examples, by computation.
-use Rattle.std.proofs.Common.{◌≡◌, refl, List, [], ◌∷◌, ◌-◌, ◌^◌, Option, Some, None, ℕ, pos, negsuc, Bool, true}
+use Rattle.std.proofs.Common.{◌≡◌, refl, List, [], ◌∷◌, ◌-◌, ◌^◌, Option, Some, None, ℕ, pos, negsuc, Bool, true, false}
 use Rattle.std.specs.Prelude.{codes}
 use Rattle.ifdb_value.specs.declared.value.Value.{Value}
 use Rattle.ifdb_value.specs.declared.value.Value.TheVariants as value
+use Rattle.ifdb_value.specs.declared.value.Compare.{Compare}
 use Rattle.ifdb_value.specs.declared.value.Compare.TheVariants as how
 use Rattle.ifdb_bound.specs.declared.expression.BoundColumn.{BoundColumn}
 use Rattle.ifdb_bound.specs.declared.expression.BoundExpr.TheVariants as e
@@ -20,6 +21,9 @@ use Rattle.ifdb_bound.proofs.Computing.{querying}
 
 abbrev int : ℕ → Value
 int n = value.Int (pos n)
+
+abbrev text : List ℕ → Value
+text t = value.Text t
 
 abbrev at : ℕ → ℕ → BoundColumn
 at source column = record { source = source; column = column }
@@ -52,10 +56,50 @@ chains : holds [] (c.Or (c.Not (eq (int 1) (int 1)) ∷ c.And (eq (int 1) (int 1
 unfolding querying
 chains = refl
 
--- ---- queries
+-- ---- comparisons
 
-abbrev text : List ℕ → Value
-text t = value.Text t
+-- how 5 compares with a number
+abbrev five : Compare → ℕ → Bool
+five how n = holds [] (c.Compare (o.Literal (int 5)) how (o.Literal (int n)))
+
+-- with 4, with 5 and with 6
+abbrev beside : Compare → List Bool
+beside how = five how 4 ∷ five how 5 ∷ five how 6 ∷ []
+
+equal : beside how.Equal ≡ false ∷ true ∷ false ∷ []
+unfolding querying
+equal = refl
+
+not_equal : beside how.NotEqual ≡ true ∷ false ∷ true ∷ []
+unfolding querying
+not_equal = refl
+
+less : beside how.Less ≡ false ∷ false ∷ true ∷ []
+unfolding querying
+less = refl
+
+at_most : beside how.AtMost ≡ false ∷ true ∷ true ∷ []
+unfolding querying
+at_most = refl
+
+more : beside how.Greater ≡ true ∷ false ∷ false ∷ []
+unfolding querying
+more = refl
+
+at_least : beside how.AtLeast ≡ true ∷ true ∷ false ∷ []
+unfolding querying
+at_least = refl
+
+-- texts by their bytes: 'Z' before 'a', and a prefix first
+texts : holds [] (c.Compare (o.Literal (text (codes "Z"))) how.Less (o.Literal (text (codes "a")))) ≡ true
+unfolding querying
+texts = refl
+
+prefix : holds [] (c.Compare (o.Literal (text (codes "ab"))) how.Less (o.Literal (text (codes "abc")))) ≡ true
+unfolding querying
+prefix = refl
+
+-- ---- queries
 
 -- a row at a label
 abbrev row : List Value → List ℕ → SourceRow

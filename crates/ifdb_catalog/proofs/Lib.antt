@@ -8,6 +8,7 @@ pub mod BoundRequestsFit
 pub mod Growth
 pub mod Made
 mod StatesFit
+mod Resolution
 mod Site
 mod NameExamples
 mod DefinitionExamples

@@ -70,7 +70,8 @@ module _ (p q : Public) (tables : HasMoreTables p q) (tags : HasMoreTags p q) wh
   sources_stay [] h k = refl
   sources_stay (x ∷ sources) h k = grind (arith, nat_tests, sources_stay sources, source_stays x.relation)
 
-  kinds_stay : (sources : List BoundSource) → list_all is_over_table sources ≡ true → stand_in p sources ≡ true → source_kinds q sources ≡ source_kinds p sources
+  kinds_stay : (sources : List BoundSource) → list_all is_over_table sources ≡ true → stand_in p sources ≡ true
+      → source_kinds q sources ≡ source_kinds p sources
   kinds_stay [] h k = refl
   kinds_stay (x ∷ sources) h k =
       let over : is_over_table x ≡ true = grind (arith, nat_tests) in
@@ -92,7 +93,8 @@ module _ (p q : Public) (tables : HasMoreTables p q) (tags : HasMoreTags p q) wh
       let over_tables = first_of over (many && label) rest in
       let there = first_of (stand_in p sources) fit query in
       let fits : select_fits (source_kinds q sources) v.select ≡ true =
-      subst (λ (k : List (List ValueKind)). select_fits k v.select ≡ true) (sym (kinds_stay sources over_tables there)) (rest_of (stand_in p sources) fit query) in
+      subst (λ (k : List (List ValueKind)). select_fits k v.select ≡ true)
+      (sym (kinds_stay sources over_tables there)) (rest_of (stand_in p sources) fit query) in
       both_of (query_fits q v.select) (over && (many && label_fits q v.declassifying))
       (both_of (stand_in q sources) (select_fits (source_kinds q sources) v.select) (sources_stay sources over_tables there) fits)
       (both_of over (many && label_fits q v.declassifying) over_tables
@@ -102,7 +104,8 @@ module _ (p q : Public) (tables : HasMoreTables p q) (tags : HasMoreTags p q) wh
 stays : (p q : Public) → HasMoreTables p q → HasMoreTags p q → state_fits p ≡ true
     → (list_all (schema_fits q) p.tables ≡ true) × (list_all (view_fits q) p.views ≡ true)
 stays p q tables tags h = (
-  all_wider (schema_fits p) (schema_fits q) p.tables (schema_stays p q tables tags) (first_of (list_all (schema_fits p) p.tables) (list_all (view_fits p) p.views) h),
+  all_wider (schema_fits p) (schema_fits q) p.tables (schema_stays p q tables tags) (first_of (list_all (schema_fits p) p.tables) (list_all
+      (view_fits p) p.views) h),
   all_wider (view_fits p) (view_fits q) p.views (view_stays p q tables tags) (rest_of (list_all (schema_fits p) p.tables) (list_all (view_fits p) p.views) h),
 )
 
@@ -134,7 +137,15 @@ pub next_fits : (p : Public) (c : Change) → state_fits p ≡ true → change_f
 next_fits p (change.Principal asker name key) h k = h
 next_fits p (change.Tag asker name kind parents) h k =
     let q = changed p (change.Tag asker name kind parents) in
-    let kept = stays p q (record { stands = λ t e. e; same = λ t e. refl }) (one_more_tag p q (omega (arith, length-append p.tags (record { name = name; made = made_tag kind parents; owner = asker } ∷ [])))) h in
+    let kept = stays p q (record { stands = λ t e. e; same = λ t e. refl }) (one_more_tag p q (omega (
+      arith,
+      length-append p.tags (record {
+        name =
+            name;
+        made = made_tag kind parents;
+        owner = asker;
+      } ∷ []),
+    ))) h in
     both_of (list_all (schema_fits q) q.tables) (list_all (view_fits q) q.views) kept.0 kept.1
 next_fits p (change.Table asker schema) h k =
     let q = changed p (change.Table asker schema) in

@@ -1,10 +1,13 @@
 -- What the laws say.
-use Rattle.std.specs.Prelude.{◌≡◌, ℕ, true, Ok}
+use Rattle.std.specs.Prelude.{◌≡◌, ◌↔◌, ℕ, true, Ok, Some}
 use Rattle.ifdb_label.specs.Tags.{AreWellFormed}
 use Rattle.ifdb_syntax.specs.declared.request.Request.{Request}
 use Rattle.ifdb_bound.specs.declared.request.Bound.{Bound}
 use Rattle.ifdb_bound.specs.declared.request.Change.{Change}
 use Rattle.ifdb_catalog.specs.Public.{Public, opening, tags_of, changed}
+use Rattle.ifdb_syntax.specs.declared.expression.ColumnRef.{ColumnRef}
+use Rattle.ifdb_bound.specs.declared.expression.BoundColumn.{BoundColumn}
+use Rattle.ifdb_catalog.specs.Scope.{Scope, may_mean, resolve}
 use Rattle.ifdb_catalog.specs.Binding.{bound}
 use Rattle.ifdb_catalog.specs.Fits.{bound_fits, change_fits, state_fits}
 
@@ -20,3 +23,12 @@ TagsStayWellFormed = (p : Public) (c : Change) → AreWellFormed (tags_of p) →
 pub record StatesStayFitting : Type 0 where
   pub first : state_fits opening ≡ true
   pub next : (p : Public) (c : Change) → state_fits p ≡ true → change_fits p c ≡ true → state_fits (changed p c) ≡ true
+
+-- the column is one that the reference may mean, and the only one
+pub record IsTheOne (scope : Scope) (r : ColumnRef) (c : BoundColumn) : Type 0 where
+  pub meant : may_mean scope r c ≡ true
+  pub alone : (d : BoundColumn) → may_mean scope r d ≡ true → d ≡ c
+
+-- a reference is resolved exactly where it may mean one column and no other
+abbrev pub ResolvesTheOne : Type 0
+ResolvesTheOne = (scope : Scope) (r : ColumnRef) (c : BoundColumn) → (resolve scope r ≡ Some c) ↔ IsTheOne scope r c

@@ -1,5 +1,5 @@
 -- What a statement's columns may name: the sources behind FROM, each with its alias and its columns.
-use Rattle.std.specs.Prelude.{ℕ, ◌+◌, Bool, true, List, [], ◌∷◌, ◌++◌, map, bytes_eq, Option, Some, None, if◌then◌else◌}
+use Rattle.std.specs.Prelude.{ℕ, ◌+◌, Bool, true, ◌&&◌, nat_lt, List, [], ◌∷◌, ◌++◌, map, length, slice_index_or, bytes_eq, Option, Some, None, if◌then◌else◌}
 use Rattle.std.specs.Option.{is_some}
 use Rattle.std.specs.List.{list_any}
 use Rattle.ifdb_value.specs.declared.value.ValueKind.{ValueKind}
@@ -120,3 +120,17 @@ column_at scope r = column_or (record { source = 0; column = 0 }) (resolve scope
 -- a reference means one column
 abbrev pub is_column : Scope → ColumnRef → Bool
 is_column scope r = is_some (resolve scope r)
+
+-- ---- which column is meant, said without a search
+
+abbrev pub no_source : ScopeSource
+no_source = record { alias = []; columns = [] }
+
+-- a reference may mean the column: its source bears the alias, if one is written, and it bears the name
+abbrev pub may_mean : Scope → ColumnRef → BoundColumn → Bool
+may_mean scope r c =
+    let s : ScopeSource = slice_index_or scope c.source no_source in
+    nat_lt c.source (length scope)
+    && (may_be_of r.source s
+    && (nat_lt c.column (length s.columns)
+    && bytes_eq (slice_index_or s.columns c.column no_column).name r.column))

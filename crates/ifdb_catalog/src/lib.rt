@@ -4,4 +4,6 @@
 mod laws;
 
 pub use ifdb_bound::Relation;
-pub use laws::{bound_requests_fit, states_stay_fitting, tags_stay_well_formed};
+pub use laws::{
+    bound_requests_fit, names_mean_one_column, states_stay_fitting, tags_stay_well_formed,
+};
