@@ -9,9 +9,11 @@ pub record Delegation : Type 0 where
   pub owners : List ℕ
   pub grants : List Grant
 
+-- no tags and no grants
 abbrev pub no_authority : Delegation
 no_authority = record { owners = []; grants = [] }
 
+-- it is there, and it is this number
 abbrev pub is_some_of : Option ℕ → ℕ → Bool
 is_some_of None p = false
 is_some_of (Some q) p = q == p

@@ -13,12 +13,15 @@ pub record IsWider (a b : Delegation) : Type 0 where
   pub same_owners : b.owners ≡ a.owners
   pub more_grants : (g : Grant) → stands a g ≡ true → stands b g ≡ true
 
+-- with the same owners and more grants nobody loses a tag
 abbrev pub MoreGrantsHoldMore : Type 0
 MoreGrantsHoldMore = (tags : List MadeTag) (a b : Delegation) (p t : ℕ) → IsWider a b → Holds tags a p t → Holds tags b p t
 
+-- a grant makes that grant stand, and every other one stands as before
 abbrev pub GrantChangesOne : Type 0
 GrantChangesOne = (a : Delegation) (g h : Grant) → stands (granted a g) h ≡ stands a h || is_same_grant h g
 
+-- a revocation takes that grant away, and every other one stands as before
 abbrev pub RevocationChangesOne : Type 0
 RevocationChangesOne = (a : Delegation) (g h : Grant) → stands (revoked a g) h ≡ stands a h && not (is_same_grant h g)
 

@@ -16,6 +16,7 @@ pub data QueryFault : Type 0 where
   view_authority : QueryFault
   out_of_range : QueryFault
 
+-- the view, if it is there, has an owner who holds each tag that it declassifies
 abbrev pub allows_view : Setting → Option ViewDef → Bool
 allows_view set None = true
 allows_view set (Some v) = set.allows v
@@ -35,6 +36,7 @@ abbrev pub source_rows : Setting → List Row → List ℕ → Relation → Opti
 source_rows set rows label (relation.Table t) = Some (table_rows set.tags rows t label)
 source_rows set rows label (relation.View v) = rows_of_view set rows label (slice_get set.views v)
 
+-- the answer, if no number is out of range
 abbrev pub answered : Option (List (List Value)) → Result (List (List Value)) QueryFault
 answered None = Err out_of_range
 answered (Some rows) = Ok rows

@@ -19,6 +19,7 @@ pub record Setting : Type 0 where
   pub views : List ViewDef
   pub allows : ViewDef → Bool
 
+-- a row as a source shows it
 abbrev pub source_row : Row → SourceRow
 source_row r = record { values = r.values; label = r.slot.label }
 
@@ -43,6 +44,7 @@ base_sources tags rows v label = map (λ (s : BoundSource). base_rows tags rows 
 abbrev pub view_label : List MadeTag → ViewDef → Combination → List ℕ
 view_label tags v c = strip tags (reduce tags (flat_map (λ (r : SourceRow). r.label) c)) v.declassifying
 
+-- values at a label
 abbrev pub labelled : List ℕ → List Value → SourceRow
 labelled label values = record { values = values; label = label }
 

@@ -11,6 +11,7 @@ use Rattle.ifdb_model.specs.server.Output.{refusals, texts}
 abbrev pub is_line : List ℕ → Bool
 is_line text = list_all (λ b. not (b == 10)) text
 
+-- how many rows a reply shows
 abbrev pub row_count : Reply → ℕ
 row_count (reply.Rows table) = length table.rows
 row_count _ = 0
@@ -24,6 +25,7 @@ pub record Shown : Type 0 where
   pub number : ℕ
   pub lines : List (List ℕ)
 
+-- a reply as it is shown
 abbrev pub shown : Told → Shown
 shown t = record { number = t.number; lines = reply_lines t.reply }
 

@@ -10,6 +10,7 @@ use Rattle.ifdb_syntax.specs.declared.request.Request.TheVariants as request
 use Rattle.ifdb_laws.specs.server.Played.{Played, opened, says, done, says_one}
 use Rattle.ifdb_laws.specs.server.Trees.{int, text, ref, ref_in, shows, source, select_of, hello, create_principal, create_tag, int_column, text_column, create_table, grant, revoke, set_label, insert, select}
 
+-- two tables, a compound tag for all patients, and three sessions
 abbrev pub clinic_setup : List Played
 clinic_setup =
     opened 1
@@ -29,6 +30,7 @@ clinic_setup =
     ∷ done 3 (codes "HELLO billing KEY 'b'") (hello (codes "billing") (codes "b"))
     ∷ []
 
+-- the name of a patient's tag
 abbrev pub tag_of : ℕ → List ℕ
 tag_of i = codes "p" ++ decimal i
 
@@ -49,9 +51,11 @@ abbrev pub patients : ℕ → List Played
 patients zero = []
 patients (suc n) = patients n ++ patient (n + 1)
 
+-- the one item COUNT(*)
 abbrev count_all : List Item
 count_all = item.CountAll None ∷ []
 
+-- a column of `visit` as an item
 abbrev visit_item : List ℕ → Item
 visit_item name = item.Expr (expr.Column (ref_in (codes "visit") name)) None
 
@@ -81,5 +85,6 @@ clinic_questions =
     ∷ says_one 4 (codes "SELECT COUNT(*) FROM fees") (select count_all (codes "fees" ∷ []) None) (codes "ERR 27 ViewAuthority")
     ∷ []
 
+-- the whole script
 abbrev pub clinic_row : List Played
 clinic_row = clinic_setup ++ patients 40 ++ clinic_questions

@@ -11,6 +11,7 @@ use Rattle.ifdb_laws.specs.server.Played.{Played, opened, says, done, says_one, 
 use Rattle.ifdb_laws.specs.server.Trees.{int, shows, hello, int_column, create_table, set_label, insert, delete, select}
 use Rattle.ifdb_laws.specs.server.Setup.{setup, insert_note}
 
+-- the steps of a worked script
 abbrev pub steps_played : List Played → List Step
 steps_played played = steps_of (script_of played)
 
@@ -54,6 +55,7 @@ first_world = setup ++
     (codes "ROWS 1 2" ∷ codes "1\tp" ∷ [])
     ∷ [])
 
+-- the other world
 abbrev pub second_world : List Played
 second_world = setup ++
     (done 2 (codes "SET LABEL (a)") (set_label (codes "a" ∷ []))
@@ -83,6 +85,7 @@ came_down = setup ++
     ∷ says_one 1 (codes "COMMIT") (Ok request.Commit) (codes "ERR 17 Conflict")
     ∷ [])
 
+-- it did not write above
 abbrev pub came_down_idle : List Played
 came_down_idle = setup ++
     (done 2 (codes "SET LABEL (a)") (set_label (codes "a" ∷ []))
@@ -102,6 +105,7 @@ referred_up = setup ++
     ∷ says_one 1 (codes "INSERT INTO visit VALUES (10, 1) DECLASSIFYING (a)") (insert (codes "visit") ((int 10 ∷ int 1 ∷ []) ∷ []) (codes "a" ∷ [])) (codes "OK 1")
     ∷ [])
 
+-- there is no row above
 abbrev pub referred_up_to_nothing : List Played
 referred_up_to_nothing = setup ++
     (done 1 (codes "CREATE TABLE visit (v INT, note_id INT, PRIMARY KEY (v), FOREIGN KEY (note_id) REFERENCES note)") (create_table (codes "visit") (int_column (codes "v") ∷ int_column (codes "note_id") ∷ []) (codes "v" ∷ []) (record { columns = codes "note_id" ∷ []; parent = codes "note" } ∷ []))
@@ -121,6 +125,7 @@ referred_down = setup ++
     ∷ says_one 1 (codes "DELETE FROM note") (delete (codes "note") None) (codes "ERR 19 StillReferenced")
     ∷ [])
 
+-- nothing refers to the row
 abbrev pub referred_down_idle : List Played
 referred_down_idle = setup ++
     (done 1 (codes "CREATE TABLE visit (v INT, note_id INT, PRIMARY KEY (v), FOREIGN KEY (note_id) REFERENCES note)") (create_table (codes "visit") (int_column (codes "v") ∷ int_column (codes "note_id") ∷ []) (codes "v" ∷ []) (record { columns = codes "note_id" ∷ []; parent = codes "note" } ∷ []))

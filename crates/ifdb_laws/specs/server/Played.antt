@@ -26,6 +26,7 @@ abbrev pub line_of : Played → List ℕ
 line_of (opened n) = codes "OPEN\n"
 line_of (says n text read told) = decimal n ++ (32 ∷ text ++ 10 ∷ [])
 
+-- the bytes of a worked script
 abbrev pub script_of : List Played → List ℕ
 script_of played = flat_map line_of played
 
@@ -34,6 +35,7 @@ abbrev pub lines_told : Played → List ℕ
 lines_told (opened n) = decimal n ++ codes " OPEN\n"
 lines_told (says n text read told) = flat_map (λ line. decimal n ++ (32 ∷ line ++ 10 ∷ [])) told
 
+-- the bytes that it is to write
 abbrev pub told_by : List Played → List ℕ
 told_by played = flat_map lines_told played
 

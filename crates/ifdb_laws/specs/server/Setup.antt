@@ -23,6 +23,7 @@ setup =
 abbrev pub a_note : ℕ → List ℕ → List Value
 a_note id body = int id ∷ text body ∷ []
 
+-- INSERT of one such row
 abbrev pub insert_note : ℕ → List ℕ → Read
 insert_note id body = insert (codes "note") (a_note id body ∷ []) []
 

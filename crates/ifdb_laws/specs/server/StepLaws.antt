@@ -8,6 +8,7 @@ use Rattle.ifdb_model.specs.server.Session.{Txn, Session}
 use Rattle.ifdb_model.specs.server.Step.{Reader, Form, ends, form_of, refuses, ask}
 use Rattle.ifdb_model.specs.server.Run.{State, asks, outcome_of, next}
 
+-- the form is COMMIT
 abbrev pub is_ending : Form → Bool
 is_ending ends = true
 is_ending _ = false

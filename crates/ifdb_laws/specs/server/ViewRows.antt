@@ -11,6 +11,7 @@ use Rattle.ifdb_laws.specs.server.Trees.{int, ref_in, shows, label_of, select_of
 use Rattle.ifdb_laws.specs.server.Setup.{setup, insert_note}
 use Rattle.ifdb_syntax.specs.declared.select.Select.{Select}
 
+-- SELECT note.id, bill.pence FROM note, bill WHERE note.id = bill.id
 abbrev due : Select
 due = select_of (item.Expr (expr.Column (ref_in (codes "note") (codes "id"))) None ∷ item.Expr (expr.Column (ref_in (codes "bill") (codes "pence"))) None ∷ []) (codes "note" ∷ codes "bill" ∷ [])
     (Some (cond.Compare (operand.Column (ref_in (codes "note") (codes "id"))) how.Equal (operand.Column (ref_in (codes "bill") (codes "id")))))

@@ -21,6 +21,7 @@ public_from p [] = p
 public_from p (changes c ∷ log) = public_from (changed p c) log
 public_from p (commits ws ∷ log) = public_from p log
 
+-- the public state that the log leaves
 abbrev pub public_of : List Entry → Public
 public_of log = public_from first_public log
 

@@ -20,6 +20,7 @@ abbrev pub if_any : List Write → List Entry
 if_any [] = []
 if_any (w ∷ ws) = commits (w ∷ ws) ∷ []
 
+-- a public change, or of a commit what is inside
 abbrev pub keep_entry : List MadeTag → List ℕ → Entry → List Entry
 keep_entry tags level (changes c) = changes c ∷ []
 keep_entry tags level (commits ws) = if_any (writes_on (is_inside_slot tags level) ws)
@@ -33,6 +34,7 @@ abbrev pub reindex_txn : List MadeTag → List ℕ → List Entry → Option Txn
 reindex_txn tags level log None = None
 reindex_txn tags level log (Some x) = Some (record { begin = length (keep tags level (take x.begin log)); own = x.own })
 
+-- a session over the smaller log
 abbrev pub reindex : List MadeTag → List ℕ → List Entry → Session → Session
 reindex tags level log s = record s { txn = reindex_txn tags level log s.txn }
 
@@ -45,6 +47,7 @@ pub record Part : Type 0 where
   pub log : List Entry
   pub sessions : List (Option Session)
 
+-- the part of a state that is inside
 abbrev pub part : List ℕ → State → Part
 part level st = record {
   log = keep (all_tags st.log) level st.log;

@@ -9,6 +9,7 @@ use Rattle.ifdb_model.specs.server.Step.{Reader}
 use Rattle.ifdb_model.specs.server.Run.{Step, opens, asks, refused, long, stray, leaves, Told, opening, replies}
 use Rattle.ifdb_model.specs.server.Script.{steps_of}
 
+-- the fault is want of memory
 abbrev pub is_memory : Fault → Bool
 is_memory fault.OutOfMemory = true
 is_memory _ = false

@@ -20,10 +20,12 @@ setting_of p = record {
   allows = λ v. has_tags p v.owner v.declassifying;
 }
 
+-- the refusal of a SELECT
 abbrev pub fault_of : QueryFault → Fault
 fault_of view_authority = fault.ViewAuthority
 fault_of out_of_range = fault.OutOfRange
 
+-- the reply to a SELECT with so many items
 abbrev pub table_reply : ℕ → Result (List (List Value)) QueryFault → Reply
 table_reply columns (Err f) = reply.Refused (fault_of f)
 table_reply columns (Ok rows) = reply.Rows (record { columns = columns; rows = rows })

@@ -12,6 +12,7 @@ pub record State : Type 0 where
   pub log : List Entry
   pub sessions : List Session
 
+-- the state before the first step
 abbrev pub opening : State
 opening = record { log = []; sessions = [] }
 
@@ -38,6 +39,7 @@ outcome_of read st n line =
 abbrev pub with_outcome : State → ℕ → Outcome → State
 with_outcome st n o = record { log = st.log ++ option_to_list o.added; sessions = slice_set st.sessions (n - 1) o.session }
 
+-- a session in its place
 abbrev pub with_session : State → ℕ → Session → State
 with_session st n s = record st { sessions = slice_set st.sessions (n - 1) s }
 
@@ -55,6 +57,7 @@ pub record Told : Type 0 where
   pub number : ℕ
   pub reply : Reply
 
+-- one reply to a session
 abbrev pub tell : ℕ → Reply → List Told
 tell n r = record { number = n; reply = r } ∷ []
 

@@ -11,6 +11,7 @@ pub record Txn : Type 0 where
   pub begin : ℕ
   pub own : List Write
 
+-- a session: whether it is open, who asks, its label, and its transaction
 pub record Session : Type 0 where
   pub is_open : Bool
   pub principal : Option ℕ
@@ -29,6 +30,7 @@ no_session = record { is_open = false; principal = None; label = []; txn = None 
 abbrev pub closed : Session → Session
 closed s = record s { is_open = false; txn = None }
 
+-- there is an open transaction
 abbrev pub in_txn : Option Txn → Bool
 in_txn None = false
 in_txn (Some x) = true
@@ -43,5 +45,6 @@ abbrev pub seen_in : List Entry → Option Txn → Seen
 seen_in log None = record { public = public_of log; rows = content_of log }
 seen_in log (Some x) = record { public = public_of (take x.begin log); rows = after (content_of (take x.begin log)) x.own }
 
+-- what a session sees
 abbrev pub seen : List Entry → Session → Seen
 seen log s = seen_in log s.txn

@@ -32,6 +32,7 @@ abbrev pub if_built : (Request → Bool) → Result Request Fault → Result Req
 if_built is_built (Err f) = Err f
 if_built is_built (Ok r) = if is_built r then Ok r else Err (fault.Syntax 0)
 
+-- a reader by which some forms aren't built
 abbrev pub built_reader : (Request → Bool) → Reader → Reader
 built_reader is_built read line = if_built is_built (read line)
 
@@ -41,24 +42,30 @@ pub record Outcome : Type 0 where
   pub added : Option Entry
   pub reply : Reply
 
+-- a reply, and nothing added
 abbrev pub tells : Session → Reply → Outcome
 tells s r = record { session = s; added = None; reply = r }
 
+-- a refusal, and nothing added
 abbrev pub refuses : Session → Fault → Outcome
 refuses s f = tells s (reply.Refused f)
 
+-- a reply, and an entry added to the log
 abbrev pub adds : Session → Entry → Reply → Outcome
 adds s e r = record { session = s; added = Some e; reply = r }
 
 -- ---- HELLO and BYE
 
+-- the principal of that name, if there is one, and its key
 abbrev pub greeted : Public → Session → List ℕ → Option ℕ → Outcome
 greeted p s key None = refuses s fault.BadKey
 greeted p s key (Some n) = if is_key p n key then tells (record s { principal = Some n }) reply.Done else refuses s fault.BadKey
 
+-- HELLO
 abbrev pub hello : Public → Session → List ℕ → List ℕ → Outcome
 hello p s name key = greeted p s key (principal_named p name)
 
+-- BYE
 abbrev pub bye : Session → Outcome
 bye s = tells (closed s) reply.Done
 
@@ -70,29 +77,35 @@ relabelled p asker s label =
     if has_tags p asker (strip (tags_of p) s.label label) then tells (record s { label = label }) reply.Done
     else refuses s fault.NoAuthority
 
+-- SET LABEL, once it is bound
 abbrev pub set_label : Public → ℕ → Session → Result Bound Fault → Outcome
 set_label p asker s (Err f) = refuses s f
 set_label p asker s (Ok (bound.SetLabel label)) = relabelled p asker s label
 set_label p asker s (Ok _) = tells s reply.Done
 
+-- SHOW LABEL
 abbrev pub show_label : Public → Session → Outcome
 show_label p s = tells s (reply.Label (label_names (tag_names p) s.label))
 
 -- ---- public changes, outside a transaction and at the empty label
 
+-- a public change that may be refused
 abbrev pub publish_it : Session → Change → Option Fault → Outcome
 publish_it s c None = adds s (changes c) reply.Done
 publish_it s c (Some f) = refuses s f
 
+-- a public change, once it is bound
 abbrev pub publish_bound : Public → Session → Result Bound Fault → Outcome
 publish_bound p s (Err f) = refuses s f
 publish_bound p s (Ok (bound.Change c)) = publish_it s c (refusal p c)
 publish_bound p s (Ok _) = tells s reply.Done
 
+-- there are no tags
 abbrev pub is_empty : List ℕ → Bool
 is_empty [] = true
 is_empty (t ∷ ts) = false
 
+-- CREATE, GRANT and REVOKE
 abbrev pub publish : Public → Session → Result Bound Fault → Outcome
 publish p s found =
     if in_txn s.txn then refuses s fault.InTransaction
@@ -100,11 +113,13 @@ publish p s found =
 
 -- ---- SELECT
 
+-- the reply to a SELECT, once it is bound
 abbrev pub look_reply : Public → List Row → List ℕ → Result Bound Fault → Reply
 look_reply p rows label (Err f) = reply.Refused f
 look_reply p rows label (Ok (bound.Select s)) = select_reply p rows label s
 look_reply p rows label (Ok _) = reply.Done
 
+-- SELECT
 abbrev pub look : Public → List Row → Session → Result Bound Fault → Outcome
 look p rows s found = tells s (look_reply p rows s.label found)
 
@@ -117,22 +132,27 @@ land_in s None rows deleting w =
     if deleting && leaves (after rows w.writes) w.writes then refuses s fault.StillReferenced
     else adds s (commits w.writes) (reply.Count w.count)
 
+-- what a statement writes, if it isn't refused
 abbrev pub land : Session → List Row → Bool → Result Written Fault → Outcome
 land s rows deleting (Err f) = refuses s f
 land s rows deleting (Ok w) = land_in s s.txn rows deleting w
 
+-- INSERT, UPDATE and DELETE, once they are bound
 abbrev pub write_bound : Public → List Row → ℕ → Session → Result Bound Fault → Outcome
 write_bound p rows asker s (Err f) = refuses s f
 write_bound p rows asker s (Ok b) = land s rows (is_delete b) (writes_of p asker rows s.label b)
 
 -- ---- transactions
 
+-- BEGIN, where the log has so many entries
 abbrev pub begin : ℕ → Session → Outcome
 begin n s = if in_txn s.txn then refuses s fault.InTransaction else tells (record s { txn = Some (record { begin = n; own = [] }) }) reply.Done
 
+-- ROLLBACK
 abbrev pub rollback : Session → Outcome
 rollback s = if in_txn s.txn then tells (record s { txn = None }) reply.Done else refuses s fault.NoTransaction
 
+-- the refusal of a COMMIT, if it is one
 abbrev pub verdict_fault : Verdict → Option Fault
 verdict_fault commit_label = Some fault.CommitLabel
 verdict_fault conflict = Some fault.Conflict
@@ -149,6 +169,7 @@ committed s ws (Some f) = refuses (record s { txn = None }) f
 abbrev pub judged : List Entry → Session → Txn → Verdict
 judged log s x = verdict (all_tags log) (content_of log) (written_of (drop x.begin log)) x.own s.label
 
+-- COMMIT
 abbrev pub commit : List Entry → Session → Option Txn → Outcome
 commit log s None = refuses s fault.NoTransaction
 commit log s (Some x) = committed s x.own (verdict_fault (judged log s x))
@@ -168,6 +189,7 @@ pub data Form : Type 0 where
   looks : Form
   writes : Form
 
+-- the form of a request
 abbrev pub form_of : Request → Form
 form_of (request.Hello name key) = greets name key
 form_of (request.CreatePrincipal name key) = publishes
@@ -206,10 +228,12 @@ ask_new log s (greets name key) = hello (public_of log) s name key
 ask_new log s leaves_us = bye s
 ask_new log s _ = refuses s fault.NotHello
 
+-- a request of a session
 abbrev pub ask_by : List Entry → Session → Option ℕ → Request → Outcome
 ask_by log s None r = ask_new log s (form_of r)
 ask_by log s (Some asker) r = ask_as log s (seen log s) asker r (form_of r)
 
+-- a line that was read
 abbrev pub ask_read : List Entry → Session → Result Request Fault → Outcome
 ask_read log s (Err f) = refuses s f
 ask_read log s (Ok r) = ask_by log s s.principal r

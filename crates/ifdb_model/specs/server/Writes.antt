@@ -34,11 +34,13 @@ pub record Scene : Type 0 where
   pub label : List ℕ
   pub given : List ℕ
 
+-- the values at some places
 abbrev pub values_at : List Value → List ℕ → List Value
 values_at values places = map (value_at values) places
 
 -- ---- foreign keys
 
+-- one more parent, if all are there
 abbrev pub and_slot : Option Slot → Option (List Slot) → Option (List Slot)
 and_slot (Some s) (Some slots) = Some (s ∷ slots)
 and_slot _ _ = None
@@ -54,12 +56,15 @@ bound_parents x values (f ∷ foreign) = and_slot (bound_parent x values f) (bou
 
 -- ---- INSERT
 
+-- a row that is written
 abbrev pub new_write : Slot → List Value → List Slot → Write
 new_write slot values refs = record { slot = slot; row = Some (record { slot = slot; values = values; refs = refs }) }
 
+-- where a new row stands
 abbrev pub new_slot : ℕ → Schema → List Value → List ℕ → Slot
 new_slot t schema values label = record { table = t; key = values_at values schema.key; label = label }
 
+-- the row among the earlier ones, if all its parents are there
 abbrev pub inserted : Scene → ℕ → Schema → List Write → List Value → Option (List Slot) → Result (List Write) Fault
 inserted x t schema earlier values None = Err fault.NoReference
 inserted x t schema earlier values (Some refs) = Ok (put (new_write (new_slot t schema values x.label) values refs) earlier)
@@ -70,6 +75,7 @@ insert_one x t schema earlier values =
     if clash x.tags (after x.rows earlier) t (values_at values schema.key) x.label then Err fault.DuplicateKey
     else inserted x t schema earlier values (bound_parents x values schema.foreign)
 
+-- the rows one by one; the first refusal ends it
 abbrev pub insert_all : Scene → ℕ → Schema → List (List Value) → Result (List Write) Fault → Result (List Write) Fault
 insert_all x t schema [] earlier = earlier
 insert_all x t schema (values ∷ more) (Err f) = Err f
@@ -89,6 +95,7 @@ matched tags rows t cond label = filter (is_matched t cond) (see tags rows label
 abbrev pub are_writable : List ℕ → List Row → Bool
 are_writable label rows = list_all (λ (r : Row). is_same_label r.slot.label label) rows
 
+-- the values with one of them set
 abbrev pub with_value : List Value → ℕ → Option Value → Option (List Value)
 with_value values column None = None
 with_value values column (Some v) = Some (slice_set values column v)
@@ -113,42 +120,52 @@ rebound x assignments values (f ∷ foreign) [] = and_slot (bound_parent x value
 rebound x assignments values (f ∷ foreign) (s ∷ refs) =
     and_slot (if is_assigned assignments f then bound_parent x values f else Some s) (rebound x assignments values foreign refs)
 
+-- the row with new values, if all its parents are there
 abbrev pub updated : Slot → List Value → Option (List Slot) → Result Write Fault
 updated slot values None = Err fault.NoReference
 updated slot values (Some refs) = Ok (new_write slot values refs)
 
+-- a row with new values, if they are in range
 abbrev pub update_to : Scene → Schema → List BoundAssignment → Row → Option (List Value) → Result Write Fault
 update_to x schema assignments r None = Err fault.OutOfRange
 update_to x schema assignments r (Some values) = updated r.slot values (rebound x assignments values schema.foreign r.refs)
 
+-- a row updated
 abbrev pub update_one : Scene → Schema → List BoundAssignment → Row → Result Write Fault
 update_one x schema assignments r = update_to x schema assignments r (assigned r.values assignments)
 
+-- one more write, or the first refusal
 abbrev pub and_write : Result Write Fault → Result (List Write) Fault → Result (List Write) Fault
 and_write (Err f) ws = Err f
 and_write (Ok w) (Err f) = Err f
 and_write (Ok w) (Ok ws) = Ok (w ∷ ws)
 
+-- the rows in their order
 abbrev pub update_all : Scene → Schema → List BoundAssignment → List Row → Result (List Write) Fault
 update_all x schema assignments [] = Ok []
 update_all x schema assignments (r ∷ rows) = and_write (update_one x schema assignments r) (update_all x schema assignments rows)
 
+-- a row deleted
 abbrev pub deletion : Row → Write
 deletion r = record { slot = r.slot; row = None }
 
 -- ---- statements
 
+-- the writes with the number of rows
 abbrev pub counted : ℕ → Result (List Write) Fault → Result Written Fault
 counted n (Err f) = Err f
 counted n (Ok ws) = Ok (record { writes = ws; count = n })
 
+-- UPDATE of the rows that match
 abbrev pub update_matched : Scene → Schema → List BoundAssignment → List Row → Result Written Fault
 update_matched x schema assignments rows =
     if are_writable x.label rows then counted (length rows) (update_all x schema assignments rows) else Err fault.WriteLabel
 
+-- DELETE of the rows that match
 abbrev pub delete_matched : List ℕ → List Row → Result Written Fault
 delete_matched label rows = if are_writable label rows then counted (length rows) (Ok (map deletion rows)) else Err fault.WriteLabel
 
+-- what a statement with tags to declassify is about
 abbrev pub scene_of : Public → List Row → List ℕ → List ℕ → Scene
 scene_of p rows label given = record { tags = tags_of p; rows = rows; label = label; given = given }
 
@@ -164,6 +181,7 @@ writes_of p asker rows label (bound.Update t assignments cond given) =
 writes_of p asker rows label (bound.Delete t cond) = delete_matched label (matched (tags_of p) rows t cond label)
 writes_of p asker rows label _ = Ok (record { writes = []; count = 0 })
 
+-- the statement is a DELETE
 abbrev pub is_delete : Bound → Bool
 is_delete (bound.Delete t cond) = true
 is_delete _ = false
