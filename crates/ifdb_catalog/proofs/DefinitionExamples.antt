@@ -200,8 +200,8 @@ named_tags = asked (asked opening 0 (q.CreateTag (codes "a") false [])) 0 (q.Cre
 abbrev with_tables : Public
 with_tables =
     asked (asked named_tags
-        0 (table note (numbers id ∷ texts body ∷ []) (id ∷ []) []))
-        0 (table bill (numbers id ∷ numbers pence ∷ []) (id ∷ []) [])
+    0 (table note (numbers id ∷ texts body ∷ []) (id ∷ []) []))
+    0 (table bill (numbers id ∷ numbers pence ∷ []) (id ∷ []) [])
 
 abbrev with_guest : Public
 with_guest = asked (asked with_tables 0 (q.CreatePrincipal (codes "guest") (codes "g"))) 0 (q.Grant (codes "a") (codes "guest"))
@@ -209,8 +209,8 @@ with_guest = asked (asked with_tables 0 (q.CreatePrincipal (codes "guest") (code
 abbrev with_views : Public
 with_views =
     asked (asked with_guest
-        1 (bills (codes "due")))
-        0 (view (codes "w") (query (shows (bare id) ∷ []) (source note ∷ [])) (codes "b" ∷ []))
+    1 (bills (codes "due")))
+    0 (view (codes "w") (query (shows (bare id) ∷ []) (source note ∷ [])) (codes "b" ∷ []))
 
 site_is_made : with_views ≡ site
 unfolding binding
