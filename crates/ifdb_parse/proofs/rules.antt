@@ -1,0 +1,6 @@
+pub mod Shared
+pub mod Expressions
+pub mod Conditions
+pub mod Queries
+pub mod Requests
+pub mod Line

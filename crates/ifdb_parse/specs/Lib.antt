@@ -1,0 +1,3 @@
+pub mod theory
+pub mod rules
+pub mod Laws
