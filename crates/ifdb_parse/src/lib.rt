@@ -1,0 +1,5 @@
+//! Reading a line as a request.
+#![tactic(auto)]
+
+mod lexemes;
+mod limits;
