@@ -1,5 +1,5 @@
 -- What the tokens of a line say: reserved words in any case, names in small letters, numbers, texts without their quotes, and symbols.
-use Rattle.std.specs.Prelude.{ℕ, ◌+◌, ◌-◌, ◌==◌, if◌then◌else◌, List, [], ◌∷◌, map, slice_range, Option, Some, None}
+use Rattle.std.specs.Prelude.{ℕ, ◌+◌, ◌-◌, ◌&&◌, ◌==◌, if◌then◌else◌, List, [], ◌∷◌, map, slice_range, Option, Some, None}
 use Rattle.std.specs.Str.{str_eq_ignore_ascii_case}
 use Rattle.ifdb_value.specs.Name.{folded}
 use Rattle.ifdb_lex.specs.declared.token.Token.{Token}
@@ -37,11 +37,11 @@ word_or_name text None = t.Name (folded text)
 
 -- ---- texts and symbols
 
--- a text without its quotes: of two quotes in it, which is all that it can have, one is kept
+-- of two quotes one behind the other, one is kept
 abbrev pub undoubled : List ℕ → List ℕ
 undoubled [] = []
 undoubled (b ∷ []) = b ∷ []
-undoubled (b ∷ next ∷ text) = if b == 39 then 39 ∷ undoubled text else b ∷ undoubled (next ∷ text)
+undoubled (b ∷ next ∷ text) = if b == 39 && next == 39 then 39 ∷ undoubled text else b ∷ undoubled (next ∷ text)
 
 -- a symbol of one byte
 abbrev pub symbol_of : ℕ → Lexeme
