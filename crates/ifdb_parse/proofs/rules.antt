@@ -4,3 +4,4 @@ pub mod Conditions
 pub mod Queries
 pub mod Requests
 pub mod Line
+pub mod Lists

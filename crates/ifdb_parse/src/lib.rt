@@ -2,9 +2,13 @@
 #![tactic(auto)]
 
 mod fault;
+mod kinds;
 mod laws;
 mod lexemes;
 mod limits;
+mod list;
+mod shared;
+mod stop;
 
 pub use fault::ParseFault;
 pub use laws::parser_reads_the_grammar;

@@ -7,7 +7,7 @@ use Rattle.ifdb_syntax.specs.Lang.{Lang, Then, nothing, ◌or◌, rounds, repeat
 use Rattle.ifdb_parse.specs.theory.Parser.{Outcome, Parser, and_then, pure, take, taken, choose, branch, rounds_by, repeat_by}
 use Rattle.ifdb_parse.specs.theory.Reads.{Reads}
 use Rattle.ifdb_parse.proofs.theory.Combine.{done_is}
-use Rattle.ifdb_parse.proofs.theory.Repeat.{no_longer}
+use Rattle.ifdb_parse.proofs.theory.Rounds.{no_longer}
 
 abbrev pub Below : {A : Type 0} → Lang A → Lang A → Type 0
 Below {A} l l' = (u : Lexemes) (a : A) → l u a → l' u a

@@ -11,6 +11,7 @@ use Rattle.ifdb_parse.specs.theory.Reads.{Starts, Reads}
 use Rattle.ifdb_parse.proofs.theory.KindLemmas.{mem-append, Starts-sees}
 use Rattle.ifdb_parse.proofs.theory.Combine.{nothing_reads, then_reads, branch_reads, widen}
 use Rattle.ifdb_parse.proofs.theory.Limit.{limit_reads}
+use Rattle.ifdb_parse.proofs.theory.Rounds.{steady, turns}
 
 -- ---- inclusion
 
@@ -29,25 +30,6 @@ mem_left n ns ms i = mem-append n ns ms ∙ or_left (mem n ns) (mem n ms) i
 mem_right : (n : ℕ) (ns ms : Kinds) → mem n ms ≡ true → mem n (ns ++ ms) ≡ true
 mem_right n ns ms i = mem-append n ns ms ∙ or_right (mem n ns) (mem n ms) i
 
--- ---- what was read leaves no more than there was
-
-pub no_longer : {A : Type 0} {l : Lang A} {p : Parser A} {f C : Kinds} {e : Bool} → Reads l p f e C → (s : Lexemes) (a : A) (r : Lexemes) → p s ≡ Ok (a, r) → length r ≤ length s
-no_longer rd s a r is =
-    let k = rd.took s a r is in
-    let n : length s ≡ length k.used + length r = ap length k.parts ∙ length-append k.used r in
-    omega arith
-
-pub shorter : {A : Type 0} {l : Lang A} {p : Parser A} {f C : Kinds} → Reads l p f false C → (s : Lexemes) (a : A) (r : Lexemes) → p s ≡ Ok (a, r) → length r < length s
-shorter {f} rd s a r is =
-    let k = rd.took s a r is in
-    let n : length s ≡ length k.used + length r = ap length k.parts ∙ length-append k.used r in
-    let some = go k.used (rd.starts k.used a k.spelled) in
-    omega arith
-  where
-    go : (u : Lexemes) → Starts f false u → 0 < length u
-    go [] h = absurd cc
-    go (t ∷ u) h = omega arith
-
 module _ {X : Type 0} (l : X → Lang X) (p : X → Parser X) (f C : Kinds) (rd : (x : X) → Reads (l x) (p x) f false C) (fit : apart f C ≡ true) where
   rounds_reads : (n : ℕ) (x : X) → Reads (rounds l n x) (rounds_by f p n x) f true (C ++ f)
   rounds_reads zero x = widen f (C ++ f) (nothing_reads x) refl refl
@@ -64,42 +46,6 @@ module _ {X : Type 0} (l : X → Lang X) (p : X → Parser X) (f C : Kinds) (rd 
   rises (suc n) x u a (inl h) = inl (record { front = h.front; back = h.back; value = h.value; parts = h.parts; first = h.first; second = rises n h.value h.back a h.second })
   rises (suc n) x u a (inr h) = inr h
 
-  same_round : (n k : ℕ) (o : Outcome X) → ((y : X) (r : Lexemes) → o ≡ Ok (y, r) → rounds_by f p n y r ≡ rounds_by f p k y r) → and_then o (rounds_by f p n) ≡ and_then o (rounds_by f p k)
-  same_round n k (Ok x) h = h x.0 x.1 refl
-  same_round n k (Err e) h = refl
-
-  steady : (n : ℕ) (x : X) (s : Lexemes) → length s ≤ n → rounds_by f p (suc n) x s ≡ rounds_by f p n x s
-  steady zero x [] h = refl
-  steady zero x (t ∷ s) h = absurd (omega arith)
-  steady (suc n) x s h =
-      ap (λ z. choose (sees f s) z (pure x s))
-      (same_round (suc n) n (p x s) (λ y r e. let k = shorter (rd x) s y r e in steady n y r (omega arith)))
-
-  steady_from : (k n : ℕ) (x : X) (s : Lexemes) → length s ≤ n → rounds_by f p (k + n) x s ≡ rounds_by f p n x s
-  steady_from zero n x s h = ap (λ z. rounds_by f p z x s) (let z : 0 + n ≡ n = omega arith in z)
-  steady_from (suc k) n x s h = ap (λ z. rounds_by f p z x s) (let z : suc k + n ≡ suc (k + n) = omega arith in z) ∙ steady (k + n) x s (omega arith) ∙ steady_from k n x s h
-
   pub repeat_reads : (x : X) → Reads (repeat l x) (repeat_by f p x) f true (C ++ f)
   unfolding repeat_by
-  repeat_reads x = limit_reads (λ n. rounds l n x) (λ n. rounds_by f p n x) f (C ++ f) true (λ n. rounds_reads n x) (λ n u a h. rises n x u a h) (λ n s h. steady n x s h)
-
-  -- a round, and what is repeated after it
-  pub repeat_is : (x : X) (s : Lexemes) → repeat_by f p x s ≡ choose (sees f s) (and_then (p x s) (repeat_by f p)) (Ok (x, s))
-  unfolding repeat_by
-  repeat_is x s =
-      sym (steady (length s) x s (omega arith)) ∙
-      ap (λ z. choose (sees f s) z (Ok (x, s))) (go (p x s) refl)
-    where
-      go : (o : Outcome X) → p x s ≡ o → and_then o (rounds_by f p (length s)) ≡ and_then o (λ y r. rounds_by f p (length r) y r)
-      go (Ok y) is =
-          let k = shorter (rd x) s y.0 y.1 is in
-          let n : length s ≡ (length s - length y.1) + length y.1 = omega arith in
-          ap (λ z. rounds_by f p z y.0 y.1) n ∙ steady_from (length s - length y.1) (length y.1) y.0 y.1 (omega arith)
-      go (Err e) is = refl
-
-  -- a round that was read came to its turn
-  pub repeat_goes : (x : X) (s : Lexemes) (y : X) (r : Lexemes) → p x s ≡ Ok (y, r) → repeat_by f p x s ≡ repeat_by f p y r
-  repeat_goes x s y r e =
-      let k = (rd x).took s y r e in
-      let turn : sees f s ≡ true = ap (sees f) k.parts ∙ Starts-sees f k.used r ((rd x).starts k.used y k.spelled) in
-      repeat_is x s ∙ rw (turn, e) refl
+  repeat_reads x = limit_reads (λ n. rounds l n x) (λ n. rounds_by f p n x) f (C ++ f) true (λ n. rounds_reads n x) (λ n u a h. rises n x u a h) (λ n s h. steady f p (turns rd) n x s h)
