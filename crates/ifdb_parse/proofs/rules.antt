@@ -5,3 +5,4 @@ pub mod Queries
 pub mod Requests
 pub mod Line
 pub mod Lists
+pub mod Loops

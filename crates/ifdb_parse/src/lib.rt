@@ -1,7 +1,9 @@
 //! Reading a line as a request.
 #![tactic(auto)]
 
+mod expressions;
 mod fault;
+mod join;
 mod kinds;
 mod laws;
 mod lexemes;

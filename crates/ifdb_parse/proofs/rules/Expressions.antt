@@ -18,14 +18,14 @@ use Rattle.ifdb_parse.proofs.theory.Limit.{limit_reads, still}
 use Rattle.ifdb_parse.proofs.theory.Nest.{Below, Agree, then_rises, or_rises, same, repeat_rises, then_agrees, take_agrees, branch_agrees, repeat_agrees, agree_refl, shrinks, take_shrinks}
 use Rattle.ifdb_parse.proofs.rules.Shared.{token_reads, name_reads, number_reads, text_reads, parens_reads}
 
-pub ref_reads : Reads g.ref p.ref (NAME ∷ []) false (DOT ∷ [])
-unfolding p.ref
+pub ref_reads : Reads g.ref p.column_ref (NAME ∷ []) false (DOT ∷ [])
+unfolding p.column_ref
 ref_reads =
     then_reads name_reads (λ n.
     branch_reads (then_reads (token_reads DOT t.Dot refl) (λ _. then_reads name_reads (λ c. nothing_reads _) refl) refl) (nothing_reads _) refl) refl
 
 pub literal_reads : Reads (g.literal bounded) p.literal (NUMBER ∷ MINUS ∷ QUOTED ∷ []) false []
-unfolding p.literal
+unfolding p.literal p.negative
 literal_reads =
     branch_reads
     (branch_reads (then_reads number_reads (λ n. nothing_reads _) refl)

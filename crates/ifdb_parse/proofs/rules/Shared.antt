@@ -1,9 +1,9 @@
 -- What the parsers of the rules are made of reads what the rules are made of.
-use Rattle.std.proofs.Common.{◌≡◌, ℕ, Bool, true, false, List, [], ◌∷◌, ◌++◌, Option, Some, None, Ok, length, ◌<◌, refl}
+use Rattle.std.proofs.Common.{◌≡◌, ℕ, Bool, true, false, List, [], ◌∷◌, ◌++◌, Option, Some, None, refl}
 use Rattle.std.specs.Prelude.{◌==◌, ◌||◌, if◌then◌else◌}
 use Rattle.ifdb_syntax.specs.declared.lexeme.Lexeme.{Lexeme}
 use Rattle.ifdb_syntax.specs.declared.lexeme.Lexeme.TheVariants as t
-use Rattle.ifdb_syntax.specs.Words.{Lexemes, kind, is, name_of, number_of, text_of, OPEN, CLOSE, COMMA, NAME, NUMBER, QUOTED}
+use Rattle.ifdb_syntax.specs.Words.{kind, is, name_of, number_of, text_of, OPEN, CLOSE, COMMA, NAME, NUMBER, QUOTED}
 use Rattle.ifdb_syntax.specs.Lang as g
 use Rattle.ifdb_parse.specs.theory.Kinds.{Kinds, mem, apart}
 use Rattle.ifdb_parse.specs.theory.Parser.{Parser}
@@ -11,7 +11,6 @@ use Rattle.ifdb_parse.specs.theory.Reads.{Reads}
 use Rattle.ifdb_parse.specs.rules.Shared as p
 use Rattle.ifdb_parse.proofs.theory.Combine.{nothing_reads, take_reads, then_reads}
 use Rattle.ifdb_parse.proofs.theory.Repeat.{repeat_reads}
-use Rattle.ifdb_parse.proofs.theory.Rounds.{shorter}
 use Rattle.ifdb_parse.proofs.theory.Nest.{Below, Agree, then_rises, same, repeat_rises, then_agrees, repeat_agrees, agree_refl, shrinks, take_shrinks}
 
 abbrev tell : Bool → Option (Unit {0})
@@ -35,9 +34,6 @@ name_reads = take_reads name_of (t.Name []) [] refl (NAME ∷ []) go
     go : (x : Lexeme) (a : List ℕ) → name_of x ≡ Some a → mem (kind x) (NAME ∷ []) ≡ true
     go (t.Name n) a h = refl
     go _ a h = absurd cc
-
-pub name_takes : (s : Lexemes) (x : List ℕ) (rest : Lexemes) → p.name s ≡ Ok (x, rest) → length rest < length s
-name_takes = shorter name_reads
 
 pub number_reads : Reads g.number p.number (NUMBER ∷ []) false []
 unfolding p.number

@@ -9,11 +9,11 @@ use Rattle.ifdb_syntax.specs.Words.{NOT, AND, OR, WHERE, OPEN, NAME}
 use Rattle.ifdb_syntax.specs.Conditions.{compare_of, and_of, or_of}
 use Rattle.ifdb_parse.specs.theory.Parser.{Parser, ◌>>=◌, ◌>>◌, pure, take, branch}
 use Rattle.ifdb_parse.specs.rules.Shared.{token, parens, optional, separated}
-use Rattle.ifdb_parse.specs.rules.Expressions.{ref, literal}
+use Rattle.ifdb_parse.specs.rules.Expressions.{column_ref, literal}
 
 -- operand = ref | literal
 unfoldable pub operand : Parser Operand
-operand = branch (NAME ∷ []) (do c ← ref; pure (o.Column c)) (do v ← literal; pure (o.Literal v))
+operand = branch (NAME ∷ []) (do c ← column_ref; pure (o.Column c)) (do v ← literal; pure (o.Literal v))
 
 -- compare = = | <> | < | <= | > | >=
 unfoldable pub compare : Parser Compare

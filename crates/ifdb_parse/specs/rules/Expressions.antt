@@ -12,18 +12,22 @@ use Rattle.ifdb_parse.specs.theory.Parser.{Parser, ◌>>=◌, ◌>>◌, pure, br
 use Rattle.ifdb_parse.specs.rules.Shared.{token, name, number, text, parens}
 
 -- ref = name [. name]
-unfoldable pub ref : Parser ColumnRef
-ref = do
+unfoldable pub column_ref : Parser ColumnRef
+column_ref = do
   n ← name
   branch (DOT ∷ []) (do token DOT; c ← name; pure (record { source = Some n; column = c }))
       (pure (record { source = None; column = n }))
 
+-- the number behind the `-` of a literal
+unfoldable pub negative : Parser Value
+negative = do
+  n ← number
+  pure (value.Int (bounded.negated n))
+
 -- literal = number | - number | text
 unfoldable pub literal : Parser Value
 literal =
-    branch (NUMBER ∷ MINUS ∷ [])
-    (branch (NUMBER ∷ []) (do n ← number; pure (value.Int (bounded.plain n)))
-    (do token MINUS; n ← number; pure (value.Int (bounded.negated n))))
+    branch (NUMBER ∷ MINUS ∷ []) (branch (NUMBER ∷ []) (do n ← number; pure (value.Int (bounded.plain n))) (do token MINUS; negative))
     (do w ← text; pure (value.Text w))
 
 -- what begins a column or a literal
@@ -36,7 +40,7 @@ in_expr = NAME ∷ NUMBER ∷ MINUS ∷ QUOTED ∷ OPEN ∷ []
 
 -- ref | literal
 unfoldable pub atom : Parser Expr
-atom = branch (NAME ∷ []) (do c ← ref; pure (e.Column c)) (do v ← literal; pure (e.Literal v))
+atom = branch (NAME ∷ []) (do c ← column_ref; pure (e.Column c)) (do v ← literal; pure (e.Literal v))
 
 -- factor = ref | literal | ( expr )
 unfoldable pub factor : Parser Expr → Parser Expr

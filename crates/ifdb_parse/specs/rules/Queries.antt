@@ -11,7 +11,7 @@ use Rattle.ifdb_syntax.specs.declared.select.OrderBy.TheVariants as by
 use Rattle.ifdb_syntax.specs.Words.{SELECT, FROM, AS, LABEL, OF, COUNT, SUM, MIN, MAX, GROUP, ORDER, BY, ASC, DESC, STAR, NAME}
 use Rattle.ifdb_parse.specs.theory.Parser.{Parser, ◌>>=◌, ◌>>◌, pure, branch}
 use Rattle.ifdb_parse.specs.rules.Shared.{token, name, number, parens, optional, optional_list, commas}
-use Rattle.ifdb_parse.specs.rules.Expressions.{in_expr, ref, expr}
+use Rattle.ifdb_parse.specs.rules.Expressions.{in_expr, column_ref, expr}
 use Rattle.ifdb_parse.specs.rules.Conditions.{condition}
 
 -- [AS name]
@@ -46,7 +46,7 @@ count_all = do
 unfoldable pub aggregate : ℕ → (ColumnRef → Option (List ℕ) → Item) → Parser Item
 aggregate k item = do
   token k
-  column ← parens ref
+  column ← parens column_ref
   n ← named_as
   pure (item column n)
 
@@ -94,7 +94,7 @@ sources = commas source
 
 -- columns = ref {, ref}
 unfoldable pub columns : Parser (List ColumnRef)
-columns = commas ref
+columns = commas column_ref
 
 -- name | number
 unfoldable pub order_by : Parser OrderBy
