@@ -1,6 +1,7 @@
 //! Reading a line as a request.
 #![tactic(auto)]
 
+mod conditions;
 mod expressions;
 mod fault;
 mod join;

@@ -1,12 +1,18 @@
 -- The loops of the parser: one more round, and what is repeated after it.
-use Rattle.std.proofs.Common.{◌≡◌, [], ◌∷◌, Ok}
+use Rattle.std.proofs.Common.{◌≡◌, List, [], ◌∷◌, Ok, refl}
+use Rattle.ifdb_syntax.specs.declared.lexeme.Lexeme.TheVariants as t
 use Rattle.ifdb_syntax.specs.declared.expression.Expr.{Expr}
-use Rattle.ifdb_syntax.specs.Words.{Lexemes, STAR, PLUS, MINUS}
+use Rattle.ifdb_syntax.specs.declared.condition.Cond.{Cond}
+use Rattle.ifdb_syntax.specs.Words.{Lexemes, STAR, PLUS, MINUS, NOT, AND, OR}
 use Rattle.ifdb_parse.specs.theory.Kinds.{sees}
-use Rattle.ifdb_parse.specs.theory.Parser.{Parser, and_then, choose, repeat_by}
+use Rattle.ifdb_parse.specs.theory.Parser.{Parser, and_then, branch, choose, repeat_by}
+use Rattle.ifdb_parse.specs.rules.Shared.{next_member}
 use Rattle.ifdb_parse.specs.rules.Expressions as p
-use Rattle.ifdb_parse.proofs.theory.Rounds.{turns, repeat_is, repeat_goes}
+use Rattle.ifdb_parse.specs.rules.Conditions as c
+use Rattle.ifdb_parse.proofs.theory.Rounds.{Turns, turns, shorter, repeat_is, repeat_goes}
+use Rattle.ifdb_parse.proofs.rules.Lists.{next_turns}
 use Rattle.ifdb_parse.proofs.rules.Expressions.{factor_reads, product_round_reads, term_reads, sum_round_reads, expr_reads}
+use Rattle.ifdb_parse.proofs.rules.Conditions.{basic_reads, prim_reads, conj_reads, cond_reads, negated_is}
 
 abbrev product : Expr → Parser Expr
 product = p.product_round (p.factor p.expr)
@@ -25,3 +31,36 @@ sums_are x s = repeat_is (PLUS ∷ MINUS ∷ []) summand (turns (sum_round_reads
 
 pub sums_go : (x : Expr) (s : Lexemes) (y : Expr) (r : Lexemes) → summand x s ≡ Ok (y, r) → repeat_by (PLUS ∷ MINUS ∷ []) summand x s ≡ repeat_by (PLUS ∷ MINUS ∷ []) summand y r
 sums_go x s y r e = repeat_goes (PLUS ∷ MINUS ∷ []) summand (turns (sum_round_reads (term_reads (factor_reads expr_reads)))) x s y r e
+
+-- ---- conditions
+
+abbrev prim : Parser Cond
+prim = c.prim c.cond
+
+pub prim_is : (s : Lexemes) → prim s ≡ branch (NOT ∷ []) (c.negation prim) (c.basic c.cond) s
+unfolding c.prim
+prim_is s = negated_is (c.basic c.cond) (basic_reads cond_reads) s
+
+abbrev conjunct : List Cond → Parser (List Cond)
+conjunct = next_member AND prim
+
+and_turns : Turns (AND ∷ []) conjunct
+and_turns = next_turns AND t.And refl prim (shorter (prim_reads cond_reads))
+
+pub ands_are : (x : List Cond) (s : Lexemes) → repeat_by (AND ∷ []) conjunct x s ≡ choose (sees (AND ∷ []) s) (and_then (conjunct x s) (repeat_by (AND ∷ []) conjunct)) (Ok (x, s))
+ands_are x s = repeat_is (AND ∷ []) conjunct and_turns x s
+
+pub ands_go : (x : List Cond) (s : Lexemes) (y : List Cond) (r : Lexemes) → conjunct x s ≡ Ok (y, r) → repeat_by (AND ∷ []) conjunct x s ≡ repeat_by (AND ∷ []) conjunct y r
+ands_go x s y r e = repeat_goes (AND ∷ []) conjunct and_turns x s y r e
+
+abbrev disjunct : List Cond → Parser (List Cond)
+disjunct = next_member OR (c.conj prim)
+
+or_turns : Turns (OR ∷ []) disjunct
+or_turns = next_turns OR t.Or refl (c.conj prim) (shorter (conj_reads (prim_reads cond_reads)))
+
+pub ors_are : (x : List Cond) (s : Lexemes) → repeat_by (OR ∷ []) disjunct x s ≡ choose (sees (OR ∷ []) s) (and_then (disjunct x s) (repeat_by (OR ∷ []) disjunct)) (Ok (x, s))
+ors_are x s = repeat_is (OR ∷ []) disjunct or_turns x s
+
+pub ors_go : (x : List Cond) (s : Lexemes) (y : List Cond) (r : Lexemes) → disjunct x s ≡ Ok (y, r) → repeat_by (OR ∷ []) disjunct x s ≡ repeat_by (OR ∷ []) disjunct y r
+ors_go x s y r e = repeat_goes (OR ∷ []) disjunct or_turns x s y r e
