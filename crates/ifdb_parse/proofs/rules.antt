@@ -6,3 +6,5 @@ pub mod Requests
 pub mod Line
 pub mod Lists
 pub mod Loops
+pub mod Members
+pub mod TableLoops

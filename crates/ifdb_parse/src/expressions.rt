@@ -6,7 +6,7 @@ ghost use Rattle.ifdb_parse.specs.rules.Expressions as spec;
 
 use crate::join::{add, mul, sub};
 use crate::list::Member;
-use crate::shared::{name, Read};
+use crate::shared::{Read, name};
 use crate::stop::Stop;
 use ifdb_syntax::{ColumnRef, Expr, Lexeme};
 use ifdb_value::{Name, Value};
@@ -112,9 +112,10 @@ fn factor(alloc: Global, lexemes: &[Lexeme]) -> Read<'_, Expr>
     ensures shorter { IfOk result (λ x. length x.1.now < length lexemes.now) }
 {
     match lexemes {
-        [Lexeme::Name(_) | Lexeme::Number(_) | Lexeme::Minus | Lexeme::Quoted(_), ..] => {
-            atom(alloc, lexemes)
-        }
+        [
+            Lexeme::Name(_) | Lexeme::Number(_) | Lexeme::Minus | Lexeme::Quoted(_),
+            ..
+        ] => { atom(alloc, lexemes) }
         [Lexeme::Open, rest @ ..] => {
             let (inner, rest) = expr(alloc, rest)?;
             match rest {
@@ -199,7 +200,7 @@ impl Member for ColumnRef {
 
     ghost parser = { column_ref_parser };
 
-    #[tactic(auto, using(crate::proofs::rules::Lists::ref_takes))]
+    #[tactic(auto, using(crate::proofs::rules::Members::ref_takes))]
     fn read(alloc: Global, lexemes: &[Lexeme]) -> Read<'_, ColumnRef> {
         column_ref(alloc, lexemes)
     }
@@ -210,7 +211,7 @@ impl Member for Value {
 
     ghost parser = { literal_parser };
 
-    #[tactic(auto, using(crate::proofs::rules::Lists::literal_takes))]
+    #[tactic(auto, using(crate::proofs::rules::Members::literal_takes))]
     fn read(alloc: Global, lexemes: &[Lexeme]) -> Read<'_, Value> {
         literal(alloc, lexemes)
     }

@@ -67,7 +67,7 @@ impl Member for Name {
 
     ghost parser = { name_parser };
 
-    #[tactic(auto, using(crate::proofs::rules::Lists::name_takes))]
+    #[tactic(auto, using(crate::proofs::rules::Members::name_takes))]
     fn read(alloc: Global, lexemes: &[Lexeme]) -> Read<'_, Name> {
         name(alloc, lexemes)
     }

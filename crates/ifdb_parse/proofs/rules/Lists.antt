@@ -9,9 +9,7 @@ use Rattle.ifdb_parse.specs.theory.Gives.{Takes}
 use Rattle.ifdb_parse.specs.rules.Shared as p
 use Rattle.ifdb_parse.proofs.theory.Combine.{bind_ok, done_is}
 use Rattle.ifdb_parse.proofs.theory.Rounds.{Turns, turn, shorter, repeat_is, repeat_goes}
-use Rattle.ifdb_parse.specs.rules.Expressions as expressions
-use Rattle.ifdb_parse.proofs.rules.Shared.{token_reads, name_reads}
-use Rattle.ifdb_parse.proofs.rules.Expressions.{ref_reads, literal_reads}
+use Rattle.ifdb_parse.proofs.rules.Shared.{token_reads}
 
 pub next_turns : {A : Type 0} (k : ℕ) (x : Lexeme) → is k x ≡ Some tt → (q : Parser A) → Takes q → Turns (k ∷ []) (p.next_member k q)
 next_turns k x e q takes found s y r h =
@@ -28,14 +26,3 @@ commas_are q takes found s = repeat_is (COMMA ∷ []) (p.next_member COMMA q) (n
 
 pub commas_go : {A : Type 0} (q : Parser A) → Takes q → (found : List A) (s : Lexemes) (more : List A) (r : Lexemes) → p.next_member COMMA q found s ≡ Ok (more, r) → repeat_by (COMMA ∷ []) (p.next_member COMMA q) found s ≡ repeat_by (COMMA ∷ []) (p.next_member COMMA q) more r
 commas_go q takes found s more r h = repeat_goes (COMMA ∷ []) (p.next_member COMMA q) (next_turns COMMA t.Comma refl q takes) found s more r h
-
--- ---- what a member of each list is read by
-
-pub name_takes : Takes p.name
-name_takes s x rest h = shorter name_reads s x rest h
-
-pub ref_takes : Takes expressions.column_ref
-ref_takes s x rest h = shorter ref_reads s x rest h
-
-pub literal_takes : Takes expressions.literal
-literal_takes s x rest h = shorter literal_reads s x rest h

@@ -77,7 +77,7 @@ unfolding p.list
 list_reads = widen (STAR ∷ in_item) on_list (branch_reads all_reads (commas_reads item_reads refl refl refl) refl) refl refl
 
 pub plain_list_reads : Reads (λ u b. (g.all or lang.commas (g.named bounded)) u b) p.plain_list (STAR ∷ in_expr) false on_list
-unfolding p.plain_list
+unfolding p.plain_list p.nameds
 plain_list_reads = widen (STAR ∷ in_expr) on_list (branch_reads all_reads (commas_reads named_reads refl refl refl) refl) refl refl
 
 -- ---- sources
@@ -141,7 +141,7 @@ abbrev pub on_grouped : Kinds
 on_grouped = GROUP ∷ on_columns
 
 pub grouped_reads : Reads (lang.optional_list (λ u b. lang.Then (lang.token GROUP) (λ _ u b. lang.Then (lang.token BY) (λ _. g.columns) u b) u b)) p.grouped (GROUP ∷ []) true on_grouped
-unfolding p.grouped
+unfolding p.grouped p.by_columns
 grouped_reads =
     widen (GROUP ∷ []) on_grouped
     (branch_reads (then_reads (token_reads GROUP t.Group refl) (λ _. then_reads (token_reads BY t.By refl) (λ _. columns_reads) refl) refl) (nothing_reads []) refl) refl refl
@@ -150,7 +150,7 @@ abbrev pub on_ordered : Kinds
 on_ordered = ORDER ∷ COMMA ∷ in_descends
 
 pub ordered_reads : Reads (lang.optional_list (λ u b. lang.Then (lang.token ORDER) (λ _ u b. lang.Then (lang.token BY) (λ _. lang.commas g.order) u b) u b)) p.ordered (ORDER ∷ []) true on_ordered
-unfolding p.ordered
+unfolding p.ordered p.by_orders
 ordered_reads =
     widen (ORDER ∷ []) on_ordered
     (branch_reads (then_reads (token_reads ORDER t.Order refl) (λ _. then_reads (token_reads BY t.By refl) (λ _. commas_reads order_reads refl refl refl) refl) refl) (nothing_reads []) refl) refl refl

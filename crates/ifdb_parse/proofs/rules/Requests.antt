@@ -114,7 +114,7 @@ view_reads =
     then_reads (parens_reads names_reads refl refl) (λ tags. nothing_reads _) refl) refl) refl) refl) refl) refl) refl
 
 pub create_reads : Reads (g.create bounded) p.create (CREATE ∷ []) false (IN ∷ [])
-unfolding p.create p.created
+unfolding p.create p.created p.compound_tag
 create_reads =
     widen (CREATE ∷ []) (IN ∷ [])
     (then_reads (token_reads CREATE t.Create refl) (λ _.
@@ -139,7 +139,7 @@ revoke_reads =
     then_reads name_reads (λ tag. then_reads (token_reads FROM t.From refl) (λ _. then_reads name_reads (λ from. nothing_reads _) refl) refl) refl) refl
 
 pub set_label_reads : Reads g.set_label p.set_label (SET ∷ []) false []
-unfolding p.set_label
+unfolding p.set_label p.some_names
 set_label_reads =
     then_reads (token_reads SET t.Set refl) (λ _.
     then_reads (token_reads LABEL t.Label refl) (λ _.
@@ -160,7 +160,7 @@ unfolding p.row
 row_reads = parens_reads (commas_reads literal_reads refl refl refl) refl refl
 
 pub insert_reads : Reads (g.insert bounded) p.insert (INSERT ∷ []) false (COMMA ∷ DECLASSIFYING ∷ [])
-unfolding p.insert p.insert_rows
+unfolding p.insert p.insert_rows p.insert_columns
 insert_reads =
     widen (INSERT ∷ []) (COMMA ∷ DECLASSIFYING ∷ [])
     (then_reads (token_reads INSERT t.Insert refl) (λ _.

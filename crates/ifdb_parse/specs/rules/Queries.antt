@@ -73,9 +73,13 @@ all = do
 unfoldable pub list : Parser (List Item)
 list = branch (STAR ∷ []) all (commas item)
 
+-- named {, named}
+unfoldable pub nameds : Parser (List Item)
+nameds = commas named
+
 -- * | named {, named}
 unfoldable pub plain_list : Parser (List Item)
-plain_list = branch (STAR ∷ []) all (commas named)
+plain_list = branch (STAR ∷ []) all nameds
 
 -- [AS] name
 unfoldable pub alias : Parser (List ℕ)
@@ -122,13 +126,25 @@ plain = do
   found ← condition
   pure (record { items = items; sources = from; cond = found; group = []; order = [] })
 
+-- BY columns
+unfoldable pub by_columns : Parser (List ColumnRef)
+by_columns = do
+  token BY
+  columns
+
 -- [GROUP BY columns]
 unfoldable pub grouped : Parser (List ColumnRef)
-grouped = optional_list (GROUP ∷ []) (do token GROUP; token BY; columns)
+grouped = optional_list (GROUP ∷ []) (do token GROUP; by_columns)
+
+-- BY order {, order}
+unfoldable pub by_orders : Parser (List Order)
+by_orders = do
+  token BY
+  commas order
 
 -- [ORDER BY order {, order}]
 unfoldable pub ordered : Parser (List Order)
-ordered = optional_list (ORDER ∷ []) (do token ORDER; token BY; commas order)
+ordered = optional_list (ORDER ∷ []) (do token ORDER; by_orders)
 
 -- FROM sources [WHERE cond] [GROUP BY columns] [ORDER BY order {, order}], behind the items
 unfoldable pub select_from : List Item → Parser Select

@@ -27,6 +27,10 @@ word k request = do
 unfoldable pub names_behind : ℕ → Parser (List (List ℕ))
 names_behind k = optional_list (k ∷ []) (do token k; parens names)
 
+-- [names]
+unfoldable pub some_names : Parser (List (List ℕ))
+some_names = optional_list (NAME ∷ []) names
+
 -- HELLO name KEY text
 unfoldable pub hello : Parser Request
 hello = do
@@ -54,6 +58,12 @@ tag compound = do
   n ← name
   parents ← names_behind IN
   pure (q.CreateTag n compound parents)
+
+-- COMPOUND TAG name [IN ( names )]
+unfoldable pub compound_tag : Parser Request
+compound_tag = do
+  token COMPOUND
+  tag true
 
 -- INT | INTEGER | TEXT
 unfoldable pub value_kind : Parser ValueKind
@@ -149,7 +159,7 @@ unfoldable pub created : Parser Request
 created =
     branch (PRINCIPAL ∷ TAG ∷ COMPOUND ∷ TABLE ∷ [])
     (branch (PRINCIPAL ∷ TAG ∷ COMPOUND ∷ [])
-    (branch (PRINCIPAL ∷ TAG ∷ []) (branch (PRINCIPAL ∷ []) principal (tag false)) (do token COMPOUND; tag true))
+    (branch (PRINCIPAL ∷ TAG ∷ []) (branch (PRINCIPAL ∷ []) principal (tag false)) compound_tag)
     table)
     view
 
@@ -184,7 +194,7 @@ unfoldable pub set_label : Parser Request
 set_label = do
   token SET
   token LABEL
-  tags ← parens (optional_list (NAME ∷ []) names)
+  tags ← parens some_names
   pure (q.SetLabel tags)
 
 -- SHOW LABEL
@@ -205,6 +215,10 @@ query = do
 unfoldable pub row : Parser (List Value)
 row = parens (commas literal)
 
+-- [( names )]
+unfoldable pub insert_columns : Parser (List (List ℕ))
+insert_columns = optional_list (OPEN ∷ []) (parens names)
+
 -- VALUES row {, row} [DECLASSIFYING ( names )], behind the table and the columns
 unfoldable pub insert_rows : List ℕ → List (List ℕ) → Parser Request
 insert_rows table columns = do
@@ -219,7 +233,7 @@ insert = do
   token INSERT
   token INTO
   table ← name
-  columns ← optional_list (OPEN ∷ []) (parens names)
+  columns ← insert_columns
   insert_rows table columns
 
 -- name = expr

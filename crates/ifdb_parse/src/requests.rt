@@ -1,0 +1,111 @@
+// All requests, and the line of one.
+ghost use Rattle.std.specs.Prelude.{◌≡◌, length};
+ghost use Rattle.ifdb_syntax.specs.Words.{BEGIN, COMMIT, ROLLBACK, BYE};
+ghost use Rattle.ifdb_parse.specs.theory.Gives.{Gives};
+ghost use Rattle.ifdb_parse.specs.rules.Requests as spec;
+
+use crate::authority::authority;
+use crate::shared::{Read, token};
+use crate::statements::{delete, insert, query, update};
+use crate::stop::Stop;
+use ifdb_syntax::{Lexeme, Request};
+use std::alloc::Global;
+
+/// `BEGIN`.
+#[tactic(auto, unfolding(crate::specs::rules::Requests::word))]
+fn begin(lexemes: &[Lexeme]) -> Read<'_, Request>
+    ensures { Gives (λ x. (x.0, x.1.now)) result (spec.word BEGIN Request.Begin lexemes.now) }
+{
+    let rest = token(lexemes, Lexeme::Begin)?;
+    Ok((Request::Begin, rest))
+}
+
+/// `COMMIT`.
+#[tactic(auto, unfolding(crate::specs::rules::Requests::word))]
+fn commit(lexemes: &[Lexeme]) -> Read<'_, Request>
+    ensures { Gives (λ x. (x.0, x.1.now)) result (spec.word COMMIT Request.Commit lexemes.now) }
+{
+    let rest = token(lexemes, Lexeme::Commit)?;
+    Ok((Request::Commit, rest))
+}
+
+/// `ROLLBACK`.
+#[tactic(auto, unfolding(crate::specs::rules::Requests::word))]
+fn rollback(lexemes: &[Lexeme]) -> Read<'_, Request>
+    ensures { Gives (λ x. (x.0, x.1.now)) result (spec.word ROLLBACK Request.Rollback lexemes.now) }
+{
+    let rest = token(lexemes, Lexeme::Rollback)?;
+    Ok((Request::Rollback, rest))
+}
+
+/// `BYE`.
+#[tactic(auto, unfolding(crate::specs::rules::Requests::word))]
+fn bye(lexemes: &[Lexeme]) -> Read<'_, Request>
+    ensures { Gives (λ x. (x.0, x.1.now)) result (spec.word BYE Request.Bye lexemes.now) }
+{
+    let rest = token(lexemes, Lexeme::Bye)?;
+    Ok((Request::Bye, rest))
+}
+
+/// Requests on sessions, principals, tags and labels, and on transactions.
+#[tactic(auto, unfolding(crate::specs::rules::Requests::session))]
+fn session(alloc: Global, lexemes: &[Lexeme]) -> Read<'_, Request>
+    ensures { Gives (λ x. (x.0, x.1.now)) result (spec.session lexemes.now) }
+{
+    match lexemes {
+        [
+            Lexeme::Hello
+            | Lexeme::Create
+            | Lexeme::Grant
+            | Lexeme::Revoke
+            | Lexeme::Set
+            | Lexeme::Show,
+            ..
+        ] => authority(alloc, lexemes),
+        [Lexeme::Begin, ..] => begin(lexemes),
+        [Lexeme::Commit, ..] => commit(lexemes),
+        [Lexeme::Rollback, ..] => rollback(lexemes),
+        _ => bye(lexemes),
+    }
+}
+
+/// A request.
+#[tactic(auto, unfolding(crate::specs::rules::Requests::request))]
+fn request(alloc: Global, lexemes: &[Lexeme]) -> Read<'_, Request>
+    ensures { Gives (λ x. (x.0, x.1.now)) result (spec.request lexemes.now) }
+{
+    match lexemes {
+        [
+            Lexeme::Hello
+            | Lexeme::Create
+            | Lexeme::Grant
+            | Lexeme::Revoke
+            | Lexeme::Set
+            | Lexeme::Show
+            | Lexeme::Begin
+            | Lexeme::Commit
+            | Lexeme::Rollback
+            | Lexeme::Bye,
+            ..
+        ] => session(alloc, lexemes),
+        [Lexeme::Select, ..] => query(alloc, lexemes),
+        [Lexeme::Insert, ..] => insert(alloc, lexemes),
+        [Lexeme::Update, ..] => update(alloc, lexemes),
+        _ => delete(alloc, lexemes),
+    }
+}
+
+/// The request that all of these lexemes are, `line = request [;]`; or how many lexemes are left from the first that fits
+/// nothing on.
+#[tactic(auto, unfolding(crate::specs::rules::Requests::whole, crate::specs::rules::Requests::line, crate::specs::rules::Shared::token))]
+pub(crate) fn whole(alloc: Global, lexemes: &[Lexeme]) -> Result<Request, Stop>
+    ensures { Gives (λ x. x) result (spec.whole lexemes.now) }
+{
+    let (found, rest) = request(alloc, lexemes)?;
+    match rest {
+        [] => Ok(found),
+        [Lexeme::Semicolon] => Ok(found),
+        [Lexeme::Semicolon, after @ ..] => Err(Stop::Left(after.len())),
+        _ => Err(Stop::Left(rest.len())),
+    }
+}
