@@ -3,3 +3,4 @@
 
 mod lexemes;
 mod limits;
+mod words;
