@@ -23,21 +23,29 @@ start_of line (token ∷ tokens) = token.start
 abbrev pub place : List ℕ → List Token → ℕ → ℕ
 place line tokens left = start_of line (drop (length tokens - left) tokens)
 
--- what the parser of the lexemes found, unless the tree passes a limit
-abbrev pub within_limits : List ℕ → List Token → Lexemes → Result Request ℕ → Result Request ParseFault
-within_limits line tokens lexemes (Ok request) = if exceeds_tree lexemes request then Err fault.Limit else Ok request
-within_limits line tokens lexemes (Err left) = Err (fault.Syntax (place line tokens left))
+-- a request, unless it passes a limit
+abbrev pub limited : Lexemes → Request → Result Request ParseFault
+limited lexemes request = if exceeds_tree lexemes request then Err fault.Limit else Ok request
+
+-- what the parser of a line's lexemes found
+abbrev pub judged : List ℕ → List Token → Lexemes → Result Request ℕ → Result Request ParseFault
+judged line tokens lexemes (Ok request) = limited lexemes request
+judged line tokens lexemes (Err left) = Err (fault.Syntax (place line tokens left))
 
 -- the request of a line's tokens
 abbrev pub parsed_tokens : List ℕ → List Token → Result Request ParseFault
-parsed_tokens line tokens = let lexemes = lexemes_of line tokens in within_limits line tokens lexemes (whole lexemes)
+parsed_tokens line tokens = judged line tokens (lexemes_of line tokens) (whole (lexemes_of line tokens))
 
--- the request of a line that was read as tokens, or the fault of its tokens
+-- the fault of a line whose tokens have this one
+abbrev pub fault_of : LexFault → ParseFault
+fault_of (lex.At at) = fault.Syntax at
+fault_of lex.Limit = fault.Limit
+fault_of lex.OutOfMemory = fault.OutOfMemory
+
+-- the request of a line that was read as tokens
 abbrev pub parsed_lexed : List ℕ → Result (List Token) LexFault → Result Request ParseFault
 parsed_lexed line (Ok tokens) = parsed_tokens line tokens
-parsed_lexed line (Err (lex.At at)) = Err (fault.Syntax at)
-parsed_lexed line (Err lex.Limit) = Err fault.Limit
-parsed_lexed line (Err lex.OutOfMemory) = Err fault.OutOfMemory
+parsed_lexed line (Err f) = Err (fault_of f)
 
 -- the request of a line, once one carriage return at its end is dropped, or its fault
 unfoldable pub parsed : List ℕ → Result Request ParseFault

@@ -172,8 +172,8 @@ fn sum_round(alloc: Global, left: Expr, lexemes: &[Lexeme]) -> Read<'_, Expr>
             Ok((add(alloc, left, right)?, rest))
         }
         [Lexeme::Minus, rest @ ..] => {
-            let (right, rest) = term(alloc, rest)?;
-            Ok((sub(alloc, left, right)?, rest))
+            let (right, after) = term(alloc, rest)?;
+            Ok((sub(alloc, left, right)?, after))
         }
         _ => Err(Stop::Left(lexemes.len())),
     }

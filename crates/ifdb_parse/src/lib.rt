@@ -12,6 +12,7 @@ mod kinds;
 mod laws;
 mod lexemes;
 mod limits;
+mod line;
 mod list;
 mod names;
 mod queries;
@@ -20,6 +21,8 @@ mod shared;
 mod statements;
 mod stop;
 mod tables;
+mod words;
 
 pub use fault::ParseFault;
-pub use laws::parser_reads_the_grammar;
+pub use laws::{parser_reads_the_grammar, requests_are_read};
+pub use line::parse;

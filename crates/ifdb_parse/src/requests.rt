@@ -2,6 +2,8 @@
 ghost use Rattle.std.specs.Prelude.{◌≡◌, length};
 ghost use Rattle.ifdb_syntax.specs.Words.{BEGIN, COMMIT, ROLLBACK, BYE};
 ghost use Rattle.ifdb_parse.specs.theory.Gives.{Gives};
+ghost use Rattle.ifdb_parse.specs.theory.Kinds.{sees};
+ghost use Rattle.ifdb_parse.specs.theory.Parser.{ended_at};
 ghost use Rattle.ifdb_parse.specs.rules.Requests as spec;
 
 use crate::authority::authority;
@@ -69,25 +71,34 @@ fn session(alloc: Global, lexemes: &[Lexeme]) -> Read<'_, Request>
     }
 }
 
-/// A request.
-#[tactic(auto, unfolding(crate::specs::rules::Requests::request))]
-fn request(alloc: Global, lexemes: &[Lexeme]) -> Read<'_, Request>
-    ensures { Gives (λ x. (x.0, x.1.now)) result (spec.request lexemes.now) }
+/// Whether a request of `session` begins here.
+fn begins_session(lexemes: &[Lexeme]) -> bool
+    ensures { result ≡ sees spec.in_session lexemes.now }
 {
-    match lexemes {
+    matches!(
+        lexemes,
         [
             Lexeme::Hello
-            | Lexeme::Create
-            | Lexeme::Grant
-            | Lexeme::Revoke
-            | Lexeme::Set
-            | Lexeme::Show
-            | Lexeme::Begin
-            | Lexeme::Commit
-            | Lexeme::Rollback
-            | Lexeme::Bye,
+                | Lexeme::Create
+                | Lexeme::Grant
+                | Lexeme::Revoke
+                | Lexeme::Set
+                | Lexeme::Show
+                | Lexeme::Begin
+                | Lexeme::Commit
+                | Lexeme::Rollback
+                | Lexeme::Bye,
             ..
-        ] => session(alloc, lexemes),
+        ]
+    )
+}
+
+/// A SELECT, INSERT, UPDATE or DELETE.
+#[tactic(auto, unfolding(crate::specs::rules::Requests::statement))]
+fn statement(alloc: Global, lexemes: &[Lexeme]) -> Read<'_, Request>
+    ensures { Gives (λ x. (x.0, x.1.now)) result (spec.statement lexemes.now) }
+{
+    match lexemes {
         [Lexeme::Select, ..] => query(alloc, lexemes),
         [Lexeme::Insert, ..] => insert(alloc, lexemes),
         [Lexeme::Update, ..] => update(alloc, lexemes),
@@ -95,17 +106,45 @@ fn request(alloc: Global, lexemes: &[Lexeme]) -> Read<'_, Request>
     }
 }
 
-/// The request that all of these lexemes are, `line = request [;]`; or how many lexemes are left from the first that fits
-/// nothing on.
-#[tactic(auto, unfolding(crate::specs::rules::Requests::whole, crate::specs::rules::Requests::line, crate::specs::rules::Shared::token))]
-pub(crate) fn whole(alloc: Global, lexemes: &[Lexeme]) -> Result<Request, Stop>
-    ensures { Gives (λ x. x) result (spec.whole lexemes.now) }
+/// A request.
+#[tactic(auto, using(crate::proofs::rules::Loops::request_is))]
+fn request(alloc: Global, lexemes: &[Lexeme]) -> Read<'_, Request>
+    ensures { Gives (λ x. (x.0, x.1.now)) result (spec.request lexemes.now) }
+{
+    if begins_session(lexemes) {
+        session(alloc, lexemes)
+    } else {
+        statement(alloc, lexemes)
+    }
+}
+
+/// `line = request [;]`.
+#[tactic(auto, unfolding(crate::specs::rules::Requests::line, crate::specs::rules::Shared::token))]
+fn line(alloc: Global, lexemes: &[Lexeme]) -> Read<'_, Request>
+    ensures { Gives (λ x. (x.0, x.1.now)) result (spec.line lexemes.now) }
 {
     let (found, rest) = request(alloc, lexemes)?;
     match rest {
+        [Lexeme::Semicolon, rest @ ..] => Ok((found, rest)),
+        _ => Ok((found, rest)),
+    }
+}
+
+/// What was read, if no lexeme is left.
+fn ended(found: Request, rest: &[Lexeme]) -> Result<Request, Stop>
+    ensures { Gives (λ x. x) result (ended_at found rest.now) }
+{
+    match rest {
         [] => Ok(found),
-        [Lexeme::Semicolon] => Ok(found),
-        [Lexeme::Semicolon, after @ ..] => Err(Stop::Left(after.len())),
         _ => Err(Stop::Left(rest.len())),
     }
+}
+
+/// The request that all of these lexemes are; or how many are left from the first that fits nothing on.
+#[tactic(auto, unfolding(crate::specs::rules::Requests::whole))]
+pub(crate) fn whole(alloc: Global, lexemes: &[Lexeme]) -> Result<Request, Stop>
+    ensures { Gives (λ x. x) result (spec.whole lexemes.now) }
+{
+    let (found, rest) = line(alloc, lexemes)?;
+    ended(found, rest)
 }

@@ -1,14 +1,18 @@
--- The loops of the parser: one more round, and what is repeated after it.
-use Rattle.std.proofs.Common.{◌≡◌, List, [], ◌∷◌, Ok, refl}
+-- What functions of the parser need beside the definition of their rule: one more round of a loop, and what is repeated
+-- after it; a rule that names itself; and the two kinds of requests.
+use Rattle.std.proofs.Common.{◌≡◌, Bool, true, false, List, [], ◌∷◌, ◌++◌, Ok, refl}
+use Rattle.std.specs.Prelude.{◌||◌}
 use Rattle.ifdb_syntax.specs.declared.lexeme.Lexeme.TheVariants as t
 use Rattle.ifdb_syntax.specs.declared.expression.Expr.{Expr}
 use Rattle.ifdb_syntax.specs.declared.condition.Cond.{Cond}
-use Rattle.ifdb_syntax.specs.Words.{Lexemes, STAR, PLUS, MINUS, NOT, AND, OR}
-use Rattle.ifdb_parse.specs.theory.Kinds.{sees}
+use Rattle.ifdb_syntax.specs.Words.{Lexemes, kind, STAR, PLUS, MINUS, NOT, AND, OR, SELECT, INSERT, UPDATE}
+use Rattle.ifdb_parse.specs.theory.Kinds.{Kinds, sees}
 use Rattle.ifdb_parse.specs.theory.Parser.{Parser, and_then, branch, choose, repeat_by}
 use Rattle.ifdb_parse.specs.rules.Shared.{next_member}
 use Rattle.ifdb_parse.specs.rules.Expressions as p
 use Rattle.ifdb_parse.specs.rules.Conditions as c
+use Rattle.ifdb_parse.specs.rules.Requests as q
+use Rattle.ifdb_parse.proofs.theory.KindLemmas.{mem-append}
 use Rattle.ifdb_parse.proofs.theory.Rounds.{Turns, turns, shorter, repeat_is, repeat_goes}
 use Rattle.ifdb_parse.proofs.rules.Lists.{next_turns}
 use Rattle.ifdb_parse.proofs.rules.Expressions.{factor_reads, product_round_reads, term_reads, sum_round_reads, expr_reads}
@@ -64,3 +68,20 @@ ors_are x s = repeat_is (OR ∷ []) disjunct or_turns x s
 
 pub ors_go : (x : List Cond) (s : Lexemes) (y : List Cond) (r : Lexemes) → disjunct x s ≡ Ok (y, r) → repeat_by (OR ∷ []) disjunct x s ≡ repeat_by (OR ∷ []) disjunct y r
 ors_go x s y r e = repeat_goes (OR ∷ []) disjunct or_turns x s y r e
+
+-- ---- requests
+
+-- what is seen in one of two sets
+seen : (ks ls : Kinds) (s : Lexemes) → sees (ks ++ ls) s ≡ (sees ks s || sees ls s)
+seen ks ls [] = refl
+seen ks ls (x ∷ s) = mem-append (kind x) ks ls
+
+pub request_is : (s : Lexemes) → q.request s ≡ choose (sees q.in_session s) (q.session s) (q.statement s)
+unfolding q.request q.statement
+request_is s =
+    rw (seen q.in_session (SELECT ∷ INSERT ∷ UPDATE ∷ []) s, seen q.in_session (SELECT ∷ INSERT ∷ []) s, seen q.in_session (SELECT ∷ []) s)
+    (go (sees q.in_session s) (sees (SELECT ∷ INSERT ∷ UPDATE ∷ []) s) (sees (SELECT ∷ INSERT ∷ []) s) (sees (SELECT ∷ []) s) (q.session s) (q.query s) (q.insert s) (q.update s) (q.delete s))
+  where
+    go : {A : Type 0} (a b c d : Bool) (v w x y z : A) → choose (a || b) (choose (a || c) (choose (a || d) (choose a v w) x) y) z ≡ choose a v (choose b (choose c (choose d w x) y) z)
+    go true b c d v w x y z = refl
+    go false b c d v w x y z = refl

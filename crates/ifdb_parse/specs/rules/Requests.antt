@@ -295,6 +295,11 @@ session =
     (word ROLLBACK q.Rollback))
     (word BYE q.Bye)
 
+-- SELECT, INSERT, UPDATE and DELETE
+unfoldable pub statement : Parser Request
+statement =
+    branch (SELECT ∷ INSERT ∷ UPDATE ∷ []) (branch (SELECT ∷ INSERT ∷ []) (branch (SELECT ∷ []) query insert) update) delete
+
 unfoldable pub request : Parser Request
 request =
     branch (in_session ++ SELECT ∷ INSERT ∷ UPDATE ∷ [])

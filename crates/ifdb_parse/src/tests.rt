@@ -1,0 +1,38 @@
+// That `parse` gives an answer of each kind. Which answer each line has, its clauses and laws say.
+use crate::parse;
+use ifdb_syntax::print;
+use std::alloc::Global;
+use std::test::Fail;
+
+/// Lines, each with its request's canonical text or its fault.
+static LINES: [(&[u8], &str); 6] = [
+    (
+        b"select  ID from Note where not (id!=1);",
+        "SELECT id FROM note WHERE NOT id <> 1",
+    ),
+    (b"SHOW ?", "Syntax(5)"),
+    (b"SHOW LABELS", "Syntax(5)"),
+    (b"SHOW\r", "Syntax(4)"),
+    (b"BYE 9223372036854775809", "Limit"),
+    (b"SELECT 9223372036854775808 FROM note", "Limit"),
+];
+
+/// The canonical text of a line's request, or its fault.
+fn shown(alloc: Global, line: &[u8]) -> Result<String, Fail> {
+    match parse(alloc, line) {
+        Ok(request) => {
+            let text = print(alloc, &request)?;
+            Ok(String::from_utf8_lossy(alloc, text.as_slice())?)
+        }
+        Err(fault) => Ok(format!(in alloc; "{fault:?}")?),
+    }
+}
+
+#[test]
+fn lines_are_read(rt: HostRuntime) -> Result<(), Fail> {
+    for (line, want) in &LINES {
+        let found = shown(rt.alloc(), line)?;
+        assert_eq!(rt; found.as_str(), *want);
+    }
+    Ok(())
+}
