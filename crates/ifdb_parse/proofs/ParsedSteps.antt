@@ -1,5 +1,5 @@
 -- What a line is read as, by what was found of its tokens and of its lexemes.
-use Rattle.std.proofs.Common.{◌≡◌, ℕ, List, length, Ok, Err, ap, ◌∙◌}
+use Rattle.std.proofs.Common.{◌≡◌, ℕ, List, Ok, Err, ap, ◌∙◌}
 use Rattle.ifdb_lex.specs.declared.token.Token.{Token}
 use Rattle.ifdb_lex.specs.declared.fault.LexFault.{LexFault}
 use Rattle.ifdb_lex.specs.Line.{without_return}

@@ -1,7 +1,6 @@
 -- Whether each number of a tree, as it is written, is one that a value holds: from -2^63 to 2^63 - 1.
-use Rattle.std.specs.Prelude.{◌^◌, Bool, true, ◌&&◌, nat_lt, List}
+use Rattle.std.specs.Prelude.{◌^◌, Bool, true, ◌&&◌, nat_lt}
 use Rattle.std.specs.List.{list_all}
-use Rattle.ifdb_value.specs.declared.value.Value.{Value}
 use Rattle.ifdb_syntax.specs.declared.select.Select.{Select}
 use Rattle.ifdb_syntax.specs.declared.select.Order.{Order}
 use Rattle.ifdb_syntax.specs.declared.select.OrderBy.{OrderBy}

@@ -1,6 +1,5 @@
 // Requests on sessions, principals, tags and labels.
-ghost use Rattle.std.specs.Prelude.{◌≡◌, length};
-ghost use Rattle.ifdb_parse.specs.theory.Gives.{Gives};
+ghost use Rattle.ifdb_parse.specs.theory.Gives.{IsRead};
 ghost use Rattle.ifdb_parse.specs.rules.Requests as spec;
 
 use crate::creations::create;
@@ -12,7 +11,7 @@ use std::alloc::Global;
 /// `HELLO name KEY text`.
 #[tactic(auto, unfolding(crate::specs::rules::Requests::hello))]
 fn hello(alloc: Global, lexemes: &[Lexeme]) -> Read<'_, Request>
-    ensures { Gives (λ x. (x.0, x.1.now)) result (spec.hello lexemes.now) }
+    ensures { IsRead result (spec.hello lexemes.now) }
 {
     let rest = token(lexemes, Lexeme::Hello)?;
     let (name, rest) = name(alloc, rest)?;
@@ -24,7 +23,7 @@ fn hello(alloc: Global, lexemes: &[Lexeme]) -> Read<'_, Request>
 /// `GRANT name TO name`.
 #[tactic(auto, unfolding(crate::specs::rules::Requests::grant))]
 fn grant(alloc: Global, lexemes: &[Lexeme]) -> Read<'_, Request>
-    ensures { Gives (λ x. (x.0, x.1.now)) result (spec.grant lexemes.now) }
+    ensures { IsRead result (spec.grant lexemes.now) }
 {
     let rest = token(lexemes, Lexeme::Grant)?;
     let (tag, rest) = name(alloc, rest)?;
@@ -36,7 +35,7 @@ fn grant(alloc: Global, lexemes: &[Lexeme]) -> Read<'_, Request>
 /// `REVOKE name FROM name`.
 #[tactic(auto, unfolding(crate::specs::rules::Requests::revoke))]
 fn revoke(alloc: Global, lexemes: &[Lexeme]) -> Read<'_, Request>
-    ensures { Gives (λ x. (x.0, x.1.now)) result (spec.revoke lexemes.now) }
+    ensures { IsRead result (spec.revoke lexemes.now) }
 {
     let rest = token(lexemes, Lexeme::Revoke)?;
     let (tag, rest) = name(alloc, rest)?;
@@ -48,7 +47,7 @@ fn revoke(alloc: Global, lexemes: &[Lexeme]) -> Read<'_, Request>
 /// `SET LABEL ( [names] )`.
 #[tactic(auto, unfolding(crate::specs::rules::Requests::set_label))]
 fn set_label(alloc: Global, lexemes: &[Lexeme]) -> Read<'_, Request>
-    ensures { Gives (λ x. (x.0, x.1.now)) result (spec.set_label lexemes.now) }
+    ensures { IsRead result (spec.set_label lexemes.now) }
 {
     let rest = token(lexemes, Lexeme::Set)?;
     let rest = token(rest, Lexeme::Label)?;
@@ -61,7 +60,7 @@ fn set_label(alloc: Global, lexemes: &[Lexeme]) -> Read<'_, Request>
 /// `SHOW LABEL`.
 #[tactic(auto, unfolding(crate::specs::rules::Requests::show_label))]
 fn show_label(lexemes: &[Lexeme]) -> Read<'_, Request>
-    ensures { Gives (λ x. (x.0, x.1.now)) result (spec.show_label lexemes.now) }
+    ensures { IsRead result (spec.show_label lexemes.now) }
 {
     let rest = token(lexemes, Lexeme::Show)?;
     let rest = token(rest, Lexeme::Label)?;
@@ -71,7 +70,7 @@ fn show_label(lexemes: &[Lexeme]) -> Read<'_, Request>
 /// HELLO, CREATE, GRANT, REVOKE, SET LABEL and SHOW LABEL.
 #[tactic(auto, unfolding(crate::specs::rules::Requests::authority))]
 pub(crate) fn authority(alloc: Global, lexemes: &[Lexeme]) -> Read<'_, Request>
-    ensures { Gives (λ x. (x.0, x.1.now)) result (spec.authority lexemes.now) }
+    ensures { IsRead result (spec.authority lexemes.now) }
 {
     match lexemes {
         [Lexeme::Hello, ..] => hello(alloc, lexemes),

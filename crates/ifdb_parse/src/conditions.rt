@@ -1,8 +1,8 @@
 // Conditions.
-ghost use Rattle.std.specs.Prelude.{◌≡◌, ◌<◌, length, IfOk};
+ghost use Rattle.std.specs.Prelude.{◌≡◌};
 ghost use Rattle.ifdb_syntax.specs.Words.{AND as WORD_AND, OR as WORD_OR};
 ghost use Rattle.ifdb_syntax.specs.Conditions.{and_of as and_of_parts, or_of as or_of_parts};
-ghost use Rattle.ifdb_parse.specs.theory.Gives.{Gives};
+ghost use Rattle.ifdb_parse.specs.theory.Gives.{IsRead, IsShorter};
 ghost use Rattle.ifdb_parse.specs.rules.Shared.{next_member};
 ghost use Rattle.ifdb_parse.specs.rules.Conditions as spec;
 
@@ -16,8 +16,8 @@ use std::alloc::Global;
 /// `operand = ref | literal`.
 #[tactic(auto, unfolding(crate::specs::rules::Conditions::operand))]
 fn operand(alloc: Global, lexemes: &[Lexeme]) -> Read<'_, Operand>
-    ensures value { Gives (λ x. (x.0, x.1.now)) result (spec.operand lexemes.now) }
-    ensures shorter { IfOk result (λ x. length x.1.now < length lexemes.now) }
+    ensures value { IsRead result (spec.operand lexemes.now) }
+    ensures shorter { IsShorter result lexemes.now }
 {
     match lexemes {
         [Lexeme::Name(_), ..] => {
@@ -34,8 +34,8 @@ fn operand(alloc: Global, lexemes: &[Lexeme]) -> Read<'_, Operand>
 /// `compare = = | <> | < | <= | > | >=`.
 #[tactic(auto, unfolding(crate::specs::rules::Conditions::compare))]
 fn compare(lexemes: &[Lexeme]) -> Read<'_, Compare>
-    ensures value { Gives (λ x. (x.0, x.1.now)) result (spec.compare lexemes.now) }
-    ensures shorter { IfOk result (λ x. length x.1.now < length lexemes.now) }
+    ensures value { IsRead result (spec.compare lexemes.now) }
+    ensures shorter { IsShorter result lexemes.now }
 {
     match lexemes {
         [Lexeme::Equal, rest @ ..] => Ok((Compare::Equal, rest)),
@@ -51,8 +51,8 @@ fn compare(lexemes: &[Lexeme]) -> Read<'_, Compare>
 /// `operand compare operand`.
 #[tactic(auto, unfolding(crate::specs::rules::Conditions::comparison))]
 fn comparison(alloc: Global, lexemes: &[Lexeme]) -> Read<'_, Cond>
-    ensures value { Gives (λ x. (x.0, x.1.now)) result (spec.comparison lexemes.now) }
-    ensures shorter { IfOk result (λ x. length x.1.now < length lexemes.now) }
+    ensures value { IsRead result (spec.comparison lexemes.now) }
+    ensures shorter { IsShorter result lexemes.now }
 {
     let (left, rest) = operand(alloc, lexemes)?;
     let (how, rest) = compare(rest)?;
@@ -88,8 +88,8 @@ fn or_of(parts: Conds) -> Cond
 #[cycle(cond)]
 #[tactic(auto, unfolding(crate::specs::rules::Conditions::negation, crate::specs::rules::Shared::token))]
 fn negation(alloc: Global, lexemes: &[Lexeme]) -> Read<'_, Cond>
-    ensures value { Gives (λ x. (x.0, x.1.now)) result (spec.negation (spec.prim spec.cond) lexemes.now) }
-    ensures shorter { IfOk result (λ x. length x.1.now < length lexemes.now) }
+    ensures value { IsRead result (spec.negation (spec.prim spec.cond) lexemes.now) }
+    ensures shorter { IsShorter result lexemes.now }
 {
     match lexemes {
         [Lexeme::Not, rest @ ..] => {
@@ -104,8 +104,8 @@ fn negation(alloc: Global, lexemes: &[Lexeme]) -> Read<'_, Cond>
 #[cycle(cond)]
 #[tactic(auto, unfolding(crate::specs::rules::Conditions::basic, crate::specs::rules::Shared::token))]
 fn basic(alloc: Global, lexemes: &[Lexeme]) -> Read<'_, Cond>
-    ensures value { Gives (λ x. (x.0, x.1.now)) result (spec.basic spec.cond lexemes.now) }
-    ensures shorter { IfOk result (λ x. length x.1.now < length lexemes.now) }
+    ensures value { IsRead result (spec.basic spec.cond lexemes.now) }
+    ensures shorter { IsShorter result lexemes.now }
 {
     match lexemes {
         [Lexeme::Open, rest @ ..] => {
@@ -123,8 +123,8 @@ fn basic(alloc: Global, lexemes: &[Lexeme]) -> Read<'_, Cond>
 #[cycle(cond)]
 #[tactic(auto, using(crate::proofs::rules::Loops::prim_is))]
 fn prim(alloc: Global, lexemes: &[Lexeme]) -> Read<'_, Cond>
-    ensures value { Gives (λ x. (x.0, x.1.now)) result (spec.prim spec.cond lexemes.now) }
-    ensures shorter { IfOk result (λ x. length x.1.now < length lexemes.now) }
+    ensures value { IsRead result (spec.prim spec.cond lexemes.now) }
+    ensures shorter { IsShorter result lexemes.now }
 {
     match lexemes {
         [Lexeme::Not, ..] => negation(alloc, lexemes),
@@ -136,8 +136,8 @@ fn prim(alloc: Global, lexemes: &[Lexeme]) -> Read<'_, Cond>
 #[cycle(cond)]
 #[tactic(auto, unfolding(crate::specs::rules::Shared::token))]
 fn next_and(alloc: Global, mut parts: Conds, lexemes: &[Lexeme]) -> Read<'_, Conds>
-    ensures value { Gives (λ x. (x.0, x.1.now)) result (next_member WORD_AND (spec.prim spec.cond) parts lexemes.now) }
-    ensures shorter { IfOk result (λ x. length x.1.now < length lexemes.now) }
+    ensures value { IsRead result (next_member WORD_AND (spec.prim spec.cond) parts lexemes.now) }
+    ensures shorter { IsShorter result lexemes.now }
 {
     match lexemes {
         [Lexeme::And, rest @ ..] => {
@@ -153,8 +153,8 @@ fn next_and(alloc: Global, mut parts: Conds, lexemes: &[Lexeme]) -> Read<'_, Con
 #[cycle(cond)]
 #[tactic(auto, using(crate::proofs::rules::Loops::ands_are, crate::proofs::rules::Loops::ands_go), unfolding(crate::specs::rules::Conditions::conj))]
 fn conj(alloc: Global, lexemes: &[Lexeme]) -> Read<'_, Cond>
-    ensures value { Gives (λ x. (x.0, x.1.now)) result (spec.conj (spec.prim spec.cond) lexemes.now) }
-    ensures shorter { IfOk result (λ x. length x.1.now < length lexemes.now) }
+    ensures value { IsRead result (spec.conj (spec.prim spec.cond) lexemes.now) }
+    ensures shorter { IsShorter result lexemes.now }
 {
     let (first, mut rest) = prim(alloc, lexemes)?;
     let mut parts = Sequence::new(alloc);
@@ -171,8 +171,8 @@ fn conj(alloc: Global, lexemes: &[Lexeme]) -> Read<'_, Cond>
 #[cycle(cond)]
 #[tactic(auto, unfolding(crate::specs::rules::Shared::token))]
 fn next_or(alloc: Global, mut parts: Conds, lexemes: &[Lexeme]) -> Read<'_, Conds>
-    ensures value { Gives (λ x. (x.0, x.1.now)) result (next_member WORD_OR (spec.conj (spec.prim spec.cond)) parts lexemes.now) }
-    ensures shorter { IfOk result (λ x. length x.1.now < length lexemes.now) }
+    ensures value { IsRead result (next_member WORD_OR (spec.conj (spec.prim spec.cond)) parts lexemes.now) }
+    ensures shorter { IsShorter result lexemes.now }
 {
     match lexemes {
         [Lexeme::Or, rest @ ..] => {
@@ -188,8 +188,8 @@ fn next_or(alloc: Global, mut parts: Conds, lexemes: &[Lexeme]) -> Read<'_, Cond
 #[cycle(cond)]
 #[tactic(auto, using(crate::proofs::rules::Loops::ors_are, crate::proofs::rules::Loops::ors_go, crate::proofs::rules::Conditions::cond_is), unfolding(crate::specs::rules::Conditions::disj))]
 pub(crate) fn cond(alloc: Global, lexemes: &[Lexeme]) -> Read<'_, Cond>
-    ensures value { Gives (λ x. (x.0, x.1.now)) result (spec.cond lexemes.now) }
-    ensures shorter { IfOk result (λ x. length x.1.now < length lexemes.now) }
+    ensures value { IsRead result (spec.cond lexemes.now) }
+    ensures shorter { IsShorter result lexemes.now }
 {
     let (first, mut rest) = conj(alloc, lexemes)?;
     let mut parts = Sequence::new(alloc);
@@ -205,7 +205,7 @@ pub(crate) fn cond(alloc: Global, lexemes: &[Lexeme]) -> Read<'_, Cond>
 /// `[WHERE cond]`.
 #[tactic(auto, unfolding(crate::specs::rules::Conditions::condition, crate::specs::rules::Shared::token))]
 pub(crate) fn condition(alloc: Global, lexemes: &[Lexeme]) -> Read<'_, Option<Cond>>
-    ensures { Gives (λ x. (x.0, x.1.now)) result (spec.condition lexemes.now) }
+    ensures { IsRead result (spec.condition lexemes.now) }
 {
     match lexemes {
         [Lexeme::Where, rest @ ..] => {

@@ -1,6 +1,5 @@
 // What stands behind CREATE.
-ghost use Rattle.std.specs.Prelude.{◌≡◌, length};
-ghost use Rattle.ifdb_parse.specs.theory.Gives.{Gives};
+ghost use Rattle.ifdb_parse.specs.theory.Gives.{IsRead};
 ghost use Rattle.ifdb_parse.specs.rules.Requests as spec;
 
 use crate::names::{names_behind, names_in_parens};
@@ -14,7 +13,7 @@ use std::alloc::Global;
 /// `PRINCIPAL name KEY text`.
 #[tactic(auto, unfolding(crate::specs::rules::Requests::principal))]
 fn principal(alloc: Global, lexemes: &[Lexeme]) -> Read<'_, Request>
-    ensures { Gives (λ x. (x.0, x.1.now)) result (spec.principal lexemes.now) }
+    ensures { IsRead result (spec.principal lexemes.now) }
 {
     let rest = token(lexemes, Lexeme::Principal)?;
     let (name, rest) = name(alloc, rest)?;
@@ -26,7 +25,7 @@ fn principal(alloc: Global, lexemes: &[Lexeme]) -> Read<'_, Request>
 /// `TAG name [IN ( names )]`.
 #[tactic(auto, unfolding(crate::specs::rules::Requests::tag))]
 fn tag(alloc: Global, compound: bool, lexemes: &[Lexeme]) -> Read<'_, Request>
-    ensures { Gives (λ x. (x.0, x.1.now)) result (spec.tag compound lexemes.now) }
+    ensures { IsRead result (spec.tag compound lexemes.now) }
 {
     let rest = token(lexemes, Lexeme::Tag)?;
     let (name, rest) = name(alloc, rest)?;
@@ -44,7 +43,7 @@ fn tag(alloc: Global, compound: bool, lexemes: &[Lexeme]) -> Read<'_, Request>
 /// `COMPOUND TAG name [IN ( names )]`.
 #[tactic(auto, unfolding(crate::specs::rules::Requests::compound_tag))]
 fn compound_tag(alloc: Global, lexemes: &[Lexeme]) -> Read<'_, Request>
-    ensures { Gives (λ x. (x.0, x.1.now)) result (spec.compound_tag lexemes.now) }
+    ensures { IsRead result (spec.compound_tag lexemes.now) }
 {
     let rest = token(lexemes, Lexeme::Compound)?;
     tag(alloc, true, rest)
@@ -53,7 +52,7 @@ fn compound_tag(alloc: Global, lexemes: &[Lexeme]) -> Read<'_, Request>
 /// `WITH DECLASSIFYING ( names )`, behind what a view shows.
 #[tactic(auto, unfolding(crate::specs::rules::Requests::view_tags))]
 fn view_tags(alloc: Global, name: Name, select: Select, lexemes: &[Lexeme]) -> Read<'_, Request>
-    ensures { Gives (λ x. (x.0, x.1.now)) result (spec.view_tags name select lexemes.now) }
+    ensures { IsRead result (spec.view_tags name select lexemes.now) }
 {
     let rest = token(lexemes, Lexeme::With)?;
     let rest = token(rest, Lexeme::Declassifying)?;
@@ -64,7 +63,7 @@ fn view_tags(alloc: Global, name: Name, select: Select, lexemes: &[Lexeme]) -> R
 /// `VIEW name AS plain WITH DECLASSIFYING ( names )`.
 #[tactic(auto, unfolding(crate::specs::rules::Requests::view))]
 fn view(alloc: Global, lexemes: &[Lexeme]) -> Read<'_, Request>
-    ensures { Gives (λ x. (x.0, x.1.now)) result (spec.view lexemes.now) }
+    ensures { IsRead result (spec.view lexemes.now) }
 {
     let rest = token(lexemes, Lexeme::View)?;
     let (name, rest) = name(alloc, rest)?;
@@ -76,7 +75,7 @@ fn view(alloc: Global, lexemes: &[Lexeme]) -> Read<'_, Request>
 /// What stands behind CREATE.
 #[tactic(auto, unfolding(crate::specs::rules::Requests::created))]
 fn created(alloc: Global, lexemes: &[Lexeme]) -> Read<'_, Request>
-    ensures { Gives (λ x. (x.0, x.1.now)) result (spec.created lexemes.now) }
+    ensures { IsRead result (spec.created lexemes.now) }
 {
     match lexemes {
         [Lexeme::Principal, ..] => principal(alloc, lexemes),
@@ -90,7 +89,7 @@ fn created(alloc: Global, lexemes: &[Lexeme]) -> Read<'_, Request>
 /// CREATE, and what stands behind it.
 #[tactic(auto, unfolding(crate::specs::rules::Requests::create))]
 pub(crate) fn create(alloc: Global, lexemes: &[Lexeme]) -> Read<'_, Request>
-    ensures { Gives (λ x. (x.0, x.1.now)) result (spec.create lexemes.now) }
+    ensures { IsRead result (spec.create lexemes.now) }
 {
     let rest = token(lexemes, Lexeme::Create)?;
     created(alloc, rest)

@@ -1,7 +1,7 @@
 // Columns, literals and expressions.
-ghost use Rattle.std.specs.Prelude.{◌≡◌, ◌<◌, length, IfOk};
+ghost use Rattle.std.specs.Prelude.{◌≡◌};
 ghost use Rattle.ifdb_syntax.specs.Reading.{bounded};
-ghost use Rattle.ifdb_parse.specs.theory.Gives.{Gives};
+ghost use Rattle.ifdb_parse.specs.theory.Gives.{IsRead, IsShorter};
 ghost use Rattle.ifdb_parse.specs.rules.Expressions as spec;
 
 use crate::join::{add, mul, sub};
@@ -15,8 +15,8 @@ use std::alloc::Global;
 /// `ref = name [. name]`.
 #[tactic(auto, unfolding(crate::specs::rules::Expressions::column_ref, crate::specs::rules::Shared::token))]
 pub(crate) fn column_ref(alloc: Global, lexemes: &[Lexeme]) -> Read<'_, ColumnRef>
-    ensures value { Gives (λ x. (x.0, x.1.now)) result (spec.column_ref lexemes.now) }
-    ensures shorter { IfOk result (λ x. length x.1.now < length lexemes.now) }
+    ensures value { IsRead result (spec.column_ref lexemes.now) }
+    ensures shorter { IsShorter result lexemes.now }
 {
     let (first, rest) = name(alloc, lexemes)?;
     match rest {
@@ -63,8 +63,8 @@ fn negated(number: u64) -> i64
 /// `literal = number | - number | text`.
 #[tactic(auto, unfolding(crate::specs::rules::Expressions::literal, crate::specs::rules::Shared::token, crate::specs::rules::Shared::number, crate::specs::rules::Shared::text))]
 pub(crate) fn literal(alloc: Global, lexemes: &[Lexeme]) -> Read<'_, Value>
-    ensures value { Gives (λ x. (x.0, x.1.now)) result (spec.literal lexemes.now) }
-    ensures shorter { IfOk result (λ x. length x.1.now < length lexemes.now) }
+    ensures value { IsRead result (spec.literal lexemes.now) }
+    ensures shorter { IsShorter result lexemes.now }
 {
     match lexemes {
         [Lexeme::Number(number), rest @ ..] => Ok((Value::Int(plain(*number)), rest)),
@@ -77,8 +77,8 @@ pub(crate) fn literal(alloc: Global, lexemes: &[Lexeme]) -> Read<'_, Value>
 /// The number behind the `-` of a literal.
 #[tactic(auto, unfolding(crate::specs::rules::Expressions::negative, crate::specs::rules::Shared::number))]
 fn negative(lexemes: &[Lexeme]) -> Read<'_, Value>
-    ensures value { Gives (λ x. (x.0, x.1.now)) result (spec.negative lexemes.now) }
-    ensures shorter { IfOk result (λ x. length x.1.now < length lexemes.now) }
+    ensures value { IsRead result (spec.negative lexemes.now) }
+    ensures shorter { IsShorter result lexemes.now }
 {
     match lexemes {
         [Lexeme::Number(number), rest @ ..] => Ok((Value::Int(negated(*number)), rest)),
@@ -89,8 +89,8 @@ fn negative(lexemes: &[Lexeme]) -> Read<'_, Value>
 /// `ref | literal`.
 #[tactic(auto, unfolding(crate::specs::rules::Expressions::atom))]
 fn atom(alloc: Global, lexemes: &[Lexeme]) -> Read<'_, Expr>
-    ensures value { Gives (λ x. (x.0, x.1.now)) result (spec.atom lexemes.now) }
-    ensures shorter { IfOk result (λ x. length x.1.now < length lexemes.now) }
+    ensures value { IsRead result (spec.atom lexemes.now) }
+    ensures shorter { IsShorter result lexemes.now }
 {
     match lexemes {
         [Lexeme::Name(_), ..] => {
@@ -108,8 +108,8 @@ fn atom(alloc: Global, lexemes: &[Lexeme]) -> Read<'_, Expr>
 #[cycle(expr)]
 #[tactic(auto, unfolding(crate::specs::rules::Expressions::factor, crate::specs::rules::Shared::token))]
 fn factor(alloc: Global, lexemes: &[Lexeme]) -> Read<'_, Expr>
-    ensures value { Gives (λ x. (x.0, x.1.now)) result (spec.factor spec.expr lexemes.now) }
-    ensures shorter { IfOk result (λ x. length x.1.now < length lexemes.now) }
+    ensures value { IsRead result (spec.factor spec.expr lexemes.now) }
+    ensures shorter { IsShorter result lexemes.now }
 {
     match lexemes {
         [
@@ -131,8 +131,8 @@ fn factor(alloc: Global, lexemes: &[Lexeme]) -> Read<'_, Expr>
 #[cycle(expr)]
 #[tactic(auto, unfolding(crate::specs::rules::Expressions::product_round, crate::specs::rules::Shared::token))]
 fn product_round(alloc: Global, left: Expr, lexemes: &[Lexeme]) -> Read<'_, Expr>
-    ensures value { Gives (λ x. (x.0, x.1.now)) result (spec.product_round (spec.factor spec.expr) left lexemes.now) }
-    ensures shorter { IfOk result (λ x. length x.1.now < length lexemes.now) }
+    ensures value { IsRead result (spec.product_round (spec.factor spec.expr) left lexemes.now) }
+    ensures shorter { IsShorter result lexemes.now }
 {
     match lexemes {
         [Lexeme::Star, rest @ ..] => {
@@ -147,8 +147,8 @@ fn product_round(alloc: Global, left: Expr, lexemes: &[Lexeme]) -> Read<'_, Expr
 #[cycle(expr)]
 #[tactic(auto, using(crate::proofs::rules::Loops::products_are, crate::proofs::rules::Loops::products_go), unfolding(crate::specs::rules::Expressions::term))]
 fn term(alloc: Global, lexemes: &[Lexeme]) -> Read<'_, Expr>
-    ensures value { Gives (λ x. (x.0, x.1.now)) result (spec.term (spec.factor spec.expr) lexemes.now) }
-    ensures shorter { IfOk result (λ x. length x.1.now < length lexemes.now) }
+    ensures value { IsRead result (spec.term (spec.factor spec.expr) lexemes.now) }
+    ensures shorter { IsShorter result lexemes.now }
 {
     let (mut left, mut rest) = factor(alloc, lexemes)?;
     'products: while let [Lexeme::Star, ..] = rest {
@@ -163,8 +163,8 @@ fn term(alloc: Global, lexemes: &[Lexeme]) -> Read<'_, Expr>
 #[cycle(expr)]
 #[tactic(auto, unfolding(crate::specs::rules::Expressions::sum_round, crate::specs::rules::Shared::token))]
 fn sum_round(alloc: Global, left: Expr, lexemes: &[Lexeme]) -> Read<'_, Expr>
-    ensures value { Gives (λ x. (x.0, x.1.now)) result (spec.sum_round (spec.term (spec.factor spec.expr)) left lexemes.now) }
-    ensures shorter { IfOk result (λ x. length x.1.now < length lexemes.now) }
+    ensures value { IsRead result (spec.sum_round (spec.term (spec.factor spec.expr)) left lexemes.now) }
+    ensures shorter { IsShorter result lexemes.now }
 {
     match lexemes {
         [Lexeme::Plus, rest @ ..] => {
@@ -183,8 +183,8 @@ fn sum_round(alloc: Global, left: Expr, lexemes: &[Lexeme]) -> Read<'_, Expr>
 #[cycle(expr)]
 #[tactic(auto, using(crate::proofs::rules::Loops::sums_are, crate::proofs::rules::Loops::sums_go, crate::proofs::rules::Expressions::expr_is), unfolding(crate::specs::rules::Expressions::sum))]
 pub(crate) fn expr(alloc: Global, lexemes: &[Lexeme]) -> Read<'_, Expr>
-    ensures value { Gives (λ x. (x.0, x.1.now)) result (spec.expr lexemes.now) }
-    ensures shorter { IfOk result (λ x. length x.1.now < length lexemes.now) }
+    ensures value { IsRead result (spec.expr lexemes.now) }
+    ensures shorter { IsShorter result lexemes.now }
 {
     let (mut left, mut rest) = term(alloc, lexemes)?;
     'sums: while let [Lexeme::Plus | Lexeme::Minus, ..] = rest {

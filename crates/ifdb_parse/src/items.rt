@@ -1,7 +1,6 @@
 // What a SELECT gives.
-ghost use Rattle.std.specs.Prelude.{◌≡◌, ◌<◌, ◌≤◌, length, IfOk};
 ghost use Rattle.ifdb_syntax.specs.Words.{COMMA, SUM, MIN, MAX};
-ghost use Rattle.ifdb_parse.specs.theory.Gives.{Gives};
+ghost use Rattle.ifdb_parse.specs.theory.Gives.{IsNoLonger, IsRead, IsShorter};
 ghost use Rattle.ifdb_parse.specs.rules.Shared.{parens, next_member};
 ghost use Rattle.ifdb_parse.specs.rules.Expressions.{column_ref as column_ref_parser};
 ghost use Rattle.ifdb_parse.specs.rules.Queries as spec;
@@ -17,8 +16,8 @@ use std::alloc::Global;
 /// `[AS name]`.
 #[tactic(auto, unfolding(crate::specs::rules::Queries::named_as, crate::specs::rules::Shared::token))]
 fn named_as(alloc: Global, lexemes: &[Lexeme]) -> Read<'_, Option<Name>>
-    ensures value { Gives (λ x. (x.0, x.1.now)) result (spec.named_as lexemes.now) }
-    ensures no_longer { IfOk result (λ x. length x.1.now ≤ length lexemes.now) }
+    ensures value { IsRead result (spec.named_as lexemes.now) }
+    ensures no_longer { IsNoLonger result lexemes.now }
 {
     match lexemes {
         [Lexeme::As, rest @ ..] => {
@@ -32,8 +31,8 @@ fn named_as(alloc: Global, lexemes: &[Lexeme]) -> Read<'_, Option<Name>>
 /// `named = expr [AS name]`.
 #[tactic(auto, unfolding(crate::specs::rules::Queries::named))]
 fn named(alloc: Global, lexemes: &[Lexeme]) -> Read<'_, Item>
-    ensures value { Gives (λ x. (x.0, x.1.now)) result (spec.named lexemes.now) }
-    ensures shorter { IfOk result (λ x. length x.1.now < length lexemes.now) }
+    ensures value { IsRead result (spec.named lexemes.now) }
+    ensures shorter { IsShorter result lexemes.now }
 {
     let (expr, rest) = expr(alloc, lexemes)?;
     let (name, rest) = named_as(alloc, rest)?;
@@ -43,8 +42,8 @@ fn named(alloc: Global, lexemes: &[Lexeme]) -> Read<'_, Item>
 /// `LABEL OF name [AS name]`.
 #[tactic(auto, unfolding(crate::specs::rules::Queries::label_of))]
 fn label_of(alloc: Global, lexemes: &[Lexeme]) -> Read<'_, Item>
-    ensures value { Gives (λ x. (x.0, x.1.now)) result (spec.label_of lexemes.now) }
-    ensures shorter { IfOk result (λ x. length x.1.now < length lexemes.now) }
+    ensures value { IsRead result (spec.label_of lexemes.now) }
+    ensures shorter { IsShorter result lexemes.now }
 {
     let rest = token(lexemes, Lexeme::Label)?;
     let rest = token(rest, Lexeme::Of)?;
@@ -56,8 +55,8 @@ fn label_of(alloc: Global, lexemes: &[Lexeme]) -> Read<'_, Item>
 /// `COUNT ( * ) [AS name]`.
 #[tactic(auto, unfolding(crate::specs::rules::Queries::count_all))]
 fn count_all(alloc: Global, lexemes: &[Lexeme]) -> Read<'_, Item>
-    ensures value { Gives (λ x. (x.0, x.1.now)) result (spec.count_all lexemes.now) }
-    ensures shorter { IfOk result (λ x. length x.1.now < length lexemes.now) }
+    ensures value { IsRead result (spec.count_all lexemes.now) }
+    ensures shorter { IsShorter result lexemes.now }
 {
     let rest = token(lexemes, Lexeme::Count)?;
     let rest = token(rest, Lexeme::Open)?;
@@ -69,8 +68,8 @@ fn count_all(alloc: Global, lexemes: &[Lexeme]) -> Read<'_, Item>
 
 /// `( ref )`.
 fn argument(alloc: Global, lexemes: &[Lexeme]) -> Read<'_, ColumnRef>
-    ensures value { Gives (λ x. (x.0, x.1.now)) result (parens column_ref_parser lexemes.now) }
-    ensures shorter { IfOk result (λ x. length x.1.now < length lexemes.now) }
+    ensures value { IsRead result (parens column_ref_parser lexemes.now) }
+    ensures shorter { IsShorter result lexemes.now }
 {
     let rest = token(lexemes, Lexeme::Open)?;
     let (column, rest) = column_ref(alloc, rest)?;
@@ -81,8 +80,8 @@ fn argument(alloc: Global, lexemes: &[Lexeme]) -> Read<'_, ColumnRef>
 /// `SUM ( ref ) [AS name]`.
 #[tactic(auto, unfolding(crate::specs::rules::Queries::aggregate))]
 fn sum(alloc: Global, lexemes: &[Lexeme]) -> Read<'_, Item>
-    ensures value { Gives (λ x. (x.0, x.1.now)) result (spec.aggregate SUM Item.Sum lexemes.now) }
-    ensures shorter { IfOk result (λ x. length x.1.now < length lexemes.now) }
+    ensures value { IsRead result (spec.aggregate SUM Item.Sum lexemes.now) }
+    ensures shorter { IsShorter result lexemes.now }
 {
     let rest = token(lexemes, Lexeme::Sum)?;
     let (column, rest) = argument(alloc, rest)?;
@@ -93,8 +92,8 @@ fn sum(alloc: Global, lexemes: &[Lexeme]) -> Read<'_, Item>
 /// `MIN ( ref ) [AS name]`.
 #[tactic(auto, unfolding(crate::specs::rules::Queries::aggregate))]
 fn min(alloc: Global, lexemes: &[Lexeme]) -> Read<'_, Item>
-    ensures value { Gives (λ x. (x.0, x.1.now)) result (spec.aggregate MIN Item.Min lexemes.now) }
-    ensures shorter { IfOk result (λ x. length x.1.now < length lexemes.now) }
+    ensures value { IsRead result (spec.aggregate MIN Item.Min lexemes.now) }
+    ensures shorter { IsShorter result lexemes.now }
 {
     let rest = token(lexemes, Lexeme::Min)?;
     let (column, rest) = argument(alloc, rest)?;
@@ -105,8 +104,8 @@ fn min(alloc: Global, lexemes: &[Lexeme]) -> Read<'_, Item>
 /// `MAX ( ref ) [AS name]`.
 #[tactic(auto, unfolding(crate::specs::rules::Queries::aggregate))]
 fn max(alloc: Global, lexemes: &[Lexeme]) -> Read<'_, Item>
-    ensures value { Gives (λ x. (x.0, x.1.now)) result (spec.aggregate MAX Item.Max lexemes.now) }
-    ensures shorter { IfOk result (λ x. length x.1.now < length lexemes.now) }
+    ensures value { IsRead result (spec.aggregate MAX Item.Max lexemes.now) }
+    ensures shorter { IsShorter result lexemes.now }
 {
     let rest = token(lexemes, Lexeme::Max)?;
     let (column, rest) = argument(alloc, rest)?;
@@ -117,8 +116,8 @@ fn max(alloc: Global, lexemes: &[Lexeme]) -> Read<'_, Item>
 /// `expr [AS name] | LABEL OF name [AS name] | COUNT ( * ) [AS name]`.
 #[tactic(auto, unfolding(crate::specs::rules::Queries::plain_item))]
 fn plain_item(alloc: Global, lexemes: &[Lexeme]) -> Read<'_, Item>
-    ensures value { Gives (λ x. (x.0, x.1.now)) result (spec.plain_item lexemes.now) }
-    ensures shorter { IfOk result (λ x. length x.1.now < length lexemes.now) }
+    ensures value { IsRead result (spec.plain_item lexemes.now) }
+    ensures shorter { IsShorter result lexemes.now }
 {
     match lexemes {
         [
@@ -133,8 +132,8 @@ fn plain_item(alloc: Global, lexemes: &[Lexeme]) -> Read<'_, Item>
 /// `item = expr [AS name] | LABEL OF name [AS name] | COUNT ( * ) [AS name] | (SUM | MIN | MAX) ( ref ) [AS name]`.
 #[tactic(auto, unfolding(crate::specs::rules::Queries::item))]
 fn item(alloc: Global, lexemes: &[Lexeme]) -> Read<'_, Item>
-    ensures value { Gives (λ x. (x.0, x.1.now)) result (spec.item lexemes.now) }
-    ensures shorter { IfOk result (λ x. length x.1.now < length lexemes.now) }
+    ensures value { IsRead result (spec.item lexemes.now) }
+    ensures shorter { IsShorter result lexemes.now }
 {
     match lexemes {
         [
@@ -167,7 +166,7 @@ impl Member for Item {
 /// `*`.
 #[tactic(auto, unfolding(crate::specs::rules::Queries::all))]
 fn all(alloc: Global, lexemes: &[Lexeme]) -> Read<'_, Items>
-    ensures { Gives (λ x. (x.0, x.1.now)) result (spec.all lexemes.now) }
+    ensures { IsRead result (spec.all lexemes.now) }
 {
     let rest = token(lexemes, Lexeme::Star)?;
     let mut items = Sequence::new(alloc);
@@ -178,7 +177,7 @@ fn all(alloc: Global, lexemes: &[Lexeme]) -> Read<'_, Items>
 /// `list = * | item {, item}`.
 #[tactic(auto, unfolding(crate::specs::rules::Queries::list))]
 pub(crate) fn list(alloc: Global, lexemes: &[Lexeme]) -> Read<'_, Items>
-    ensures { Gives (λ x. (x.0, x.1.now)) result (spec.list lexemes.now) }
+    ensures { IsRead result (spec.list lexemes.now) }
 {
     match lexemes {
         [Lexeme::Star, ..] => all(alloc, lexemes),
@@ -189,8 +188,8 @@ pub(crate) fn list(alloc: Global, lexemes: &[Lexeme]) -> Read<'_, Items>
 /// `, named`, of which the item goes to the end of the list.
 #[tactic(auto, unfolding(crate::specs::rules::Shared::token))]
 fn next_named(alloc: Global, mut items: Items, lexemes: &[Lexeme]) -> Read<'_, Items>
-    ensures value { Gives (λ x. (x.0, x.1.now)) result (next_member COMMA spec.named items lexemes.now) }
-    ensures shorter { IfOk result (λ x. length x.1.now < length lexemes.now) }
+    ensures value { IsRead result (next_member COMMA spec.named items lexemes.now) }
+    ensures shorter { IsShorter result lexemes.now }
 {
     match lexemes {
         [Lexeme::Comma, rest @ ..] => {
@@ -205,7 +204,7 @@ fn next_named(alloc: Global, mut items: Items, lexemes: &[Lexeme]) -> Read<'_, I
 /// `named {, named}`.
 #[tactic(auto, using(crate::proofs::rules::Members::nameds_are, crate::proofs::rules::Members::nameds_go), unfolding(crate::specs::rules::Queries::nameds))]
 fn nameds(alloc: Global, lexemes: &[Lexeme]) -> Read<'_, Items>
-    ensures { Gives (λ x. (x.0, x.1.now)) result (spec.nameds lexemes.now) }
+    ensures { IsRead result (spec.nameds lexemes.now) }
 {
     let (first, mut rest) = named(alloc, lexemes)?;
     let mut items = Sequence::new(alloc);
@@ -221,7 +220,7 @@ fn nameds(alloc: Global, lexemes: &[Lexeme]) -> Read<'_, Items>
 /// `* | named {, named}`.
 #[tactic(auto, unfolding(crate::specs::rules::Queries::plain_list))]
 pub(crate) fn plain_list(alloc: Global, lexemes: &[Lexeme]) -> Read<'_, Items>
-    ensures { Gives (λ x. (x.0, x.1.now)) result (spec.plain_list lexemes.now) }
+    ensures { IsRead result (spec.plain_list lexemes.now) }
 {
     match lexemes {
         [Lexeme::Star, ..] => all(alloc, lexemes),

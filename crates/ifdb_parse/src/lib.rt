@@ -26,3 +26,6 @@ mod words;
 pub use fault::ParseFault;
 pub use laws::{parser_reads_the_grammar, requests_are_read};
 pub use line::parse;
+
+#[cfg(test)]
+mod tests;

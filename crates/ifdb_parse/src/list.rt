@@ -1,7 +1,6 @@
 // Lists whose members stand between commas.
-ghost use Rattle.std.specs.Prelude.{◌≡◌, ◌<◌, length, IfOk};
 ghost use Rattle.ifdb_syntax.specs.Words.{Lexemes, COMMA};
-ghost use Rattle.ifdb_parse.specs.theory.Gives.{Gives, Takes};
+ghost use Rattle.ifdb_parse.specs.theory.Gives.{IsRead, IsShorter, Takes};
 ghost use Rattle.ifdb_parse.specs.theory.Parser.{Outcome};
 ghost use Rattle.ifdb_parse.specs.rules.Shared as spec;
 
@@ -18,8 +17,8 @@ pub(crate) trait Member: Drop {
 
     /// Reads a member.
     fn read(alloc: Global, lexemes: &[Lexeme]) -> Read<'_, Self>
-        ensures value { Gives (λ x. (x.0, x.1.now)) result (parser lexemes.now) }
-        ensures shorter { IfOk result (λ x. length x.1.now < length lexemes.now) }
+        ensures value { IsRead result (parser lexemes.now) }
+        ensures shorter { IsShorter result lexemes.now }
         ensures takes { Takes parser };
 }
 
@@ -30,8 +29,8 @@ fn next_member<T: Member>(
     mut found: Sequence<T>,
     lexemes: &[Lexeme],
 ) -> Read<'_, Sequence<T>>
-    ensures value { Gives (λ x. (x.0, x.1.now)) result (spec.next_member COMMA T.parser found lexemes.now) }
-    ensures shorter { IfOk result (λ x. length x.1.now < length lexemes.now) }
+    ensures value { IsRead result (spec.next_member COMMA T.parser found lexemes.now) }
+    ensures shorter { IsShorter result lexemes.now }
 {
     match lexemes {
         [Lexeme::Comma, rest @ ..] => {
@@ -46,8 +45,8 @@ fn next_member<T: Member>(
 /// `member {, member}`.
 #[tactic(auto, using(crate::proofs::rules::Lists::commas_are, crate::proofs::rules::Lists::commas_go))]
 pub(crate) fn commas<T: Member>(alloc: Global, lexemes: &[Lexeme]) -> Read<'_, Sequence<T>>
-    ensures value { Gives (λ x. (x.0, x.1.now)) result (spec.commas T.parser lexemes.now) }
-    ensures shorter { IfOk result (λ x. length x.1.now < length lexemes.now) }
+    ensures value { IsRead result (spec.commas T.parser lexemes.now) }
+    ensures shorter { IsShorter result lexemes.now }
 {
     let (first, mut rest) = T::read(alloc, lexemes)?;
     let mut found = Sequence::new(alloc);

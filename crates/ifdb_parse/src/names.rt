@@ -1,7 +1,6 @@
 // Lists of names.
-ghost use Rattle.std.specs.Prelude.{◌≡◌, ◌<◌, length, IfOk};
 ghost use Rattle.ifdb_syntax.specs.Words.{kind as kind_of};
-ghost use Rattle.ifdb_parse.specs.theory.Gives.{Gives};
+ghost use Rattle.ifdb_parse.specs.theory.Gives.{IsRead, IsShorter};
 ghost use Rattle.ifdb_parse.specs.rules.Shared as shared;
 ghost use Rattle.ifdb_parse.specs.rules.Requests as spec;
 
@@ -15,16 +14,16 @@ use std::alloc::Global;
 /// `names = name {, name}`.
 #[tactic(auto, unfolding(crate::specs::rules::Shared::names))]
 fn names(alloc: Global, lexemes: &[Lexeme]) -> Read<'_, Names>
-    ensures value { Gives (λ x. (x.0, x.1.now)) result (shared.names lexemes.now) }
-    ensures shorter { IfOk result (λ x. length x.1.now < length lexemes.now) }
+    ensures value { IsRead result (shared.names lexemes.now) }
+    ensures shorter { IsShorter result lexemes.now }
 {
     commas(alloc, lexemes)
 }
 
 /// `( names )`.
 pub(crate) fn names_in_parens(alloc: Global, lexemes: &[Lexeme]) -> Read<'_, Names>
-    ensures value { Gives (λ x. (x.0, x.1.now)) result (shared.parens shared.names lexemes.now) }
-    ensures shorter { IfOk result (λ x. length x.1.now < length lexemes.now) }
+    ensures value { IsRead result (shared.parens shared.names lexemes.now) }
+    ensures shorter { IsShorter result lexemes.now }
 {
     let rest = token(lexemes, Lexeme::Open)?;
     let (names, rest) = names(alloc, rest)?;
@@ -35,7 +34,7 @@ pub(crate) fn names_in_parens(alloc: Global, lexemes: &[Lexeme]) -> Read<'_, Nam
 /// `[names]`.
 #[tactic(auto, unfolding(crate::specs::rules::Requests::some_names))]
 pub(crate) fn some_names(alloc: Global, lexemes: &[Lexeme]) -> Read<'_, Names>
-    ensures { Gives (λ x. (x.0, x.1.now)) result (spec.some_names lexemes.now) }
+    ensures { IsRead result (spec.some_names lexemes.now) }
 {
     match lexemes {
         [Lexeme::Name(_), ..] => names(alloc, lexemes),
@@ -46,7 +45,7 @@ pub(crate) fn some_names(alloc: Global, lexemes: &[Lexeme]) -> Read<'_, Names>
 /// `[word ( names )]`.
 #[tactic(auto, unfolding(crate::specs::rules::Requests::names_behind, crate::specs::rules::Shared::token))]
 pub(crate) fn names_behind(alloc: Global, lexemes: &[Lexeme], word: Lexeme) -> Read<'_, Names>
-    ensures { Gives (λ x. (x.0, x.1.now)) result (spec.names_behind (kind_of word) lexemes.now) }
+    ensures { IsRead result (spec.names_behind (kind_of word) lexemes.now) }
 {
     match lexemes {
         [first, rest @ ..] if kind(first) == kind(&word) => names_in_parens(alloc, rest),

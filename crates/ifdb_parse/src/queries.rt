@@ -1,6 +1,5 @@
 // SELECT, and the SELECT of a view.
-ghost use Rattle.std.specs.Prelude.{◌≡◌, ◌<◌, ◌≤◌, length, IfOk};
-ghost use Rattle.ifdb_parse.specs.theory.Gives.{Gives};
+ghost use Rattle.ifdb_parse.specs.theory.Gives.{IsNoLonger, IsRead, IsShorter};
 ghost use Rattle.ifdb_parse.specs.rules.Queries as spec;
 
 use crate::conditions::condition;
@@ -15,8 +14,8 @@ use std::alloc::Global;
 /// `[AS] name`.
 #[tactic(auto, unfolding(crate::specs::rules::Queries::alias, crate::specs::rules::Shared::token))]
 fn alias(alloc: Global, lexemes: &[Lexeme]) -> Read<'_, Name>
-    ensures value { Gives (λ x. (x.0, x.1.now)) result (spec.alias lexemes.now) }
-    ensures shorter { IfOk result (λ x. length x.1.now < length lexemes.now) }
+    ensures value { IsRead result (spec.alias lexemes.now) }
+    ensures shorter { IsShorter result lexemes.now }
 {
     match lexemes {
         [Lexeme::As, rest @ ..] => name(alloc, rest),
@@ -27,8 +26,8 @@ fn alias(alloc: Global, lexemes: &[Lexeme]) -> Read<'_, Name>
 /// `source = name [[AS] name]`.
 #[tactic(auto, unfolding(crate::specs::rules::Queries::source))]
 fn source(alloc: Global, lexemes: &[Lexeme]) -> Read<'_, Source>
-    ensures value { Gives (λ x. (x.0, x.1.now)) result (spec.source lexemes.now) }
-    ensures shorter { IfOk result (λ x. length x.1.now < length lexemes.now) }
+    ensures value { IsRead result (spec.source lexemes.now) }
+    ensures shorter { IsShorter result lexemes.now }
 {
     let (name, rest) = name(alloc, lexemes)?;
     match rest {
@@ -57,8 +56,8 @@ impl Member for Source {
 /// `name | number`.
 #[tactic(auto, unfolding(crate::specs::rules::Queries::order_by, crate::specs::rules::Shared::name, crate::specs::rules::Shared::number))]
 fn order_by(alloc: Global, lexemes: &[Lexeme]) -> Read<'_, OrderBy>
-    ensures value { Gives (λ x. (x.0, x.1.now)) result (spec.order_by lexemes.now) }
-    ensures shorter { IfOk result (λ x. length x.1.now < length lexemes.now) }
+    ensures value { IsRead result (spec.order_by lexemes.now) }
+    ensures shorter { IsShorter result lexemes.now }
 {
     match lexemes {
         [Lexeme::Name(name), rest @ ..] => Ok((OrderBy::Name(name.copy(alloc)?), rest)),
@@ -70,8 +69,8 @@ fn order_by(alloc: Global, lexemes: &[Lexeme]) -> Read<'_, OrderBy>
 /// `[ASC | DESC]`: whether DESC is written.
 #[tactic(auto, unfolding(crate::specs::rules::Queries::descends, crate::specs::rules::Shared::token))]
 fn descends(lexemes: &[Lexeme]) -> Read<'_, bool>
-    ensures value { Gives (λ x. (x.0, x.1.now)) result (spec.descends lexemes.now) }
-    ensures no_longer { IfOk result (λ x. length x.1.now ≤ length lexemes.now) }
+    ensures value { IsRead result (spec.descends lexemes.now) }
+    ensures no_longer { IsNoLonger result lexemes.now }
 {
     match lexemes {
         [Lexeme::Asc, rest @ ..] => Ok((false, rest)),
@@ -83,8 +82,8 @@ fn descends(lexemes: &[Lexeme]) -> Read<'_, bool>
 /// `order = (name | number) [ASC | DESC]`.
 #[tactic(auto, unfolding(crate::specs::rules::Queries::order))]
 fn order(alloc: Global, lexemes: &[Lexeme]) -> Read<'_, Order>
-    ensures value { Gives (λ x. (x.0, x.1.now)) result (spec.order lexemes.now) }
-    ensures shorter { IfOk result (λ x. length x.1.now < length lexemes.now) }
+    ensures value { IsRead result (spec.order lexemes.now) }
+    ensures shorter { IsShorter result lexemes.now }
 {
     let (target, rest) = order_by(alloc, lexemes)?;
     let (descending, rest) = descends(rest)?;
@@ -105,7 +104,7 @@ impl Member for Order {
 /// `sources = source {, source}`.
 #[tactic(auto, unfolding(crate::specs::rules::Queries::sources))]
 fn sources(alloc: Global, lexemes: &[Lexeme]) -> Read<'_, Sources>
-    ensures { Gives (λ x. (x.0, x.1.now)) result (spec.sources lexemes.now) }
+    ensures { IsRead result (spec.sources lexemes.now) }
 {
     commas(alloc, lexemes)
 }
@@ -113,7 +112,7 @@ fn sources(alloc: Global, lexemes: &[Lexeme]) -> Read<'_, Sources>
 /// `plain = SELECT (* | named {, named}) FROM sources [WHERE cond]`.
 #[tactic(auto, unfolding(crate::specs::rules::Queries::plain))]
 pub(crate) fn plain(alloc: Global, lexemes: &[Lexeme]) -> Read<'_, Select>
-    ensures { Gives (λ x. (x.0, x.1.now)) result (spec.plain lexemes.now) }
+    ensures { IsRead result (spec.plain lexemes.now) }
 {
     let rest = token(lexemes, Lexeme::Select)?;
     let (items, rest) = plain_list(alloc, rest)?;
@@ -135,7 +134,7 @@ pub(crate) fn plain(alloc: Global, lexemes: &[Lexeme]) -> Read<'_, Select>
 /// `BY columns`, with `columns = ref {, ref}`.
 #[tactic(auto, unfolding(crate::specs::rules::Queries::by_columns, crate::specs::rules::Queries::columns))]
 fn by_columns(alloc: Global, lexemes: &[Lexeme]) -> Read<'_, ColumnRefs>
-    ensures { Gives (λ x. (x.0, x.1.now)) result (spec.by_columns lexemes.now) }
+    ensures { IsRead result (spec.by_columns lexemes.now) }
 {
     let rest = token(lexemes, Lexeme::By)?;
     commas(alloc, rest)
@@ -144,7 +143,7 @@ fn by_columns(alloc: Global, lexemes: &[Lexeme]) -> Read<'_, ColumnRefs>
 /// `[GROUP BY columns]`.
 #[tactic(auto, unfolding(crate::specs::rules::Queries::grouped, crate::specs::rules::Shared::token))]
 fn grouped(alloc: Global, lexemes: &[Lexeme]) -> Read<'_, ColumnRefs>
-    ensures { Gives (λ x. (x.0, x.1.now)) result (spec.grouped lexemes.now) }
+    ensures { IsRead result (spec.grouped lexemes.now) }
 {
     match lexemes {
         [Lexeme::Group, rest @ ..] => by_columns(alloc, rest),
@@ -155,7 +154,7 @@ fn grouped(alloc: Global, lexemes: &[Lexeme]) -> Read<'_, ColumnRefs>
 /// `BY order {, order}`.
 #[tactic(auto, unfolding(crate::specs::rules::Queries::by_orders))]
 fn by_orders(alloc: Global, lexemes: &[Lexeme]) -> Read<'_, Orders>
-    ensures { Gives (λ x. (x.0, x.1.now)) result (spec.by_orders lexemes.now) }
+    ensures { IsRead result (spec.by_orders lexemes.now) }
 {
     let rest = token(lexemes, Lexeme::By)?;
     commas(alloc, rest)
@@ -164,7 +163,7 @@ fn by_orders(alloc: Global, lexemes: &[Lexeme]) -> Read<'_, Orders>
 /// `[ORDER BY order {, order}]`.
 #[tactic(auto, unfolding(crate::specs::rules::Queries::ordered, crate::specs::rules::Shared::token))]
 fn ordered(alloc: Global, lexemes: &[Lexeme]) -> Read<'_, Orders>
-    ensures { Gives (λ x. (x.0, x.1.now)) result (spec.ordered lexemes.now) }
+    ensures { IsRead result (spec.ordered lexemes.now) }
 {
     match lexemes {
         [Lexeme::Order, rest @ ..] => by_orders(alloc, rest),
@@ -175,7 +174,7 @@ fn ordered(alloc: Global, lexemes: &[Lexeme]) -> Read<'_, Orders>
 /// `FROM sources [WHERE cond] [GROUP BY columns] [ORDER BY order {, order}]`, behind the items.
 #[tactic(auto, unfolding(crate::specs::rules::Queries::select_from))]
 fn select_from(alloc: Global, items: Items, lexemes: &[Lexeme]) -> Read<'_, Select>
-    ensures { Gives (λ x. (x.0, x.1.now)) result (spec.select_from items lexemes.now) }
+    ensures { IsRead result (spec.select_from items lexemes.now) }
 {
     let rest = token(lexemes, Lexeme::From)?;
     let (sources, rest) = sources(alloc, rest)?;
@@ -197,7 +196,7 @@ fn select_from(alloc: Global, items: Items, lexemes: &[Lexeme]) -> Read<'_, Sele
 /// `SELECT list FROM sources [WHERE cond] [GROUP BY columns] [ORDER BY order {, order}]`.
 #[tactic(auto, unfolding(crate::specs::rules::Queries::select))]
 pub(crate) fn select(alloc: Global, lexemes: &[Lexeme]) -> Read<'_, Select>
-    ensures { Gives (λ x. (x.0, x.1.now)) result (spec.select lexemes.now) }
+    ensures { IsRead result (spec.select lexemes.now) }
 {
     let rest = token(lexemes, Lexeme::Select)?;
     let (items, rest) = list(alloc, rest)?;

@@ -1,7 +1,7 @@
 // All requests, and the line of one.
-ghost use Rattle.std.specs.Prelude.{◌≡◌, length};
+ghost use Rattle.std.specs.Prelude.{◌≡◌};
 ghost use Rattle.ifdb_syntax.specs.Words.{BEGIN, COMMIT, ROLLBACK, BYE};
-ghost use Rattle.ifdb_parse.specs.theory.Gives.{Gives};
+ghost use Rattle.ifdb_parse.specs.theory.Gives.{Gives, IsRead};
 ghost use Rattle.ifdb_parse.specs.theory.Kinds.{sees};
 ghost use Rattle.ifdb_parse.specs.theory.Parser.{ended_at};
 ghost use Rattle.ifdb_parse.specs.rules.Requests as spec;
@@ -16,7 +16,7 @@ use std::alloc::Global;
 /// `BEGIN`.
 #[tactic(auto, unfolding(crate::specs::rules::Requests::word))]
 fn begin(lexemes: &[Lexeme]) -> Read<'_, Request>
-    ensures { Gives (λ x. (x.0, x.1.now)) result (spec.word BEGIN Request.Begin lexemes.now) }
+    ensures { IsRead result (spec.word BEGIN Request.Begin lexemes.now) }
 {
     let rest = token(lexemes, Lexeme::Begin)?;
     Ok((Request::Begin, rest))
@@ -25,7 +25,7 @@ fn begin(lexemes: &[Lexeme]) -> Read<'_, Request>
 /// `COMMIT`.
 #[tactic(auto, unfolding(crate::specs::rules::Requests::word))]
 fn commit(lexemes: &[Lexeme]) -> Read<'_, Request>
-    ensures { Gives (λ x. (x.0, x.1.now)) result (spec.word COMMIT Request.Commit lexemes.now) }
+    ensures { IsRead result (spec.word COMMIT Request.Commit lexemes.now) }
 {
     let rest = token(lexemes, Lexeme::Commit)?;
     Ok((Request::Commit, rest))
@@ -34,7 +34,7 @@ fn commit(lexemes: &[Lexeme]) -> Read<'_, Request>
 /// `ROLLBACK`.
 #[tactic(auto, unfolding(crate::specs::rules::Requests::word))]
 fn rollback(lexemes: &[Lexeme]) -> Read<'_, Request>
-    ensures { Gives (λ x. (x.0, x.1.now)) result (spec.word ROLLBACK Request.Rollback lexemes.now) }
+    ensures { IsRead result (spec.word ROLLBACK Request.Rollback lexemes.now) }
 {
     let rest = token(lexemes, Lexeme::Rollback)?;
     Ok((Request::Rollback, rest))
@@ -43,7 +43,7 @@ fn rollback(lexemes: &[Lexeme]) -> Read<'_, Request>
 /// `BYE`.
 #[tactic(auto, unfolding(crate::specs::rules::Requests::word))]
 fn bye(lexemes: &[Lexeme]) -> Read<'_, Request>
-    ensures { Gives (λ x. (x.0, x.1.now)) result (spec.word BYE Request.Bye lexemes.now) }
+    ensures { IsRead result (spec.word BYE Request.Bye lexemes.now) }
 {
     let rest = token(lexemes, Lexeme::Bye)?;
     Ok((Request::Bye, rest))
@@ -52,7 +52,7 @@ fn bye(lexemes: &[Lexeme]) -> Read<'_, Request>
 /// Requests on sessions, principals, tags and labels, and on transactions.
 #[tactic(auto, unfolding(crate::specs::rules::Requests::session))]
 fn session(alloc: Global, lexemes: &[Lexeme]) -> Read<'_, Request>
-    ensures { Gives (λ x. (x.0, x.1.now)) result (spec.session lexemes.now) }
+    ensures { IsRead result (spec.session lexemes.now) }
 {
     match lexemes {
         [
@@ -96,7 +96,7 @@ fn begins_session(lexemes: &[Lexeme]) -> bool
 /// A SELECT, INSERT, UPDATE or DELETE.
 #[tactic(auto, unfolding(crate::specs::rules::Requests::statement))]
 fn statement(alloc: Global, lexemes: &[Lexeme]) -> Read<'_, Request>
-    ensures { Gives (λ x. (x.0, x.1.now)) result (spec.statement lexemes.now) }
+    ensures { IsRead result (spec.statement lexemes.now) }
 {
     match lexemes {
         [Lexeme::Select, ..] => query(alloc, lexemes),
@@ -109,7 +109,7 @@ fn statement(alloc: Global, lexemes: &[Lexeme]) -> Read<'_, Request>
 /// A request.
 #[tactic(auto, using(crate::proofs::rules::Loops::request_is))]
 fn request(alloc: Global, lexemes: &[Lexeme]) -> Read<'_, Request>
-    ensures { Gives (λ x. (x.0, x.1.now)) result (spec.request lexemes.now) }
+    ensures { IsRead result (spec.request lexemes.now) }
 {
     if begins_session(lexemes) {
         session(alloc, lexemes)
@@ -121,7 +121,7 @@ fn request(alloc: Global, lexemes: &[Lexeme]) -> Read<'_, Request>
 /// `line = request [;]`.
 #[tactic(auto, unfolding(crate::specs::rules::Requests::line, crate::specs::rules::Shared::token))]
 fn line(alloc: Global, lexemes: &[Lexeme]) -> Read<'_, Request>
-    ensures { Gives (λ x. (x.0, x.1.now)) result (spec.line lexemes.now) }
+    ensures { IsRead result (spec.line lexemes.now) }
 {
     let (found, rest) = request(alloc, lexemes)?;
     match rest {

@@ -1,7 +1,7 @@
 // What the rules of the grammar are made of.
-ghost use Rattle.std.specs.Prelude.{◌≡◌, ◌<◌, length, IfOk};
+ghost use Rattle.std.specs.Prelude.{◌<◌, length, IfOk};
 ghost use Rattle.ifdb_syntax.specs.Words.{kind as kind_of};
-ghost use Rattle.ifdb_parse.specs.theory.Gives.{Gives};
+ghost use Rattle.ifdb_parse.specs.theory.Gives.{Gives, IsRead, IsShorter};
 ghost use Rattle.ifdb_parse.specs.rules.Shared as spec;
 
 use crate::kinds::kind;
@@ -29,8 +29,8 @@ pub(crate) fn token(lexemes: &[Lexeme], wanted: Lexeme) -> Result<&[Lexeme], Sto
 /// A name.
 #[tactic(auto, unfolding(crate::specs::rules::Shared::name))]
 pub(crate) fn name(alloc: Global, lexemes: &[Lexeme]) -> Read<'_, Name>
-    ensures value { Gives (λ x. (x.0, x.1.now)) result (spec.name lexemes.now) }
-    ensures shorter { IfOk result (λ x. length x.1.now < length lexemes.now) }
+    ensures value { IsRead result (spec.name lexemes.now) }
+    ensures shorter { IsShorter result lexemes.now }
 {
     match lexemes {
         [Lexeme::Name(name), rest @ ..] => Ok((name.copy(alloc)?, rest)),
@@ -41,8 +41,8 @@ pub(crate) fn name(alloc: Global, lexemes: &[Lexeme]) -> Read<'_, Name>
 /// A number.
 #[tactic(auto, unfolding(crate::specs::rules::Shared::number))]
 pub(crate) fn number(lexemes: &[Lexeme]) -> Read<'_, u64>
-    ensures value { Gives (λ x. (x.0, x.1.now)) result (spec.number lexemes.now) }
-    ensures shorter { IfOk result (λ x. length x.1.now < length lexemes.now) }
+    ensures value { IsRead result (spec.number lexemes.now) }
+    ensures shorter { IsShorter result lexemes.now }
 {
     match lexemes {
         [Lexeme::Number(number), rest @ ..] => Ok((*number, rest)),
@@ -53,8 +53,8 @@ pub(crate) fn number(lexemes: &[Lexeme]) -> Read<'_, u64>
 /// A text.
 #[tactic(auto, unfolding(crate::specs::rules::Shared::text))]
 pub(crate) fn text(alloc: Global, lexemes: &[Lexeme]) -> Read<'_, Word>
-    ensures value { Gives (λ x. (x.0, x.1.now)) result (spec.text lexemes.now) }
-    ensures shorter { IfOk result (λ x. length x.1.now < length lexemes.now) }
+    ensures value { IsRead result (spec.text lexemes.now) }
+    ensures shorter { IsShorter result lexemes.now }
 {
     match lexemes {
         [Lexeme::Quoted(text), rest @ ..] => Ok((text.copy(alloc)?, rest)),

@@ -1,6 +1,5 @@
 // Statements: SELECT, INSERT, UPDATE and DELETE.
-ghost use Rattle.std.specs.Prelude.{◌≡◌, ◌<◌, length, IfOk};
-ghost use Rattle.ifdb_parse.specs.theory.Gives.{Gives};
+ghost use Rattle.ifdb_parse.specs.theory.Gives.{IsRead, IsShorter};
 ghost use Rattle.ifdb_parse.specs.rules.Requests as spec;
 
 use crate::conditions::condition;
@@ -16,7 +15,7 @@ use std::alloc::Global;
 /// A SELECT.
 #[tactic(auto, unfolding(crate::specs::rules::Requests::query))]
 pub(crate) fn query(alloc: Global, lexemes: &[Lexeme]) -> Read<'_, Request>
-    ensures { Gives (λ x. (x.0, x.1.now)) result (spec.query lexemes.now) }
+    ensures { IsRead result (spec.query lexemes.now) }
 {
     let (select, rest) = select(alloc, lexemes)?;
     Ok((Request::Select(select), rest))
@@ -25,8 +24,8 @@ pub(crate) fn query(alloc: Global, lexemes: &[Lexeme]) -> Read<'_, Request>
 /// `row = ( literal {, literal} )`.
 #[tactic(auto, unfolding(crate::specs::rules::Requests::row))]
 fn row(alloc: Global, lexemes: &[Lexeme]) -> Read<'_, ValueRow>
-    ensures value { Gives (λ x. (x.0, x.1.now)) result (spec.row lexemes.now) }
-    ensures shorter { IfOk result (λ x. length x.1.now < length lexemes.now) }
+    ensures value { IsRead result (spec.row lexemes.now) }
+    ensures shorter { IsShorter result lexemes.now }
 {
     let rest = token(lexemes, Lexeme::Open)?;
     let (row, rest) = commas(alloc, rest)?;
@@ -48,7 +47,7 @@ impl Member for ValueRow {
 /// `[( names )]`.
 #[tactic(auto, unfolding(crate::specs::rules::Requests::insert_columns))]
 fn insert_columns(alloc: Global, lexemes: &[Lexeme]) -> Read<'_, Names>
-    ensures { Gives (λ x. (x.0, x.1.now)) result (spec.insert_columns lexemes.now) }
+    ensures { IsRead result (spec.insert_columns lexemes.now) }
 {
     match lexemes {
         [Lexeme::Open, ..] => names_in_parens(alloc, lexemes),
@@ -59,7 +58,7 @@ fn insert_columns(alloc: Global, lexemes: &[Lexeme]) -> Read<'_, Names>
 /// `VALUES row {, row} [DECLASSIFYING ( names )]`, behind the table and the columns.
 #[tactic(auto, unfolding(crate::specs::rules::Requests::insert_rows))]
 fn insert_rows(alloc: Global, table: Name, columns: Names, lexemes: &[Lexeme]) -> Read<'_, Request>
-    ensures { Gives (λ x. (x.0, x.1.now)) result (spec.insert_rows table columns lexemes.now) }
+    ensures { IsRead result (spec.insert_rows table columns lexemes.now) }
 {
     let rest = token(lexemes, Lexeme::Values)?;
     let (rows, rest) = commas(alloc, rest)?;
@@ -78,7 +77,7 @@ fn insert_rows(alloc: Global, table: Name, columns: Names, lexemes: &[Lexeme]) -
 /// `INSERT INTO name [( names )] VALUES row {, row} [DECLASSIFYING ( names )]`.
 #[tactic(auto, unfolding(crate::specs::rules::Requests::insert))]
 pub(crate) fn insert(alloc: Global, lexemes: &[Lexeme]) -> Read<'_, Request>
-    ensures { Gives (λ x. (x.0, x.1.now)) result (spec.insert lexemes.now) }
+    ensures { IsRead result (spec.insert lexemes.now) }
 {
     let rest = token(lexemes, Lexeme::Insert)?;
     let rest = token(rest, Lexeme::Into)?;
@@ -90,8 +89,8 @@ pub(crate) fn insert(alloc: Global, lexemes: &[Lexeme]) -> Read<'_, Request>
 /// `name = expr`.
 #[tactic(auto, unfolding(crate::specs::rules::Requests::assignment))]
 fn assignment(alloc: Global, lexemes: &[Lexeme]) -> Read<'_, Assignment>
-    ensures value { Gives (λ x. (x.0, x.1.now)) result (spec.assignment lexemes.now) }
-    ensures shorter { IfOk result (λ x. length x.1.now < length lexemes.now) }
+    ensures value { IsRead result (spec.assignment lexemes.now) }
+    ensures shorter { IsShorter result lexemes.now }
 {
     let (column, rest) = name(alloc, lexemes)?;
     let rest = token(rest, Lexeme::Equal)?;
@@ -113,7 +112,7 @@ impl Member for Assignment {
 /// `name = expr {, name = expr} [WHERE cond] [DECLASSIFYING ( names )]`, behind SET.
 #[tactic(auto, unfolding(crate::specs::rules::Requests::update_set))]
 fn update_set(alloc: Global, table: Name, lexemes: &[Lexeme]) -> Read<'_, Request>
-    ensures { Gives (λ x. (x.0, x.1.now)) result (spec.update_set table lexemes.now) }
+    ensures { IsRead result (spec.update_set table lexemes.now) }
 {
     let (assignments, rest) = commas(alloc, lexemes)?;
     let (cond, rest) = condition(alloc, rest)?;
@@ -132,7 +131,7 @@ fn update_set(alloc: Global, table: Name, lexemes: &[Lexeme]) -> Read<'_, Reques
 /// `UPDATE name SET name = expr {, name = expr} [WHERE cond] [DECLASSIFYING ( names )]`.
 #[tactic(auto, unfolding(crate::specs::rules::Requests::update))]
 pub(crate) fn update(alloc: Global, lexemes: &[Lexeme]) -> Read<'_, Request>
-    ensures { Gives (λ x. (x.0, x.1.now)) result (spec.update lexemes.now) }
+    ensures { IsRead result (spec.update lexemes.now) }
 {
     let rest = token(lexemes, Lexeme::Update)?;
     let (table, rest) = name(alloc, rest)?;
@@ -143,7 +142,7 @@ pub(crate) fn update(alloc: Global, lexemes: &[Lexeme]) -> Read<'_, Request>
 /// `DELETE FROM name [WHERE cond]`.
 #[tactic(auto, unfolding(crate::specs::rules::Requests::delete))]
 pub(crate) fn delete(alloc: Global, lexemes: &[Lexeme]) -> Read<'_, Request>
-    ensures { Gives (λ x. (x.0, x.1.now)) result (spec.delete lexemes.now) }
+    ensures { IsRead result (spec.delete lexemes.now) }
 {
     let rest = token(lexemes, Lexeme::Delete)?;
     let rest = token(rest, Lexeme::From)?;

@@ -1,6 +1,5 @@
 // CREATE TABLE.
-ghost use Rattle.std.specs.Prelude.{◌≡◌, ◌<◌, length, IfOk};
-ghost use Rattle.ifdb_parse.specs.theory.Gives.{Gives};
+ghost use Rattle.ifdb_parse.specs.theory.Gives.{IsRead, IsShorter};
 ghost use Rattle.ifdb_parse.specs.rules.Requests as spec;
 
 use crate::names::names_in_parens;
@@ -13,8 +12,8 @@ use std::alloc::Global;
 /// `INT | INTEGER | TEXT`.
 #[tactic(auto, unfolding(crate::specs::rules::Requests::value_kind, crate::specs::rules::Shared::token))]
 fn value_kind(lexemes: &[Lexeme]) -> Read<'_, ValueKind>
-    ensures value { Gives (λ x. (x.0, x.1.now)) result (spec.value_kind lexemes.now) }
-    ensures shorter { IfOk result (λ x. length x.1.now < length lexemes.now) }
+    ensures value { IsRead result (spec.value_kind lexemes.now) }
+    ensures shorter { IsShorter result lexemes.now }
 {
     match lexemes {
         [Lexeme::Int, rest @ ..] => Ok((ValueKind::Int, rest)),
@@ -27,8 +26,8 @@ fn value_kind(lexemes: &[Lexeme]) -> Read<'_, ValueKind>
 /// `column = name (INT | INTEGER | TEXT)`.
 #[tactic(auto, unfolding(crate::specs::rules::Requests::column))]
 fn column(alloc: Global, lexemes: &[Lexeme]) -> Read<'_, Column>
-    ensures value { Gives (λ x. (x.0, x.1.now)) result (spec.column lexemes.now) }
-    ensures shorter { IfOk result (λ x. length x.1.now < length lexemes.now) }
+    ensures value { IsRead result (spec.column lexemes.now) }
+    ensures shorter { IsShorter result lexemes.now }
 {
     let (name, rest) = name(alloc, lexemes)?;
     let (kind, rest) = value_kind(rest)?;
@@ -38,8 +37,8 @@ fn column(alloc: Global, lexemes: &[Lexeme]) -> Read<'_, Column>
 /// `column ,`, of which the column goes to the end of the list.
 #[tactic(auto, unfolding(crate::specs::rules::Requests::column_round))]
 fn column_round(alloc: Global, mut found: Columns, lexemes: &[Lexeme]) -> Read<'_, Columns>
-    ensures value { Gives (λ x. (x.0, x.1.now)) result (spec.column_round found lexemes.now) }
-    ensures shorter { IfOk result (λ x. length x.1.now < length lexemes.now) }
+    ensures value { IsRead result (spec.column_round found lexemes.now) }
+    ensures shorter { IsShorter result lexemes.now }
 {
     let (column, rest) = column(alloc, lexemes)?;
     let rest = token(rest, Lexeme::Comma)?;
@@ -50,7 +49,7 @@ fn column_round(alloc: Global, mut found: Columns, lexemes: &[Lexeme]) -> Read<'
 /// `{column ,}`, behind the columns that were found.
 #[tactic(auto, using(crate::proofs::rules::TableLoops::columns_are, crate::proofs::rules::TableLoops::columns_go), unfolding(crate::specs::rules::Requests::more_columns))]
 fn more_columns(alloc: Global, found: Columns, lexemes: &[Lexeme]) -> Read<'_, Columns>
-    ensures { Gives (λ x. (x.0, x.1.now)) result (spec.more_columns found lexemes.now) }
+    ensures { IsRead result (spec.more_columns found lexemes.now) }
 {
     let mut columns = found;
     let mut rest = lexemes;
@@ -65,8 +64,8 @@ fn more_columns(alloc: Global, found: Columns, lexemes: &[Lexeme]) -> Read<'_, C
 /// `foreign = FOREIGN KEY ( names ) REFERENCES name`.
 #[tactic(auto, unfolding(crate::specs::rules::Requests::foreign))]
 fn foreign(alloc: Global, lexemes: &[Lexeme]) -> Read<'_, ForeignKey>
-    ensures value { Gives (λ x. (x.0, x.1.now)) result (spec.foreign lexemes.now) }
-    ensures shorter { IfOk result (λ x. length x.1.now < length lexemes.now) }
+    ensures value { IsRead result (spec.foreign lexemes.now) }
+    ensures shorter { IsShorter result lexemes.now }
 {
     let rest = token(lexemes, Lexeme::Foreign)?;
     let rest = token(rest, Lexeme::Key)?;
@@ -79,8 +78,8 @@ fn foreign(alloc: Global, lexemes: &[Lexeme]) -> Read<'_, ForeignKey>
 /// `, foreign`, of which the key goes to the end of the list.
 #[tactic(auto, unfolding(crate::specs::rules::Requests::foreign_round, crate::specs::rules::Shared::token))]
 fn foreign_round(alloc: Global, mut found: ForeignKeys, lexemes: &[Lexeme]) -> Read<'_, ForeignKeys>
-    ensures value { Gives (λ x. (x.0, x.1.now)) result (spec.foreign_round found lexemes.now) }
-    ensures shorter { IfOk result (λ x. length x.1.now < length lexemes.now) }
+    ensures value { IsRead result (spec.foreign_round found lexemes.now) }
+    ensures shorter { IsShorter result lexemes.now }
 {
     match lexemes {
         [Lexeme::Comma, rest @ ..] => {
@@ -95,7 +94,7 @@ fn foreign_round(alloc: Global, mut found: ForeignKeys, lexemes: &[Lexeme]) -> R
 /// `{, foreign}`.
 #[tactic(auto, using(crate::proofs::rules::TableLoops::foreigns_are, crate::proofs::rules::TableLoops::foreigns_go), unfolding(crate::specs::rules::Requests::foreigns))]
 fn foreigns(alloc: Global, lexemes: &[Lexeme]) -> Read<'_, ForeignKeys>
-    ensures { Gives (λ x. (x.0, x.1.now)) result (spec.foreigns lexemes.now) }
+    ensures { IsRead result (spec.foreigns lexemes.now) }
 {
     let mut keys = Sequence::new(alloc);
     let mut rest = lexemes;
@@ -110,7 +109,7 @@ fn foreigns(alloc: Global, lexemes: &[Lexeme]) -> Read<'_, ForeignKeys>
 /// `PRIMARY KEY ( names ) {, foreign} )`, behind a table's columns.
 #[tactic(auto, unfolding(crate::specs::rules::Requests::table_keys))]
 fn table_keys(alloc: Global, name: Name, columns: Columns, lexemes: &[Lexeme]) -> Read<'_, Request>
-    ensures { Gives (λ x. (x.0, x.1.now)) result (spec.table_keys name columns lexemes.now) }
+    ensures { IsRead result (spec.table_keys name columns lexemes.now) }
 {
     let rest = token(lexemes, Lexeme::Primary)?;
     let rest = token(rest, Lexeme::Key)?;
@@ -132,7 +131,7 @@ fn table_keys(alloc: Global, name: Name, columns: Columns, lexemes: &[Lexeme]) -
 /// with it.
 #[tactic(auto, unfolding(crate::specs::rules::Requests::table_columns))]
 fn table_columns(alloc: Global, name: Name, lexemes: &[Lexeme]) -> Read<'_, Request>
-    ensures { Gives (λ x. (x.0, x.1.now)) result (spec.table_columns name lexemes.now) }
+    ensures { IsRead result (spec.table_columns name lexemes.now) }
 {
     let (first, rest) = column(alloc, lexemes)?;
     let rest = token(rest, Lexeme::Comma)?;
@@ -145,7 +144,7 @@ fn table_columns(alloc: Global, name: Name, lexemes: &[Lexeme]) -> Read<'_, Requ
 /// `TABLE name ( column {, column} , PRIMARY KEY ( names ) {, foreign} )`.
 #[tactic(auto, unfolding(crate::specs::rules::Requests::table))]
 pub(crate) fn table(alloc: Global, lexemes: &[Lexeme]) -> Read<'_, Request>
-    ensures { Gives (λ x. (x.0, x.1.now)) result (spec.table lexemes.now) }
+    ensures { IsRead result (spec.table lexemes.now) }
 {
     let rest = token(lexemes, Lexeme::Table)?;
     let (name, rest) = name(alloc, rest)?;

@@ -36,3 +36,17 @@ fn lines_are_read(rt: HostRuntime) -> Result<(), Fail> {
     }
     Ok(())
 }
+
+/// A chain as long as a line may be is told as a limit, and its tree stays small: no clause speaks of the stack.
+#[test]
+fn a_long_chain_is_told(rt: HostRuntime) -> Result<(), Fail> {
+    let mut line = Vec::new(rt.alloc());
+    line.extend_from_slice(b"SELECT 1")?;
+    for _ in 0..32_700 {
+        line.extend_from_slice(b"+1")?;
+    }
+    line.extend_from_slice(b" FROM note")?;
+    let found = shown(rt.alloc(), line.as_slice())?;
+    assert_eq!(rt; found.as_str(), "Limit");
+    Ok(())
+}

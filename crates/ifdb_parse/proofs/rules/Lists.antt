@@ -1,5 +1,5 @@
 -- Lists: a member behind a comma, or another word, comes to its turn and takes a lexeme.
-use Rattle.std.proofs.Common.{◌≡◌, ℕ, ◌<◌, true, List, [], ◌∷◌, ◌++◌, length, Some, Ok, refl, ap, arith}
+use Rattle.std.proofs.Common.{◌≡◌, ℕ, List, [], ◌∷◌, ◌++◌, length, Some, Ok, refl, ap, arith}
 use Rattle.ifdb_syntax.specs.declared.lexeme.Lexeme.{Lexeme}
 use Rattle.ifdb_syntax.specs.declared.lexeme.Lexeme.TheVariants as t
 use Rattle.ifdb_syntax.specs.Words.{Lexemes, is, COMMA}

@@ -1,14 +1,13 @@
 -- Repetition: what reads a round reads any number of them.
-use Rattle.std.proofs.Common.{◌≡◌, ℕ, zero, suc, ◌+◌, ◌-◌, ◌<◌, ◌≤◌, Bool, true, false, [], ◌∷◌, ◌++◌, length, Ok, Err, refl, sym, ap, ◌∙◌, arith, inl, inr}
+use Rattle.std.proofs.Common.{◌≡◌, ℕ, zero, suc, true, false, [], ◌∷◌, ◌++◌, refl, sym, ◌∙◌, inl, inr}
 use Rattle.std.specs.Prelude.{◌==◌}
 use Rattle.std.proofs.lemmas.Bool.{or_cases, or_right, or_left, and_from, eq-eqb}
-use Rattle.std.proofs.lemmas.List.{length-append}
 use Rattle.ifdb_syntax.specs.Words.{Lexemes}
-use Rattle.ifdb_parse.specs.theory.Kinds.{Kinds, mem, subset, apart, sees}
+use Rattle.ifdb_parse.specs.theory.Kinds.{Kinds, mem, subset, apart}
 use Rattle.ifdb_syntax.specs.Lang.{Lang, rounds, repeat}
-use Rattle.ifdb_parse.specs.theory.Parser.{Outcome, Parser, and_then, pure, choose, rounds_by, repeat_by}
-use Rattle.ifdb_parse.specs.theory.Reads.{Starts, Reads}
-use Rattle.ifdb_parse.proofs.theory.KindLemmas.{mem-append, Starts-sees}
+use Rattle.ifdb_parse.specs.theory.Parser.{Parser, rounds_by, repeat_by}
+use Rattle.ifdb_parse.specs.theory.Reads.{Reads}
+use Rattle.ifdb_parse.proofs.theory.KindLemmas.{mem-append}
 use Rattle.ifdb_parse.proofs.theory.Combine.{nothing_reads, then_reads, branch_reads, widen}
 use Rattle.ifdb_parse.proofs.theory.Limit.{limit_reads}
 use Rattle.ifdb_parse.proofs.theory.Rounds.{steady, turns}

@@ -1,12 +1,10 @@
 -- A bounded reader keeps a tree within the limits, or makes one that passes them.
-use Rattle.std.proofs.Common.{◌≡◌, ℕ, ◌+◌, ◌≤◌, min, Bool, true, false, List, [], ◌∷◌, map, length, refl, sym, ap, ◌∙◌, arith}
-use Rattle.std.specs.Prelude.{◌||◌, ◌&&◌, nat_le, nat_lt, if◌then◌else◌}
+use Rattle.std.proofs.Common.{◌≡◌, ◌+◌, ◌≤◌, min, Bool, true, false, List, [], ◌∷◌, map, refl, sym, ap, ◌∙◌, arith}
+use Rattle.std.specs.Prelude.{◌||◌, nat_lt, if◌then◌else◌}
 use Rattle.std.specs.List.{list_any, list_all}
 use Rattle.std.proofs.lemmas.Bool.{and_parts, or_parts}
 use Rattle.std.proofs.lemmas.Bool.Decides.{nat_tests}
 use Rattle.std.proofs.lemmas.List.{length-map}
-use Rattle.ifdb_value.specs.declared.value.Value.{Value}
-use Rattle.ifdb_syntax.specs.declared.expression.ColumnRef.{ColumnRef}
 use Rattle.ifdb_syntax.specs.declared.expression.Expr.{Expr}
 use Rattle.ifdb_syntax.specs.declared.expression.Expr.TheVariants as e
 use Rattle.ifdb_syntax.specs.declared.select.Select.{Select}
@@ -22,7 +20,7 @@ use Rattle.ifdb_syntax.proofs.BoundedLine.{bounded-Column, bounded-Literal, boun
 use Rattle.ifdb_syntax.proofs.ByForm.{each_expr}
 use Rattle.ifdb_syntax.proofs.Within.{within_is_kept}
 use Rattle.ifdb_parse.specs.Numbers.{order_fits, numbers_fit}
-use Rattle.ifdb_parse.specs.TreeLimits.{exceeds_list, exceeds_len, exceeds_expr, exceeds_item, exceeds_select, exceeds_foreign, exceeds_assignment, exceeds_request}
+use Rattle.ifdb_parse.specs.TreeLimits.{exceeds_list, exceeds_len, exceeds_expr, exceeds_item, exceeds_select, exceeds_assignment, exceeds_request}
 use Rattle.ifdb_parse.proofs.Operators.{operators-Column, operators-Literal, operators-Add, operators-Sub, operators-Mul}
 
 -- ---- operators

@@ -1,13 +1,12 @@
 -- What a line is read as, by the written grammar alone.
-use Rattle.std.proofs.Common.{◌≡◌, ℕ, Bool, true, false, List, [], ◌∷◌, ◌++◌, length, Result, Ok, Err, refl, sym, ap, subst, ◌∙◌, inl, inr, ◌⊎◌}
-use Rattle.std.specs.Prelude.{◌||◌, not, if◌then◌else◌}
+use Rattle.std.proofs.Common.{◌≡◌, ℕ, Bool, true, false, List, [], ◌∷◌, ◌++◌, Result, Ok, Err, refl, sym, ap, subst, ◌∙◌, inl, inr, ◌⊎◌}
+use Rattle.std.specs.Prelude.{not, if◌then◌else◌}
 use Rattle.std.proofs.lemmas.Bool.{or_parts}
 use Rattle.ifdb_lex.specs.declared.token.Token.{Token}
 use Rattle.ifdb_lex.specs.declared.fault.LexFault.{LexFault}
 use Rattle.ifdb_lex.specs.declared.fault.LexFault.TheVariants as lex
 use Rattle.ifdb_lex.specs.Line.{without_return}
 use Rattle.ifdb_lex.specs.Lex.{lexed}
-use Rattle.ifdb_syntax.specs.declared.lexeme.Lexeme.{Lexeme}
 use Rattle.ifdb_syntax.specs.declared.request.Request.{Request}
 use Rattle.ifdb_syntax.specs.Words.{Lexemes}
 use Rattle.ifdb_syntax.specs.Reading.{written, bounded}
@@ -15,18 +14,16 @@ use Rattle.ifdb_syntax.specs.Requests.{line}
 use Rattle.ifdb_syntax.specs.Bounded.{bounded_request}
 use Rattle.ifdb_syntax.specs.Fault.{Begins, IsFault}
 use Rattle.ifdb_syntax.proofs.BoundedLine.{written_is_bounded, bounded_is_written}
-use Rattle.ifdb_parse.specs.declared.fault.ParseFault.{ParseFault}
 use Rattle.ifdb_parse.specs.declared.fault.ParseFault.TheVariants as fault
 use Rattle.ifdb_parse.specs.declared.limits.Before.TheVariants as before
 use Rattle.ifdb_parse.specs.Lexemes.{lexemes_of}
 use Rattle.ifdb_parse.specs.TreeLimits.{has_lone, exceeds_request, exceeds_tree}
 use Rattle.ifdb_parse.specs.Numbers.{numbers_fit}
-use Rattle.ifdb_parse.specs.Parsed.{place, judged, parsed_tokens, parsed_lexed, parsed}
+use Rattle.ifdb_parse.specs.Parsed.{place, parsed}
 use Rattle.ifdb_parse.specs.Laws.{exceeds_limits, IsRequest, IsTooLarge, IsMisplaced, ParsedIsRequest, ParsedIsSyntax, ParsedIsLimit}
 use Rattle.ifdb_parse.specs.rules.Requests.{whole}
 use Rattle.ifdb_parse.proofs.ParsedSteps.{said, parsed_fault, parsed_request, parsed_left}
 use Rattle.ifdb_parse.proofs.rules.Line.{whole_ok, whole_complete, whole_err, whole_at_fault}
-use Rattle.ifdb_parse.proofs.written.Tally.{all_fit}
 use Rattle.ifdb_parse.proofs.written.Statements.{line_tallies}
 use Rattle.ifdb_parse.proofs.written.Tokens.{lexed_small, all_fit_unless_lone}
 use Rattle.ifdb_parse.proofs.written.Limits.{exceeds_same, kept}

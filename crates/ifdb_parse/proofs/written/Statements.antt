@@ -1,17 +1,13 @@
 -- The numbers of statements and requests are those of their lexemes.
-use Rattle.std.proofs.Common.{◌≡◌, ℕ, ◌^◌, Bool, true, false, List, [], ◌∷◌, ◌++◌, Option, Some, None, refl, sym, ap, ◌∙◌}
-use Rattle.std.specs.Prelude.{◌&&◌, nat_le, nat_lt}
+use Rattle.std.proofs.Common.{◌≡◌, ℕ, Bool, true, false, List, [], ◌∷◌, ◌++◌, Option, None, refl, sym, ap, ◌∙◌}
+use Rattle.std.specs.Prelude.{◌&&◌, nat_lt}
 use Rattle.std.specs.List.{list_all}
-use Rattle.ifdb_value.specs.declared.value.Value.{Value}
 use Rattle.ifdb_value.specs.declared.column.Column.{Column}
 use Rattle.ifdb_syntax.specs.declared.lexeme.Lexeme.{Lexeme}
 use Rattle.ifdb_syntax.specs.declared.lexeme.Lexeme.TheVariants as t
 use Rattle.ifdb_syntax.specs.declared.expression.ColumnRef.{ColumnRef}
-use Rattle.ifdb_syntax.specs.declared.condition.Cond.{Cond}
 use Rattle.ifdb_syntax.specs.declared.select.Item.{Item}
 use Rattle.ifdb_syntax.specs.declared.select.Item.TheVariants as i
-use Rattle.ifdb_syntax.specs.declared.select.Order.{Order}
-use Rattle.ifdb_syntax.specs.declared.request.ForeignKey.{ForeignKey}
 use Rattle.ifdb_syntax.specs.declared.request.Request.{Request}
 use Rattle.ifdb_syntax.specs.declared.request.Request.TheVariants as q
 use Rattle.ifdb_syntax.specs.Words.{kind, AS, ASC, BEGIN, BY, BYE, COMMIT, COMPOUND, COUNT, CREATE, DECLASSIFYING, DELETE, DESC, FOREIGN, FROM, GRANT, GROUP, HELLO, IN, INSERT, INT, INTEGER, INTO, KEY, LABEL, MAX, MIN, OF, ORDER, PRIMARY, PRINCIPAL, REFERENCES, REVOKE, ROLLBACK, SELECT, SET, SHOW, SUM, TABLE, TAG, TEXT, TO, UPDATE, VALUES, VIEW, WITH, OPEN, CLOSE, COMMA, EQUAL, STAR, SEMICOLON, NAME}
@@ -22,10 +18,9 @@ use Rattle.ifdb_syntax.specs.Requests as h
 use Rattle.ifdb_parse.specs.declared.limits.Before.{Before}
 use Rattle.ifdb_parse.specs.declared.limits.Before.TheVariants as before
 use Rattle.ifdb_parse.specs.TreeLimits.{behind}
-use Rattle.ifdb_syntax.specs.Within.{value_fits, expr_fits, condition_fits, item_fits, select_fits, assignment_fits}
+use Rattle.ifdb_syntax.specs.Within.{value_fits, condition_fits, item_fits, select_fits, assignment_fits}
 use Rattle.ifdb_parse.specs.Numbers.{order_by_fits, order_fits, select_numbers_fit, numbers_fit}
 use Rattle.ifdb_parse.proofs.written.Tally.{Tallies, any, other, operand, fits_behind, and_assoc, nothing_tallies, then_tallies, or_tallies, repeat_tallies, placed, token_tallies, name_tallies, text_tallies, number_tallies}
-use Rattle.ifdb_parse.proofs.written.Forms.{all-one}
 use Rattle.ifdb_parse.proofs.written.Values.{parens_tallies, commas_tallies, ref_tallies, literal_tallies, expr_tallies, condition_tallies}
 
 and_true : (b : Bool) → (b && true) ≡ b

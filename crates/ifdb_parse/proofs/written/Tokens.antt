@@ -1,6 +1,6 @@
 -- The numbers among the lexemes of a line that was read as tokens are at most 2^63, so that one is held by no value only
 -- where it is 2^63 and stands alone.
-use Rattle.std.proofs.Common.{◌≡◌, ℕ, ◌^◌, ◌+◌, ◌-◌, Bool, true, false, List, [], ◌∷◌, map, length, Option, Some, None, Result, Ok, Err, refl, sym, ap, ◌∙◌, arith}
+use Rattle.std.proofs.Common.{◌≡◌, ℕ, ◌^◌, Bool, true, false, List, [], ◌∷◌, length, Option, Some, None, Result, Ok, Err, refl, sym, ap, ◌∙◌, arith}
 use Rattle.std.specs.Prelude.{◌||◌, ◌&&◌, not, ◌==◌, nat_le, nat_lt, if◌then◌else◌, slice_range, count_by}
 use Rattle.std.specs.List.{list_any, list_all}
 use Rattle.std.specs.Str.{str_eq_ignore_ascii_case}
@@ -10,7 +10,6 @@ use Rattle.std.proofs.lemmas.Bool.Decides.{nat_tests}
 use Rattle.ifdb_lex.specs.declared.token.Token.{Token}
 use Rattle.ifdb_lex.specs.declared.token.TokenKind.{TokenKind}
 use Rattle.ifdb_lex.specs.declared.token.TokenKind.TheVariants as kind
-use Rattle.ifdb_lex.specs.declared.fault.LexFault.{LexFault}
 use Rattle.ifdb_lex.specs.declared.fault.LexFault.TheVariants.{At, Limit}
 use Rattle.ifdb_lex.specs.Limits.{is_long_name, is_large, is_large_number, nests_deep, is_not, exceeds}
 use Rattle.ifdb_lex.specs.Line.{without_return, tokens_of}
@@ -21,7 +20,7 @@ use Rattle.ifdb_syntax.specs.Words.{Lexemes}
 use Rattle.ifdb_syntax.specs.Spelling.{word_text}
 use Rattle.ifdb_parse.specs.declared.limits.Before.{Before}
 use Rattle.ifdb_parse.specs.declared.limits.Before.TheVariants as before
-use Rattle.ifdb_parse.specs.Lexemes.{reserved_words, spelled_among, reserved, word_or_name, symbol_of, lexeme_from, lexeme_of, lexemes_of}
+use Rattle.ifdb_parse.specs.Lexemes.{reserved_words, spelled_among, reserved, word_or_name, symbol_of, lexeme_from, lexemes_of}
 use Rattle.ifdb_parse.specs.TreeLimits.{behind, is_lone, has_lone}
 use Rattle.ifdb_parse.proofs.written.Tally.{fits_behind, all_fit}
 

@@ -1,19 +1,16 @@
 -- The numbers of expressions and conditions are those of their lexemes.
-use Rattle.std.proofs.Common.{◌≡◌, ℕ, zero, suc, ◌^◌, Bool, true, false, List, [], ◌∷◌, ◌++◌, Option, Some, None, refl, sym, ap, ◌∙◌, pos, arith}
-use Rattle.std.specs.Prelude.{◌&&◌, nat_le, nat_lt, neg_ℤ}
+use Rattle.std.proofs.Common.{◌≡◌, ℕ, zero, suc, ◌^◌, Bool, true, false, List, [], ◌∷◌, ◌++◌, Some, None, refl, sym, ap, ◌∙◌, arith}
+use Rattle.std.specs.Prelude.{◌&&◌, nat_le}
 use Rattle.std.specs.List.{list_all}
 use Rattle.std.proofs.lemmas.Bool.Decides.{nat_tests}
-use Rattle.ifdb_value.specs.declared.value.Value.{Value}
 use Rattle.ifdb_value.specs.declared.value.Value.TheVariants as value
 use Rattle.ifdb_value.specs.declared.value.Compare.{Compare}
 use Rattle.ifdb_syntax.specs.declared.lexeme.Lexeme.{Lexeme}
 use Rattle.ifdb_syntax.specs.declared.lexeme.Lexeme.TheVariants as t
 use Rattle.ifdb_syntax.specs.declared.expression.Expr.{Expr}
 use Rattle.ifdb_syntax.specs.declared.expression.Expr.TheVariants as e
-use Rattle.ifdb_syntax.specs.declared.expression.Operand.{Operand}
 use Rattle.ifdb_syntax.specs.declared.condition.Cond.{Cond}
-use Rattle.ifdb_syntax.specs.declared.condition.Cond.TheVariants as c
-use Rattle.ifdb_syntax.specs.Words.{Lexemes, is, AND, CLOSE, COMMA, DOT, MINUS, NAME, NOT, OPEN, OR, PLUS, STAR, WHERE}
+use Rattle.ifdb_syntax.specs.Words.{AND, CLOSE, COMMA, DOT, MINUS, NOT, OPEN, OR, PLUS, STAR, WHERE}
 use Rattle.ifdb_syntax.specs.Lang.{Lang, Then, nothing, token, parens, next_member, separated, commas, repeat}
 use Rattle.ifdb_syntax.specs.Reading.{written}
 use Rattle.ifdb_syntax.specs.Expressions as g
@@ -22,7 +19,7 @@ use Rattle.ifdb_parse.specs.declared.limits.Before.{Before}
 use Rattle.ifdb_parse.specs.declared.limits.Before.TheVariants as before
 use Rattle.ifdb_parse.specs.TreeLimits.{behind}
 use Rattle.ifdb_syntax.specs.Within.{value_fits, expr_fits, operand_fits, cond_fits, condition_fits}
-use Rattle.ifdb_parse.proofs.written.Tally.{Tallies, any, other, operand, sign, fits_behind, all_fit, and_assoc, nothing_tallies, then_tallies, or_tallies, some_tallies, repeat_tallies, placed, token_tallies, name_tallies, text_tallies, number_tallies, negated_tallies}
+use Rattle.ifdb_parse.proofs.written.Tally.{Tallies, other, operand, sign, fits_behind, all_fit, and_assoc, nothing_tallies, then_tallies, or_tallies, some_tallies, repeat_tallies, token_tallies, name_tallies, text_tallies, number_tallies, negated_tallies}
 use Rattle.ifdb_parse.proofs.written.Forms.{expr_fits-Column, expr_fits-Literal, expr_fits-Add, expr_fits-Sub, expr_fits-Mul, cond_fits-Not, cond_fits-Compare, cond_fits-and_of, cond_fits-or_of, all-last, all-one}
 
 and_true : (b : Bool) → (b && true) ≡ b
