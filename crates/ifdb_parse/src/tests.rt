@@ -1,6 +1,6 @@
 // That `parse` gives an answer of each kind. Which answer each line has, its clauses and laws say.
-use crate::parse;
-use ifdb_syntax::print;
+use crate::{ParseFault, parse};
+use ifdb_syntax::{Request, print};
 use std::alloc::Global;
 use std::test::Fail;
 
@@ -17,14 +17,22 @@ static LINES: [(&[u8], &str); 6] = [
     (b"SELECT 9223372036854775808 FROM note", "Limit"),
 ];
 
+/// The canonical text of a request.
+fn printed(alloc: Global, request: &Request) -> Result<String, Fail> {
+    let text = print(alloc, request)?;
+    Ok(String::from_utf8_lossy(alloc, text.as_slice())?)
+}
+
+/// A fault.
+fn told(alloc: Global, fault: ParseFault) -> Result<String, Fail> {
+    Ok(format!(in alloc; "{fault:?}")?)
+}
+
 /// The canonical text of a line's request, or its fault.
 fn shown(alloc: Global, line: &[u8]) -> Result<String, Fail> {
     match parse(alloc, line) {
-        Ok(request) => {
-            let text = print(alloc, &request)?;
-            Ok(String::from_utf8_lossy(alloc, text.as_slice())?)
-        }
-        Err(fault) => Ok(format!(in alloc; "{fault:?}")?),
+        Ok(request) => printed(alloc, &request),
+        Err(fault) => told(alloc, fault),
     }
 }
 
