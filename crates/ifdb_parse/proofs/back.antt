@@ -1,0 +1,3 @@
+pub mod Lighter
+pub mod Prints
+pub mod Exprs
