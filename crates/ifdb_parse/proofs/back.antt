@@ -1,3 +1,6 @@
 pub mod Lighter
 pub mod Prints
 pub mod Exprs
+pub mod Conds
+pub mod Queries
+pub mod Requests

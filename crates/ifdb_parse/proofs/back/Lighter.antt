@@ -1,5 +1,5 @@
 -- Lexemes that pass no limit of a line where others pass none.
-use Rattle.std.proofs.Common.{◌≡◌, ℕ, zero, suc, ◌+◌, ◌-◌, ◌^◌, ◌<◌, ◌≤◌, Bool, true, false, ◌||◌, List, [], ◌∷◌, ◌++◌, Option, None, refl, sym, ap, subst, ◌∙◌, append_assoc, arith}
+use Rattle.std.proofs.Common.{◌≡◌, ℕ, ◌+◌, ◌-◌, ◌^◌, ◌≤◌, true, false, [], ◌∷◌, ◌++◌, None, refl, sym, subst, append_assoc, append-nil, arith}
 use Rattle.std.specs.Str.{IsUtf8}
 use Rattle.ifdb_value.specs.Name.{is_name}
 use Rattle.ifdb_syntax.specs.declared.lexeme.Lexeme.{Lexeme}
@@ -78,17 +78,17 @@ pub append_lighter : (b c d : Before) (v u w x : Lexemes) → Lighter b c v u �
 append_lighter b c d v u w x l m = record {
   sound = λ h. sound_append v w (l.sound (sound_front u x h)) (m.sound (sound_back u x h));
   fewer =
-    let e = nots-append v w in
-    let f = nots-append u x in
-    let g = l.fewer in
-    let h = m.fewer in
-    omega arith;
+      let e = nots-append v w in
+      let f = nots-append u x in
+      let g = l.fewer in
+      let h = m.fewer in
+      omega arith;
   shallow = λ j k s r le top h e.
-    let e' = subst (Shallow k) (append_assoc u x r) e in
-    subst (Shallow j) (sym (append_assoc v w s)) (l.shallow j k (w ++ s) (x ++ r) le top (m.shallow j k s r le top h) e');
+      let e' = subst (Shallow k) (append_assoc u x r) e in
+      subst (Shallow j) (sym (append_assoc v w s)) (l.shallow j k (w ++ s) (x ++ r) le top (m.shallow j k s r le top h) e');
   lone = λ s r h e.
-    let e' = subst (λ (z : Lexemes). has_lone b z ≡ false) (append_assoc u x r) e in
-    subst (λ (z : Lexemes). has_lone b z ≡ false) (sym (append_assoc v w s)) (l.lone (w ++ s) (x ++ r) (m.lone s r h) e');
+      let e' = subst (λ (z : Lexemes). has_lone b z ≡ false) (append_assoc u x r) e in
+      subst (λ (z : Lexemes). has_lone b z ≡ false) (sym (append_assoc v w s)) (l.lone (w ++ s) (x ++ r) (m.lone s r h) e');
 }
 
 -- a lexeme that is no parenthesis
@@ -102,12 +102,12 @@ one_lighter b c x y flat flat' sound fewer to to' lone = record {
   sound = λ h. (sound h.0, tt);
   fewer = omega arith;
   shallow = λ j k s r le top h e.
-    let low : j ≤ 32 = omega arith in
-    (subst (λ n. n ≤ 32) (sym (flat j)) low, subst (λ n. Shallow n s) (sym (flat j)) (h (subst (λ n. Shallow n r) (flat' k) e.1)));
+      let low : j ≤ 32 = omega arith in
+      (subst (λ n. n ≤ 32) (sym (flat j)) low, subst (λ n. Shallow n s) (sym (flat j)) (h (subst (λ n. Shallow n r) (flat' k) e.1)));
   lone = λ s r h e.
-    let ab = neither (is_lone b y) (has_lone (behind b y) r) e in
-    let rest = h (rw to' at ab.1) in
-    rw (lone ab.0, to) rest;
+      let ab = neither (is_lone b y) (has_lone (behind b y) r) e in
+      let rest = h (rw to' at ab.1) in
+      rw (lone ab.0, to) rest;
 }
 
 pub same_lighter : (b : Before) (x : Lexeme) → Flat x → Lighter b (behind b x) (x ∷ []) (x ∷ [])
@@ -138,24 +138,24 @@ pub parens_lighter : (b c : Before) (v u : Lexemes) → Lighter before.Other c v
 parens_lighter b c v u l = record {
   sound = λ h. (tt, sound_append v (t.Close ∷ []) (l.sound (sound_front u (t.Close ∷ []) h.1)) (tt, tt));
   fewer =
-    let e = nots-append v (t.Close ∷ []) in
-    let f = nots-append u (t.Close ∷ []) in
-    let g = l.fewer in
-    omega arith;
+      let e = nots-append v (t.Close ∷ []) in
+      let f = nots-append u (t.Close ∷ []) in
+      let g = l.fewer in
+      omega arith;
   shallow = λ j k s r le top h e.
-    let inner = subst (Shallow (k + 1)) (append_assoc u (t.Close ∷ []) r) e.1 in
-    let closes : (m : ℕ) → m + 1 - 1 ≡ m = λ m. omega arith in
-    let next : Shallow (k + 1) (t.Close ∷ r) → Shallow (j + 1) (t.Close ∷ s) = λ f.
-    let low : j + 1 - 1 ≤ 32 = omega arith in
-    (low, subst (λ n. Shallow n s) (sym (closes j)) (h (subst (λ n. Shallow n r) (closes k) f.1))) in
-    let le' : j + 1 ≤ k + 1 = omega arith in
-    let low : j + 1 ≤ 32 = omega (arith, e.0) in
-    (low, subst (Shallow (j + 1)) (sym (append_assoc v (t.Close ∷ []) s)) (l.shallow (j + 1) (k + 1) (t.Close ∷ s) (t.Close ∷ r) le' e.0 next inner));
+      let inner = subst (Shallow (k + 1)) (append_assoc u (t.Close ∷ []) r) e.1 in
+      let closes : (m : ℕ) → m + 1 - 1 ≡ m = λ m. omega arith in
+      let next : Shallow (k + 1) (t.Close ∷ r) → Shallow (j + 1) (t.Close ∷ s) = λ f.
+      let low : j + 1 - 1 ≤ 32 = omega arith in
+      (low, subst (λ n. Shallow n s) (sym (closes j)) (h (subst (λ n. Shallow n r) (closes k) f.1))) in
+      let le' : j + 1 ≤ k + 1 = omega arith in
+      let low : j + 1 ≤ 32 = omega (arith, e.0) in
+      (low, subst (Shallow (j + 1)) (sym (append_assoc v (t.Close ∷ []) s)) (l.shallow (j + 1) (k + 1) (t.Close ∷ s) (t.Close ∷ r) le' e.0 next inner));
   lone = λ s r h e.
-    let ab = neither (is_lone b t.Open) (has_lone before.Other ((u ++ t.Close ∷ []) ++ r)) e in
-    let inner = subst (λ (z : Lexemes). has_lone before.Other z ≡ false) (append_assoc u (t.Close ∷ []) r) ab.1 in
-    let next = l.lone (t.Close ∷ s) (t.Close ∷ r) (past_close c s r h) inner in
-    rw (no_paren_is_lone b) (subst (λ (z : Lexemes). has_lone before.Other z ≡ false) (sym (append_assoc v (t.Close ∷ []) s)) next);
+      let ab = neither (is_lone b t.Open) (has_lone before.Other ((u ++ t.Close ∷ []) ++ r)) e in
+      let inner = subst (λ (z : Lexemes). has_lone before.Other z ≡ false) (append_assoc u (t.Close ∷ []) r) ab.1 in
+      let next = l.lone (t.Close ∷ s) (t.Close ∷ r) (past_close c s r h) inner in
+      rw (no_paren_is_lone b) (subst (λ (z : Lexemes). has_lone before.Other z ≡ false) (sym (append_assoc v (t.Close ∷ []) s)) next);
 }
 
 -- parentheses that aren't written
@@ -163,18 +163,47 @@ pub drop_parens_lighter : (v u : Lexemes) → Lighter before.Other before.Operan
 drop_parens_lighter v u l = record {
   sound = λ h. l.sound (sound_front u (t.Close ∷ []) h.1);
   fewer =
-    let f = nots-append u (t.Close ∷ []) in
-    let g = l.fewer in
-    omega arith;
+      let f = nots-append u (t.Close ∷ []) in
+      let g = l.fewer in
+      omega arith;
   shallow = λ j k s r le top h e.
-    let inner = subst (Shallow (k + 1)) (append_assoc u (t.Close ∷ []) r) e.1 in
-    let closes : k + 1 - 1 ≡ k = omega arith in
-    let next : Shallow (k + 1) (t.Close ∷ r) → Shallow j s = λ f. h (subst (λ n. Shallow n r) closes f.1) in
-    let le' : j ≤ k + 1 = omega arith in
-    l.shallow j (k + 1) s (t.Close ∷ r) le' e.0 next inner;
+      let inner = subst (Shallow (k + 1)) (append_assoc u (t.Close ∷ []) r) e.1 in
+      let closes : k + 1 - 1 ≡ k = omega arith in
+      let next : Shallow (k + 1) (t.Close ∷ r) → Shallow j s = λ f. h (subst (λ n. Shallow n r) closes f.1) in
+      let le' : j ≤ k + 1 = omega arith in
+      l.shallow j (k + 1) s (t.Close ∷ r) le' e.0 next inner;
   lone = λ s r h e.
-    let ab = neither (is_lone before.Other t.Open) (has_lone before.Other ((u ++ t.Close ∷ []) ++ r)) e in
-    let inner = subst (λ (z : Lexemes). has_lone before.Other z ≡ false) (append_assoc u (t.Close ∷ []) r) ab.1 in
-    l.lone s (t.Close ∷ r) h inner;
+      let ab = neither (is_lone before.Other t.Open) (has_lone before.Other ((u ++ t.Close ∷ []) ++ r)) e in
+      let inner = subst (λ (z : Lexemes). has_lone before.Other z ≡ false) (append_assoc u (t.Close ∷ []) r) ab.1 in
+      l.lone s (t.Close ∷ r) h inner;
 }
 
+-- ---- up to the end of a line
+
+-- v passes no limit where u passes none, and nothing comes behind them
+pub record LighterEnd (b : Before) (v u : Lexemes) : Type 0 where
+  pub sound : AllSound u → AllSound v
+  pub fewer : nots v ≤ nots u
+  pub shallow : (j k : ℕ) → j ≤ k → k ≤ 32 → Shallow k u → Shallow j v
+  pub lone : has_lone b u ≡ false → has_lone b v ≡ false
+
+pub append_end : (b c : Before) (v u w x : Lexemes) → Lighter b c v u → LighterEnd c w x → LighterEnd b (v ++ w) (u ++ x)
+append_end b c v u w x l m = record {
+  sound = λ h. sound_append v w (l.sound (sound_front u x h)) (m.sound (sound_back u x h));
+  fewer =
+      let e = nots-append v w in
+      let f = nots-append u x in
+      let g = l.fewer in
+      let h = m.fewer in
+      omega arith;
+  shallow = λ j k le top e. l.shallow j k w x le top (m.shallow j k le top) e;
+  lone = λ e. l.lone w x m.lone e;
+}
+
+pub nil_end : (b : Before) → LighterEnd b [] []
+nil_end b = record { sound = λ h. h; fewer = omega arith; shallow = λ j k le top e. e; lone = λ e. e }
+
+pub end_of : (b c : Before) (v u : Lexemes) → Lighter b c v u → LighterEnd b v u
+end_of b c v u l =
+    subst (λ (z : Lexemes). LighterEnd b z u) (append-nil v)
+    (subst (λ (z : Lexemes). LighterEnd b (v ++ []) z) (append-nil u) (append_end b c v u [] [] l (nil_end c)))
