@@ -4,3 +4,5 @@ pub mod Exprs
 pub mod Conds
 pub mod Queries
 pub mod Requests
+pub mod Fronts
+pub mod Reads
