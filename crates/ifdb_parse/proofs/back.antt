@@ -6,3 +6,4 @@ pub mod Queries
 pub mod Requests
 pub mod Fronts
 pub mod Reads
+pub mod Texts

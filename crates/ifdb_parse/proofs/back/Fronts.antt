@@ -50,6 +50,13 @@ Follows t.Dot rest = Unit {0}
 Follows t.Minus rest = Unit {0}
 Follows _ rest = is_end (slice_index rest 0) ≡ true
 
+-- as nothing does
+pub ends_at_end : (x : Lexeme) → Follows x []
+ends_at_end t.Open = tt
+ends_at_end t.Dot = tt
+ends_at_end t.Minus = tt
+ends_at_end _ = refl
+
 -- a token that begins with this text, and ends with it
 pub record Stands (text : List ℕ) (of : TokenKind) (rest : List ℕ) : Type 0 where
   pub front_is : front (text ++ rest) ≡ Some (of, length text)
@@ -152,6 +159,9 @@ digits_stand (b ∷ ds) rest n all some is le ends =
       first = d.1;
       some = some;
     }
+
+pub decimal_digits : (n : ℕ) → n < 2 ^ 64 → list_all is_ascii_digit (decimal n) ≡ true
+decimal_digits n small = digits_decimal own n small
 
 number_stands : (n : ℕ) (rest : List ℕ) → n ≤ 2 ^ 63 → is_end (slice_index rest 0) ≡ true → Stands (decimal n) (kind.Number n) rest
 number_stands n rest le ends = let small : n < 2 ^ 64 = omega arith in digits_stand (decimal n) rest n (digits_decimal own n small) (decimal_nonempty n small) (digits_value-decimal own n small) le ends
