@@ -252,7 +252,7 @@ short_names line tokens h =
     let c = nests_deep 0 tokens in
     (neither a b (neither (a || b) c (neither (a || b || c) (nat_lt 64 (count_by (is_not line) tokens)) h).0).0).0
 
-any_split : (p : Token → Bool) (token : Token) (tokens : List Token) → list_any p (token ∷ tokens) ≡ false → (p token ≡ false) × (list_any p tokens ≡ false)
+pub any_split : (p : Token → Bool) (token : Token) (tokens : List Token) → list_any p (token ∷ tokens) ≡ false → (p token ≡ false) × (list_any p tokens ≡ false)
 any_split p token tokens h = neither (p token) (list_any p tokens) h
 
 laid_readable : (line : List ℕ) (at : ℕ) (tokens : List Token) → IsLaidOut line at tokens → list_any is_long_name tokens ≡ false →

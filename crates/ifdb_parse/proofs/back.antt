@@ -7,3 +7,5 @@ pub mod Requests
 pub mod Fronts
 pub mod Reads
 pub mod Texts
+pub mod Limits
+pub mod Back

@@ -1,3 +1,4 @@
+pub mod Back
 pub mod Lexemes
 pub mod Readable
 pub mod TreeLimits
