@@ -1,9 +1,9 @@
 //! Reading a line as a request.
 #![tactic(auto)]
 
-mod laws;
 mod lexemes;
 mod limits;
+mod way_back;
 mod words;
 
-pub use laws::canonical_text_reads_back;
+pub use way_back::canonical_text_reads_back;

@@ -51,7 +51,10 @@ same_compare b how.Greater = same_lighter b t.Greater (λ k. refl)
 same_compare b how.AtLeast = same_lighter b t.AtLeast (λ k. refl)
 
 compare_prints : (b : Before) → Prints b other compare any (λ how. compare_token how ∷ [])
-compare_prints b = record { goes = λ u how h e. along b before.Other (compare_token how ∷ []) (ap (λ (y : Lexeme). y ∷ []) (compare_is h.0 how h.2) ∙ sym h.1) (same_compare b how) }
+compare_prints b = record {
+  goes = λ u how h e. along b before.Other (compare_token how ∷ []) (ap (λ (y : Lexeme). y ∷ []) (compare_is h.0 how h.2)
+      ∙ sym h.1) (same_compare b how);
+}
 
 -- a condition in a place
 abbrev pub at_place : CondPlace → Cond → Lexemes
@@ -67,13 +70,15 @@ comparison_prints place =
 abbrev Placed : Cond → Type 0
 Placed x = (place : CondPlace) → (cond_tokens x place ≡ canon.enclosed (cond_tokens x at.Cond)) ⊎ (cond_tokens x place ≡ cond_tokens x at.Cond)
 
-enclosed_or : (x : Cond) (u : Lexemes) (wanted : CondPlace → Bool) → ((place : CondPlace) → cond_tokens x place ≡ canon.enclosed_if (wanted place) u) → wanted at.Cond ≡ false → Placed x
+enclosed_or : (x : Cond) (u : Lexemes) (wanted : CondPlace → Bool) → ((place : CondPlace) → cond_tokens x place ≡ canon.enclosed_if (wanted place) u) →
+    wanted at.Cond ≡ false → Placed x
 enclosed_or x u wanted form free place = by_test (wanted place) refl
   where
     plain : cond_tokens x at.Cond ≡ u
     plain = form at.Cond ∙ (ap (λ (z : Bool). canon.enclosed_if z u) free ∙ append-nil u)
 
-    by_test : (test : Bool) → wanted place ≡ test → (cond_tokens x place ≡ canon.enclosed (cond_tokens x at.Cond)) ⊎ (cond_tokens x place ≡ cond_tokens x at.Cond)
+    by_test : (test : Bool) → wanted place ≡ test →
+        (cond_tokens x place ≡ canon.enclosed (cond_tokens x at.Cond)) ⊎ (cond_tokens x place ≡ cond_tokens x at.Cond)
     by_test true is = inl (form place ∙ (ap (λ (z : Bool). canon.enclosed_if z u) is ∙ ap canon.enclosed (sym plain)))
     by_test false is = inr (form place ∙ (ap (λ (z : Bool). canon.enclosed_if z u) is ∙ (append-nil u ∙ sym plain)))
 
@@ -85,7 +90,8 @@ placed = each_cond Placed (record {
   compare = λ a how b place. inr (cond_tokens-Compare a how b place ∙ sym (cond_tokens-Compare a how b at.Cond));
 })
 
-enclosed_prints : (place : CondPlace) (l : Lang Cond) → Prints before.Other operand l any (at_place at.Cond) → Prints before.Other operand (parens l) any (at_place place)
+enclosed_prints : (place : CondPlace) (l : Lang Cond) → Prints before.Other operand l any (at_place at.Cond) →
+    Prints before.Other operand (parens l) any (at_place place)
 enclosed_prints place l h = record {
   goes = λ u a k e.
       let i = inside l u a k in
@@ -105,27 +111,36 @@ Everywhere l = (place : CondPlace) → Prints before.Other operand l any (at_pla
 negated_upto_prints : (l : Lang Cond) → Everywhere l → (n : ℕ) → Everywhere (negated_upto l n)
 negated_upto_prints l h zero place = h place
 negated_upto_prints l h (suc n) place =
-    either (whole (word t.Not NOT _ refl refl (λ k. refl) (part _ (negated_upto_prints l h n at.Prim) (λ x. done (c.Not x) refl (cond_tokens-Not x place))))) (h place)
+    either (whole (word t.Not NOT _ refl refl (λ k. refl) (part _ (negated_upto_prints l h n at.Prim)
+    (λ x. done (c.Not x) refl (cond_tokens-Not x place))))) (h place)
 
 negated_prints : (l : Lang Cond) → Everywhere l → Everywhere (negated l)
 negated_prints l h place = in_some (λ n. negated_upto_prints l h n place)
 
 -- members, each in a place
-in_chain : (k : Lexeme) (n : ℕ) (l : Lang Cond) (place : CondPlace) → kind k ≡ n → nat_lt (kind k) NAME ≡ true → Flat k → ((d : Before) → behind d k ≡ before.Other) → Prints before.Other operand l any (at_place place) → Prints before.Other operand (separated n l) any (canon.separated k (at_place place))
+in_chain : (k : Lexeme) (n : ℕ) (l : Lang Cond) (place : CondPlace) → kind k ≡ n → nat_lt (kind k) NAME ≡ true → Flat k → ((d : Before) →
+    behind d k ≡ before.Other) → Prints before.Other operand l any (at_place place) →
+    Prints before.Other operand (separated n l) any (canon.separated k (at_place place))
 in_chain k n l place is_k low flat back h = record { goes = λ u a w e. (members before.Other k n is_k low flat back h).goes u a w (any_all a) }
 
 -- one member is written in the place of the chain, and of several each in the place of a member
-chain_goes : (node : List Cond → Cond) (place member : CondPlace) (k : Lexeme) → ((x y : Cond) (more : List Cond) → cond_tokens (node (x ∷ y ∷ more)) place ≡ canon.separated k (at_place member) (x ∷ y ∷ more)) →
+chain_goes : (node : List Cond → Cond) (place member : CondPlace) (k : Lexeme) → ((x y : Cond) (more : List Cond) →
+    cond_tokens (node (x ∷ y ∷ more)) place ≡ canon.separated k (at_place member) (x ∷ y ∷ more)) →
     (cond_tokens (node []) place ≡ []) → ((x : Cond) → node (x ∷ []) ≡ x) → (parts : List Cond) (u : Lexemes) →
-    Lighter before.Other before.Operand (canon.separated k (at_place place) parts) u → Lighter before.Other before.Operand (canon.separated k (at_place member) parts) u → Lighter before.Other before.Operand (cond_tokens (node parts) place) u
+    Lighter before.Other before.Operand (canon.separated k (at_place place) parts) u →
+    Lighter before.Other before.Operand (canon.separated k (at_place member) parts) u →
+    Lighter before.Other before.Operand (cond_tokens (node parts) place) u
 chain_goes node place member k form none one [] u h m = along_text before.Other before.Operand u (sym none) h
 chain_goes node place member k form none one (x ∷ []) u h m =
     along_text before.Other before.Operand u (append-nil (cond_tokens x place) ∙ ap (λ (z : Cond). cond_tokens z place) (sym (one x))) h
 chain_goes node place member k form none one (x ∷ y ∷ more) u h m = along_text before.Other before.Operand u (sym (form x y more)) m
 
 -- the members, and what is made of them
-chain_prints : (n : ℕ) (k : Lexeme) (l : Lang Cond) (node : List Cond → Cond) (place member : CondPlace) → Prints before.Other operand (separated n l) any (canon.separated k (at_place place)) → Prints before.Other operand (separated n l) any (canon.separated k (at_place member)) →
-    ((x y : Cond) (more : List Cond) → cond_tokens (node (x ∷ y ∷ more)) place ≡ canon.separated k (at_place member) (x ∷ y ∷ more)) → (cond_tokens (node []) place ≡ []) → ((x : Cond) → node (x ∷ []) ≡ x) →
+chain_prints : (n : ℕ) (k : Lexeme) (l : Lang Cond) (node : List Cond → Cond) (place member : CondPlace) →
+    Prints before.Other operand (separated n l) any (canon.separated k (at_place place)) →
+    Prints before.Other operand (separated n l) any (canon.separated k (at_place member)) →
+    ((x y : Cond) (more : List Cond) → cond_tokens (node (x ∷ y ∷ more)) place ≡ canon.separated k (at_place member) (x ∷ y ∷ more)) →
+    (cond_tokens (node []) place ≡ []) → ((x : Cond) → node (x ∷ []) ≡ x) →
     Prints before.Other operand (λ u a. Then (separated n l) (λ parts. nothing (node parts)) u a) any (at_place place)
 chain_prints n k l node place member h m form none one = record {
   goes = λ u a w e.
@@ -138,19 +153,22 @@ conj_prints : (l : Lang Cond) → Everywhere l → (place : CondPlace) → and_e
 conj_prints l h place free =
     chain_prints AND t.And l and_of place at.Prim
     (in_chain t.And AND l place refl refl (λ k. refl) (λ d. refl) (h place)) (in_chain t.And AND l at.Prim refl refl (λ k. refl) (λ d. refl) (h at.Prim))
-    (λ x y more. cond_tokens-And (x ∷ y ∷ more) place ∙ (ap (λ (z : Bool). canon.enclosed_if z (canon.separated t.And (at_place at.Prim) (x ∷ y ∷ more))) free ∙ append-nil (canon.separated t.And (at_place at.Prim) (x ∷ y ∷ more))))
+    (λ x y more. cond_tokens-And (x ∷ y ∷ more) place ∙ (ap (λ (z : Bool). canon.enclosed_if z (canon.separated t.And (at_place at.Prim) (x ∷ y ∷ more))) free
+    ∙ append-nil (canon.separated t.And (at_place at.Prim) (x ∷ y ∷ more))))
     (cond_tokens-And [] place ∙ ap (λ (z : Bool). canon.enclosed_if z []) free) (λ x. refl)
 
 disj_prints : (l : Lang Cond) → Everywhere l → Prints before.Other operand (disj (conj l)) any (at_place at.Cond)
 disj_prints l h =
     chain_prints OR t.Or (conj l) or_of at.Cond at.Conj
-    (in_chain t.Or OR (conj l) at.Cond refl refl (λ k. refl) (λ d. refl) (conj_prints l h at.Cond refl)) (in_chain t.Or OR (conj l) at.Conj refl refl (λ k. refl) (λ d. refl) (conj_prints l h at.Conj refl))
+    (in_chain t.Or OR (conj l) at.Cond refl refl (λ k. refl) (λ d. refl) (conj_prints l h at.Cond refl)) (in_chain t.Or OR (conj l) at.Conj refl refl
+    (λ k. refl) (λ d. refl) (conj_prints l h at.Conj refl))
     (λ x y more. cond_tokens-Or (x ∷ y ∷ more) at.Cond ∙ append-nil (canon.separated t.Or (at_place at.Conj) (x ∷ y ∷ more)))
     (cond_tokens-Or [] at.Cond) (λ x. refl)
 
 cond_upto_prints : (n : ℕ) → Prints before.Other operand (cond_upto bounded n) any (at_place at.Cond)
 cond_upto_prints zero = disj_prints _ (negated_prints _ comparison_prints)
-cond_upto_prints (suc n) = disj_prints _ (negated_prints _ (λ place. either (enclosed_prints place (cond_upto bounded n) (cond_upto_prints n)) (comparison_prints place)))
+cond_upto_prints (suc n) = disj_prints _ (negated_prints _
+    (λ place. either (enclosed_prints place (cond_upto bounded n) (cond_upto_prints n)) (comparison_prints place)))
 
 cond_prints : Prints before.Other operand (cond bounded) any (at_place at.Cond)
 cond_prints = in_some cond_upto_prints
@@ -158,5 +176,6 @@ cond_prints = in_some cond_upto_prints
 pub condition_prints : Prints before.Operand operand (condition bounded) any condition_tokens
 condition_prints =
     either
-    (whole (part {g = λ x. t.Where ∷ cond_tokens x at.Cond} _ (whole (word t.Where WHERE _ refl refl (λ k. refl) (last cond_prints (λ a e. tt) (λ a. refl)))) (λ x. done (Some x) refl refl)))
+    (whole (part {g = λ x. t.Where ∷ cond_tokens x at.Cond} _ (whole (word t.Where WHERE _ refl refl (λ k. refl) (last cond_prints (λ a e. tt) (λ a. refl))))
+    (λ x. done (Some x) refl refl)))
     (whole (done None refl refl))

@@ -40,7 +40,8 @@ plain_prints : Prints before.Other operand number any (λ n. t.Number (min n (2 
 plain_prints = record {
   goes = λ u n h e.
       along before.Other before.Operand (t.Number (min n (2 ^ 63 - 1)) ∷ []) (ap (λ (y : Lexeme). y ∷ []) (number_is h.0 n h.2) ∙ sym h.1)
-      (one_lighter before.Other before.Operand (t.Number (min n (2 ^ 63 - 1))) (t.Number n) (λ k. refl) (λ k. refl) (λ s. omega arith) (omega arith) refl refl (λ _. not_lone (min n (2 ^ 63 - 1)) (omega arith)));
+      (one_lighter before.Other before.Operand (t.Number (min n (2 ^ 63 - 1))) (t.Number n) (λ k. refl) (λ k. refl) (λ s. omega arith) (omega arith) refl refl
+      (λ _. not_lone (min n (2 ^ 63 - 1)) (omega arith)));
 }
 
 minus_lighter : (m n : ℕ) → m ≤ n → m ≤ 2 ^ 63 → Lighter before.Other before.Operand (canon.number_tokens (neg_ℤ (pos m))) (t.Minus ∷ t.Number n ∷ [])
@@ -55,14 +56,18 @@ minus_lighter (suc m) n le top =
     (same_lighter before.Other t.Minus (λ k. refl))
     (one_lighter before.Sign before.Operand (t.Number (suc m)) (t.Number n) (λ k. refl) (λ k. refl) (λ s. top) (omega arith) refl refl (λ _. refl))
 
-negated_prints : Prints before.Other operand (λ u a. Then (token MINUS) (λ _. λ u a. Then number (λ n. nothing (value.Int (bounded.negated n))) u a) u a) any canon.literal_tokens
+negated_prints : Prints before.Other operand (λ u a. Then (token MINUS) (λ _. λ u a. Then number
+    (λ n. nothing (value.Int (bounded.negated n))) u a) u a) any canon.literal_tokens
 negated_prints = record {
   goes = λ u a h e.
       let k = h.second in
-      let back : h.back ≡ t.Number k.value ∷ [] = k.parts ∙ (ap (λ (z : Lexemes). k.front ++ z) k.second.0 ∙ (append-nil k.front ∙ (k.first.1 ∙ ap (λ (y : Lexeme). y ∷ []) (sym (number_is k.first.0 k.value k.first.2))))) in
-      let all : u ≡ t.Minus ∷ t.Number k.value ∷ [] = h.parts ∙ (ap (λ (z : Lexemes). z ++ h.back) (token_is t.Minus MINUS h.front h.value refl refl h.first) ∙ ap (λ (z : Lexemes). t.Minus ∷ z) back) in
+      let back : h.back ≡ t.Number k.value ∷ [] = k.parts ∙ (ap (λ (z : Lexemes). k.front ++ z) k.second.0 ∙ (append-nil k.front ∙ (k.first.1 ∙ ap
+      (λ (y : Lexeme). y ∷ []) (sym (number_is k.first.0 k.value k.first.2))))) in
+      let all : u ≡ t.Minus ∷ t.Number k.value ∷ [] = h.parts ∙ (ap (λ (z : Lexemes). z ++ h.back) (token_is t.Minus MINUS h.front h.value refl refl h.first)
+      ∙ ap (λ (z : Lexemes). t.Minus ∷ z) back) in
       along before.Other before.Operand (canon.literal_tokens a) (sym all)
-      (along_text before.Other before.Operand _ (sym (ap canon.literal_tokens k.second.1)) (minus_lighter (min k.value (2 ^ 63)) k.value (omega arith) (omega arith)));
+      (along_text before.Other before.Operand _ (sym (ap canon.literal_tokens k.second.1)) (minus_lighter (min k.value (2 ^ 63)) k.value (omega arith) (omega
+      arith)));
 }
 
 pub literal_prints : Prints before.Other operand (literal bounded) any canon.literal_tokens
@@ -85,13 +90,15 @@ atom_prints place =
 abbrev Placed : Expr → Type 0
 Placed x = (place : ExprPlace) → (expr_tokens x place ≡ canon.enclosed (expr_tokens x at.Expr)) ⊎ (expr_tokens x place ≡ expr_tokens x at.Expr)
 
-enclosed_or : (x : Expr) (u : Lexemes) (wanted : ExprPlace → Bool) → ((place : ExprPlace) → expr_tokens x place ≡ canon.enclosed_if (wanted place) u) → wanted at.Expr ≡ false → Placed x
+enclosed_or : (x : Expr) (u : Lexemes) (wanted : ExprPlace → Bool) → ((place : ExprPlace) → expr_tokens x place ≡ canon.enclosed_if (wanted place) u) →
+    wanted at.Expr ≡ false → Placed x
 enclosed_or x u wanted form free place = by_test (wanted place) refl
   where
     plain : expr_tokens x at.Expr ≡ u
     plain = form at.Expr ∙ (ap (λ (z : Bool). canon.enclosed_if z u) free ∙ append-nil u)
 
-    by_test : (test : Bool) → wanted place ≡ test → (expr_tokens x place ≡ canon.enclosed (expr_tokens x at.Expr)) ⊎ (expr_tokens x place ≡ expr_tokens x at.Expr)
+    by_test : (test : Bool) → wanted place ≡ test →
+        (expr_tokens x place ≡ canon.enclosed (expr_tokens x at.Expr)) ⊎ (expr_tokens x place ≡ expr_tokens x at.Expr)
     by_test true is = inl (form place ∙ (ap (λ (z : Bool). canon.enclosed_if z u) is ∙ ap canon.enclosed (sym plain)))
     by_test false is = inr (form place ∙ (ap (λ (z : Bool). canon.enclosed_if z u) is ∙ (append-nil u ∙ sym plain)))
 
@@ -104,7 +111,8 @@ placed = each_expr Placed (record {
   mul = λ a b _ _. enclosed_or (e.Mul a b) _ product_enclosed (expr_tokens-Mul a b) refl;
 })
 
-enclosed_prints : (place : ExprPlace) (l : Lang Expr) → Prints before.Other operand l expr_short (at_place at.Expr) → Prints before.Other operand (parens l) expr_short (at_place place)
+enclosed_prints : (place : ExprPlace) (l : Lang Expr) → Prints before.Other operand l expr_short (at_place at.Expr) →
+    Prints before.Other operand (parens l) expr_short (at_place place)
 enclosed_prints place l h = record {
   goes = λ u a k short.
       let i = inside l u a k in
@@ -115,7 +123,8 @@ enclosed_prints place l h = record {
       ]);
 }
 
-factor_prints : (place : ExprPlace) (l : Lang Expr) → Prints before.Other operand l expr_short (at_place at.Expr) → Prints before.Other operand (factor bounded l) expr_short (at_place place)
+factor_prints : (place : ExprPlace) (l : Lang Expr) → Prints before.Other operand l expr_short (at_place at.Expr) →
+    Prints before.Other operand (factor bounded l) expr_short (at_place place)
 factor_prints place l h = either (atom_prints place) (enclosed_prints place l h)
 
 -- where a chain stays within the limit, each operator is a node, and so are its operands within it
@@ -130,7 +139,8 @@ short_parts n a b h is = (grind (arith, nat_tests), grind (arith, nat_tests))
 not_both : {A : Type 0} (n : ℕ) → nat_lt 64 n ≡ true → nat_le n 64 ≡ true → A
 not_both n h k = absurd (grind (arith, nat_tests))
 
-node_by : (op : Expr → Expr → Expr) (a b : Expr) (long_a long_b : Bool) → nat_lt 64 (operators a) ≡ long_a → nat_lt 64 (operators b) ≡ long_b → operators (op a b) ≡ min 65 (operators a + operators b + 1) → expr_short (joined op a b) ≡ true → Node op a b
+node_by : (op : Expr → Expr → Expr) (a b : Expr) (long_a long_b : Bool) → nat_lt 64 (operators a) ≡ long_a → nat_lt 64 (operators b) ≡ long_b →
+    operators (op a b) ≡ min 65 (operators a + operators b + 1) → expr_short (joined op a b) ≡ true → Node op a b
 unfolding joined
 node_by op a b true long_b la lb count short = not_both (operators a) la (rw la at short)
 node_by op a b false true la lb count short = not_both (operators b) lb (rw (la, lb) at short)
@@ -143,7 +153,8 @@ node : (op : Expr → Expr → Expr) (a b : Expr) → operators (op a b) ≡ min
 node op a b count short = node_by op a b (nat_lt 64 (operators a)) (nat_lt 64 (operators b)) refl refl count short
 
 module _ (F : Lang Expr) (h : (place : ExprPlace) → Prints before.Other operand F expr_short (at_place place)) where
-  product_behind : (x : Expr) → Behind before.Other before.Operand (ending before.Other operand) (product_round bounded F x) expr_short (at_place at.Term) (expr_short x ≡ true) (expr_tokens x at.Term)
+  product_behind : (x : Expr) → Behind before.Other before.Operand (ending before.Other operand) (product_round bounded F x) expr_short (at_place at.Term)
+      (expr_short x ≡ true) (expr_tokens x at.Term)
   product_behind x =
       word t.Star STAR _ refl refl (λ k. refl) (tested _ (h at.Factor) (λ right. end_if (joined e.Mul x right) refl
       (λ short. let n = node e.Mul x right (operators-Mul x right) short in (n.left, n.right))
@@ -166,12 +177,14 @@ module _ (F : Lang Expr) (h : (place : ExprPlace) → Prints before.Other operan
       let is : y ≡ joined e.Mul x right = k.second.second.1 in
       let n = node e.Mul x right (operators-Mul x right) (subst (λ (z : Expr). expr_short z ≡ true) is short) in
       let whole_is : y ≡ e.Mul x right = is ∙ n.same in
-      subst (λ (z : Expr). expr_tokens z at.Expr ≡ expr_tokens z at.Term) (sym whole_is) (expr_tokens-Mul x right at.Expr ∙ sym (expr_tokens-Mul x right at.Term))
+      subst (λ (z : Expr). expr_tokens z at.Expr ≡ expr_tokens z at.Term) (sym whole_is) (expr_tokens-Mul x right at.Expr
+      ∙ sym (expr_tokens-Mul x right at.Term))
 
   term_prints_expr : Prints before.Other operand (term bounded F) expr_short (at_place at.Expr)
   term_prints_expr = record { goes = λ u y k short. by_rounds u y k.value k.front k.back k.second.0 k.parts k.first k.second.1 short }
     where
-      by_rounds : (u : Lexemes) (y x : Expr) (front back : Lexemes) (n : ℕ) → u ≡ front ++ back → F front x → rounds (product_round bounded F) n x back y → expr_short y ≡ true → Lighter before.Other before.Operand (expr_tokens y at.Expr) u
+      by_rounds : (u : Lexemes) (y x : Expr) (front back : Lexemes) (n : ℕ) → u ≡ front ++ back → F front x → rounds (product_round bounded F) n x back y →
+          expr_short y ≡ true → Lighter before.Other before.Operand (expr_tokens y at.Expr) u
       by_rounds u y x front back zero parts first r short =
           along before.Other before.Operand (expr_tokens y at.Expr) (sym (append-nil front) ∙ (ap (λ (z : Lexemes). front ++ z) (sym r.0) ∙ sym parts))
           ((h at.Expr).goes front y (subst (λ (z : Expr). F front z) (sym r.1) first) short)
@@ -183,7 +196,8 @@ module _ (F : Lang Expr) (h : (place : ExprPlace) → Prints before.Other operan
           along_text before.Other before.Operand u (sym (alike short))
           (term_prints.goes u y (record { front = front; back = back; value = x; parts = parts; first = first; second = (suc n, inl r) }) short)
 
-  plus_behind : (x : Expr) → Behind before.Other before.Operand (ending before.Other operand) (sum_round bounded (term bounded F) x) expr_short (at_place at.Expr) (expr_short x ≡ true) (expr_tokens x at.Expr)
+  plus_behind : (x : Expr) → Behind before.Other before.Operand (ending before.Other operand) (sum_round bounded (term bounded F) x) expr_short (at_place
+      at.Expr) (expr_short x ≡ true) (expr_tokens x at.Expr)
   plus_behind x =
       either_behind
       (word t.Plus PLUS _ refl refl (λ k. refl) (tested _ term_prints (λ right. end_if (joined e.Add x right) refl
@@ -197,7 +211,8 @@ module _ (F : Lang Expr) (h : (place : ExprPlace) → Prints before.Other operan
 
   sum_prints : Prints before.Other operand (sum bounded (term bounded F)) expr_short (at_place at.Expr)
   sum_prints =
-      whole (tested _ term_prints_expr (λ x. repeated x refl refl (λ short. (tt, short)) refl (record { keeps = λ y u z k. refl; grows = λ y (_ : true ≡ true). plus_behind y })))
+      whole (tested _ term_prints_expr (λ x. repeated x refl refl
+      (λ short. (tt, short)) refl (record { keeps = λ y u z k. refl; grows = λ y (_ : true ≡ true). plus_behind y })))
 
 expr_upto_prints : (n : ℕ) → Prints before.Other operand (expr_upto bounded n) expr_short (at_place at.Expr)
 expr_upto_prints zero = sum_prints (atom bounded) atom_prints

@@ -73,13 +73,24 @@ prefix_all p (b ∷ w) rest h e =
     let more = prefix_all p w rest ab.1 e in
     rw ab.0 (omega arith)
 
-end_is_no_word : (b : ℕ) → is_end b ≡ true → (is_word_byte b ≡ false) × (is_ascii_digit b ≡ false) × ((b == 39) ≡ false) × ((b == 62) ≡ false) × ((b == 61) ≡ false)
-end_is_no_word b h = (grind (arith, common_steps), grind (arith, common_steps), grind (arith, common_steps), grind (arith, common_steps), grind (arith, common_steps))
+end_is_no_word : (b : ℕ) → is_end b ≡ true → (is_word_byte b ≡ false) × (is_ascii_digit b ≡ false) × ((b == 39) ≡ false) × ((b == 62) ≡ false) ×
+    ((b == 61) ≡ false)
+end_is_no_word b h = (
+  grind (arith, common_steps),
+  grind (arith, common_steps),
+  grind (arith, common_steps),
+  grind (arith, common_steps),
+  grind (
+    arith,
+    common_steps,
+  ),
+)
 
 begins_no_blank : (b : ℕ) → begins_word b ≡ true → is_blank b ≡ false
 begins_no_blank b h = grind (arith, common_steps)
 
-word_stands : (w rest : List ℕ) → begins_word (slice_index w 0) ≡ true → list_all is_word_byte w ≡ true → is_end (slice_index rest 0) ≡ true → Stands w kind.Word rest
+word_stands : (w rest : List ℕ) → begins_word (slice_index w 0) ≡ true → list_all is_word_byte w ≡ true → is_end (slice_index rest 0) ≡ true →
+    Stands w kind.Word rest
 word_stands [] rest begins all ends = absurd (cc)
 word_stands (b ∷ w) rest begins all ends = record {
   front_is =
@@ -146,16 +157,19 @@ take_front (b ∷ w) rest = ap (λ (z : List ℕ). b ∷ z) (take_front w rest)
 front_digit : (text : List ℕ) → begins_word (slice_index text 0) ≡ false → is_ascii_digit (slice_index text 0) ≡ true → front text ≡ Some (number text)
 front_digit text other digit = rw (other, digit) refl
 
-digits_stand : (ds rest : List ℕ) (n : ℕ) → list_all is_ascii_digit ds ≡ true → 0 < length ds → value_of 0 ds ≡ n → n ≤ 2 ^ 63 → is_end (slice_index rest 0) ≡ true → Stands ds (kind.Number n) rest
+digits_stand : (ds rest : List ℕ) (n : ℕ) → list_all is_ascii_digit ds ≡ true → 0 < length ds → value_of 0 ds ≡ n → n ≤ 2 ^ 63 →
+    is_end (slice_index rest 0) ≡ true → Stands ds (kind.Number n) rest
 digits_stand [] rest n all some is le ends = absurd (omega arith)
 digits_stand (b ∷ ds) rest n all some is le ends =
     let digit = (and_parts (is_ascii_digit b) (list_all is_ascii_digit ds) all).0 in
     let d = digit_begins b digit in
-    let len : prefix_len is_ascii_digit ((b ∷ ds) ++ rest) ≡ length (b ∷ ds) = prefix_all is_ascii_digit (b ∷ ds) rest all (end_is_no_word (slice_index rest 0) ends).1 in
+    let len : prefix_len is_ascii_digit ((b ∷ ds) ++ rest) ≡ length (b ∷ ds) = prefix_all is_ascii_digit (b ∷ ds) rest all (end_is_no_word (slice_index rest
+    0) ends).1 in
     let val : capped (value_of 0 (take (length (b ∷ ds)) ((b ∷ ds) ++ rest))) ≡ n =
     ap (λ (z : List ℕ). capped (value_of 0 z)) (take_front (b ∷ ds) rest) ∙ (ap capped is ∙ omega arith) in
     record {
-      front_is = front_digit ((b ∷ ds) ++ rest) d.0 digit ∙ (ap (λ (m : ℕ). Some (kind.Number (capped (value_of 0 (take m ((b ∷ ds) ++ rest)))), m)) len ∙ ap (λ (m : ℕ). Some (kind.Number m, length (b ∷ ds))) val);
+      front_is = front_digit ((b ∷ ds) ++ rest) d.0 digit ∙ (ap (λ (m : ℕ). Some (kind.Number (capped (value_of 0 (take m ((b ∷ ds) ++ rest)))), m)) len ∙ ap
+          (λ (m : ℕ). Some (kind.Number m, length (b ∷ ds))) val);
       first = d.1;
       some = some;
     }
@@ -164,12 +178,14 @@ pub decimal_digits : (n : ℕ) → n < 2 ^ 64 → list_all is_ascii_digit (decim
 decimal_digits n small = digits_decimal own n small
 
 number_stands : (n : ℕ) (rest : List ℕ) → n ≤ 2 ^ 63 → is_end (slice_index rest 0) ≡ true → Stands (decimal n) (kind.Number n) rest
-number_stands n rest le ends = let small : n < 2 ^ 64 = omega arith in digits_stand (decimal n) rest n (digits_decimal own n small) (decimal_nonempty n small) (digits_value-decimal own n small) le ends
+number_stands n rest le ends = let small : n < 2 ^ 64 = omega arith in digits_stand (decimal n) rest n (digits_decimal own n small) (decimal_nonempty n
+    small) (digits_value-decimal own n small) le ends
 
 -- ---- texts
 
 -- the quotes within a text are doubled, so the first single one closes it
-closing_doubled : (w : List ℕ) (n : ℕ) (rest : List ℕ) → (slice_index rest 0 == 39) ≡ false → closing n (flat_map doubled w ++ 39 ∷ rest) ≡ Some (n + length (flat_map doubled w) + 1)
+closing_doubled : (w : List ℕ) (n : ℕ) (rest : List ℕ) → (slice_index rest 0 == 39) ≡ false →
+    closing n (flat_map doubled w ++ 39 ∷ rest) ≡ Some (n + length (flat_map doubled w) + 1)
 closing_doubled [] n [] e = ap (λ (m : ℕ). Some m) (omega arith)
 closing_doubled [] n (b ∷ rest) e = rw e (ap (λ (m : ℕ). Some m) (omega arith))
 closing_doubled (b ∷ w) n rest e = closing_more b w n rest (b == 39) refl (closing_doubled w (n + 2) rest e) (closing_doubled w (n + 1) rest e)
@@ -183,10 +199,13 @@ closing_doubled (b ∷ w) n rest e = closing_more b w n rest (b == 39) refl (clo
     ends_some [] rest = omega arith
     ends_some (c ∷ w) rest = omega arith
 
-    closing_more : (b : ℕ) (w : List ℕ) (n : ℕ) (rest : List ℕ) (test : Bool) → (b == 39) ≡ test → closing (n + 2) (flat_map doubled w ++ 39 ∷ rest) ≡ Some (n + 2 + length (flat_map doubled w) + 1) →
-        closing (n + 1) (flat_map doubled w ++ 39 ∷ rest) ≡ Some (n + 1 + length (flat_map doubled w) + 1) → closing n (flat_map doubled (b ∷ w) ++ 39 ∷ rest) ≡ Some (n + length (flat_map doubled (b ∷ w)) + 1)
+    closing_more : (b : ℕ) (w : List ℕ) (n : ℕ) (rest : List ℕ) (test : Bool) → (b == 39) ≡ test →
+        closing (n + 2) (flat_map doubled w ++ 39 ∷ rest) ≡ Some (n + 2 + length (flat_map doubled w) + 1) →
+        closing (n + 1) (flat_map doubled w ++ 39 ∷ rest) ≡ Some (n + 1 + length (flat_map doubled w) + 1) →
+        closing n (flat_map doubled (b ∷ w) ++ 39 ∷ rest) ≡ Some (n + length (flat_map doubled (b ∷ w)) + 1)
     closing_more b w n rest true is two one = rw is (two ∙ ap (λ (m : ℕ). Some m) (omega arith))
-    closing_more b w n rest false is two one = rw is (past b n (flat_map doubled w ++ 39 ∷ rest) is (ends_some (flat_map doubled w) rest) ∙ (one ∙ ap (λ (m : ℕ). Some m) (omega arith)))
+    closing_more b w n rest false is two one = rw is (past b n (flat_map doubled w ++ 39 ∷ rest) is (ends_some (flat_map doubled w) rest) ∙ (one ∙ ap
+        (λ (m : ℕ). Some m) (omega arith)))
 
 undoubled_doubled : (w : List ℕ) → undoubled (flat_map doubled w) ≡ w
 undoubled_doubled [] = refl
@@ -207,7 +226,8 @@ text_stands : (w rest : List ℕ) → is_end (slice_index rest 0) ≡ true → S
 text_stands w rest ends = record {
   front_is =
       let other = (end_is_no_word (slice_index rest 0) ends).2 in
-      let text : in_quotes w ++ rest ≡ 39 ∷ (flat_map doubled w ++ 39 ∷ rest) = ap (λ (z : List ℕ). 39 ∷ z) (append_assoc (flat_map doubled w) (39 ∷ []) rest) in
+      let text : in_quotes w ++ rest ≡ 39 ∷ (flat_map doubled w ++ 39 ∷ rest) = ap
+      (λ (z : List ℕ). 39 ∷ z) (append_assoc (flat_map doubled w) (39 ∷ []) rest) in
       let len : 1 + length (flat_map doubled w) + 1 ≡ length (in_quotes w) = (let e = length-append (flat_map doubled w) (39 ∷ []) in omega arith) in
       ap front text ∙ (ap closed (closing_doubled w 1 rest other) ∙ ap (λ (m : ℕ). Some (kind.Text, m)) len);
   first = refl;
@@ -244,7 +264,8 @@ stands word sound rest ends = word_stands (spelling word) rest refl refl ends
 
 -- ---- what such a token says
 
-word_says : (w : List ℕ) (x : Lexeme) (line : List ℕ) (start end : ℕ) → word_or_name w (reserved w) ≡ x → slice_range line start end ≡ w → lexeme_from line start end kind.Word ≡ x
+word_says : (w : List ℕ) (x : Lexeme) (line : List ℕ) (start end : ℕ) → word_or_name w (reserved w) ≡ x → slice_range line start end ≡ w →
+    lexeme_from line start end kind.Word ≡ x
 word_says w x line start end is e = ap (λ (z : List ℕ). word_or_name z (reserved z)) e ∙ is
 
 name_says : (n : List ℕ) → Sound (t.Name n) → word_or_name n (reserved n) ≡ t.Name n
@@ -277,16 +298,19 @@ inner mid (c ∷ text) (suc n) e = front_of mid (39 ∷ []) text n (rests e)
     rests : c ∷ take n text ≡ 39 ∷ (mid ++ 39 ∷ []) → take n text ≡ mid ++ 39 ∷ []
     rests e = ap tail_of e
 
-text_says : (w line : List ℕ) (at : ℕ) → slice_range line at (at + length (in_quotes w)) ≡ in_quotes w → lexeme_from line at (at + length (in_quotes w)) kind.Text ≡ t.Quoted w
+text_says : (w line : List ℕ) (at : ℕ) → slice_range line at (at + length (in_quotes w)) ≡ in_quotes w →
+    lexeme_from line at (at + length (in_quotes w)) kind.Text ≡ t.Quoted w
 text_says w line at e =
     let mid = flat_map doubled w in
     let size : length (in_quotes w) ≡ length mid + 2 = (let k = length-append mid (39 ∷ []) in omega arith) in
     let len : at + length (in_quotes w) - 1 - (at + 1) ≡ length mid = omega arith in
     let within : slice_range line (at + 1) (at + length (in_quotes w) - 1) ≡ mid =
-    ap (λ (m : ℕ). take m (drop (at + 1) line)) len ∙ (ap (take (length mid)) (sym (drop-drop 1 at line)) ∙ inner mid (drop at line) (at + length (in_quotes w) - at) e) in
+    ap (λ (m : ℕ). take m (drop (at + 1) line)) len ∙ (ap (take (length mid)) (sym (drop-drop 1 at line))
+    ∙ inner mid (drop at line) (at + length (in_quotes w) - at) e) in
     ap (λ (z : List ℕ). t.Quoted (undoubled z)) within ∙ ap (λ (z : List ℕ). t.Quoted z) (undoubled_doubled w)
 
-pub says : (x : Lexeme) → Sound x → (line : List ℕ) (at : ℕ) → slice_range line at (at + length (spelling x)) ≡ spelling x → lexeme_from line at (at + length (spelling x)) (token_kind x) ≡ x
+pub says : (x : Lexeme) → Sound x → (line : List ℕ) (at : ℕ) → slice_range line at (at + length (spelling x)) ≡ spelling x →
+    lexeme_from line at (at + length (spelling x)) (token_kind x) ≡ x
 unfolding reserved
 says (t.Name n) sound line at e = word_says n (t.Name n) line at (at + length n) (name_says n sound) e
 says (t.Number n) sound line at e = refl

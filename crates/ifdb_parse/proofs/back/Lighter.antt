@@ -129,12 +129,14 @@ no_paren_is_lone before.Operand = refl
 no_paren_is_lone before.Sign = refl
 no_paren_is_lone before.Other = refl
 
-past_close : (c : Before) (s r : Lexemes) → (has_lone before.Operand r ≡ false → has_lone before.Operand s ≡ false) → has_lone c (t.Close ∷ r) ≡ false → has_lone c (t.Close ∷ s) ≡ false
+past_close : (c : Before) (s r : Lexemes) → (has_lone before.Operand r ≡ false → has_lone before.Operand s ≡ false) → has_lone c (t.Close ∷ r) ≡ false →
+    has_lone c (t.Close ∷ s) ≡ false
 past_close before.Operand s r h e = h e
 past_close before.Sign s r h e = h e
 past_close before.Other s r h e = h e
 
-pub parens_lighter : (b c : Before) (v u : Lexemes) → Lighter before.Other c v u → Lighter b before.Operand (t.Open ∷ v ++ t.Close ∷ []) (t.Open ∷ u ++ t.Close ∷ [])
+pub parens_lighter : (b c : Before) (v u : Lexemes) → Lighter before.Other c v u →
+    Lighter b before.Operand (t.Open ∷ v ++ t.Close ∷ []) (t.Open ∷ u ++ t.Close ∷ [])
 parens_lighter b c v u l = record {
   sound = λ h. (tt, sound_append v (t.Close ∷ []) (l.sound (sound_front u (t.Close ∷ []) h.1)) (tt, tt));
   fewer =

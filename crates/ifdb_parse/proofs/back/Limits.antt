@@ -53,14 +53,16 @@ no_long line [] [] h sound = refl
 no_long line [] (x ∷ s) h sound = absurd h
 no_long line (token ∷ tokens) [] h sound = absurd h
 no_long line (token ∷ tokens) (x ∷ s) h sound =
-    any_none is_long_name token tokens (ap (λ (k : TokenKind). is_word k && nat_lt 63 (token.end - token.start)) h.0.kind_is ∙ (ap (λ (n : ℕ). is_word (token_kind x) && nat_lt 63 n) h.0.len_is ∙ long_not x sound.0))
+    any_none is_long_name token tokens (ap (λ (k : TokenKind). is_word k && nat_lt 63 (token.end - token.start)) h.0.kind_is ∙ (ap
+    (λ (n : ℕ). is_word (token_kind x) && nat_lt 63 n) h.0.len_is ∙ long_not x sound.0))
     (no_long line tokens s h.1 sound.1)
 
 no_large : (line : List ℕ) (tokens : List Token) (s : Lexemes) → AllStandFor line tokens s → AllSound s → list_any is_large_number tokens ≡ false
 no_large line [] [] h sound = refl
 no_large line [] (x ∷ s) h sound = absurd h
 no_large line (token ∷ tokens) [] h sound = absurd h
-no_large line (token ∷ tokens) (x ∷ s) h sound = any_none is_large_number token tokens (ap is_large h.0.kind_is ∙ large_not x sound.0) (no_large line tokens s h.1 sound.1)
+no_large line (token ∷ tokens) (x ∷ s) h sound = any_none is_large_number token tokens (ap is_large h.0.kind_is
+    ∙ large_not x sound.0) (no_large line tokens s h.1 sound.1)
 
 not_deep : (line : List ℕ) (tokens : List Token) (s : Lexemes) (d : ℕ) → AllStandFor line tokens s → Shallow d s → nests_deep d tokens ≡ false
 not_deep line [] [] d h low = refl
@@ -79,10 +81,12 @@ no_word true w o e = absurd (cc)
 no_word false w o e = (refl, e)
 
 -- a word at some place of the list is not what this text spells, where it spells none
-miss_at : (text : List ℕ) (ws : Lexemes) (k : ℕ) → k < length ws → spelled_among text ws ≡ None → str_eq_ignore_ascii_case text (word_text (get_or ws k t.Not)) ≡ false
+miss_at : (text : List ℕ) (ws : Lexemes) (k : ℕ) → k < length ws → spelled_among text ws ≡ None →
+    str_eq_ignore_ascii_case text (word_text (get_or ws k t.Not)) ≡ false
 miss_at text [] k inside none = absurd (omega arith)
 miss_at text (w ∷ ws) zero inside none = (no_word (str_eq_ignore_ascii_case text (word_text w)) w (spelled_among text ws) none).0
-miss_at text (w ∷ ws) (suc k) inside none = miss_at text ws k (omega arith) (no_word (str_eq_ignore_ascii_case text (word_text w)) w (spelled_among text ws) none).1
+miss_at text (w ∷ ws) (suc k) inside none = miss_at text ws k (omega arith) (no_word (str_eq_ignore_ascii_case text (word_text w)) w (spelled_among text ws)
+    none).1
 
 not_spelled : (text : List ℕ) → reserved text ≡ None → str_eq_ignore_ascii_case text (codes "not") ≡ false
 unfolding reserved
@@ -109,10 +113,12 @@ same_nots line (token ∷ tokens) (x ∷ s) h sound =
     ∙ (ap (λ (w : List ℕ). is_word (token_kind x) && str_eq_ignore_ascii_case w (codes "not")) h.0.text_is ∙ count_not x sound.0) in
     let here : (if is_not line token then 1 else 0) ≡ not_count x = ap (λ (b : Bool). if b then 1 else 0) is ∙ count_one x in
     let more = same_nots line tokens s h.1 sound.1 in
-    sum_by-cons (λ x. if is_not line x then 1 else 0) token tokens ∙ (ap (λ (n : ℕ). n + count_by (is_not line) tokens) here ∙ ap (λ (n : ℕ). not_count x + n) more)
+    sum_by-cons (λ x. if is_not line x then 1 else 0) token tokens ∙ (ap (λ (n : ℕ). n + count_by (is_not line) tokens) here ∙ ap
+    (λ (n : ℕ). not_count x + n) more)
 
 -- canonical text passes no limit of its tokens
-pub passes_none : (line : List ℕ) (tokens : List Token) (s : Lexemes) → AllStandFor line tokens s → AllSound s → Shallow 0 s → nots s ≤ 64 → exceeds line tokens ≡ false
+pub passes_none : (line : List ℕ) (tokens : List Token) (s : Lexemes) → AllStandFor line tokens s → AllSound s → Shallow 0 s → nots s ≤ 64 →
+    exceeds line tokens ≡ false
 passes_none line tokens s h sound low few =
     let count : nat_lt 64 (count_by (is_not line) tokens) ≡ false = not_more (count_by (is_not line) tokens) (omega (arith, same_nots line tokens s h sound)) in
     rw (no_long line tokens s h sound, no_large line tokens s h sound, not_deep line tokens s 0 h low, count) refl
@@ -157,7 +163,8 @@ record Found (text : List ℕ) (w : Lexeme) : Type 0 where
   listed : is_reserved w ≡ true
   spelled : str_eq_ignore_ascii_case text (word_text w) ≡ true
 
-found_by : (text : List ℕ) (w x : Lexeme) (o : Option Lexeme) (test : Bool) → str_eq_ignore_ascii_case text (word_text w) ≡ test → is_reserved w ≡ true → (o ≡ Some x → Found text x) → (if test then Some w else o) ≡ Some x → Found text x
+found_by : (text : List ℕ) (w x : Lexeme) (o : Option Lexeme) (test : Bool) → str_eq_ignore_ascii_case text (word_text w) ≡ test → is_reserved w ≡ true →
+    (o ≡ Some x → Found text x) → (if test then Some w else o) ≡ Some x → Found text x
 found_by text w x o true is word more e =
     let same : w ≡ x = cc in
     subst (Found text) same (record { listed = word; spelled = is })
@@ -176,7 +183,8 @@ found text x e = found_among text reserved_words x refl e
 -- a folded name spells what the name spells
 folded_same : (text : List ℕ) → str_to_ascii_lowercase (folded text) ≡ str_to_ascii_lowercase text
 folded_same [] = refl
-folded_same (b ∷ text) = ap (λ (z : ℕ). z ∷ str_to_ascii_lowercase (folded text)) (lowercase-lowercase b) ∙ ap (λ (z : List ℕ). to_ascii_lowercase b ∷ z) (folded_same text)
+folded_same (b ∷ text) = ap (λ (z : ℕ). z ∷ str_to_ascii_lowercase (folded text)) (lowercase-lowercase b) ∙ ap
+    (λ (z : List ℕ). to_ascii_lowercase b ∷ z) (folded_same text)
 
 among_folded : (text : List ℕ) (ws : Lexemes) → spelled_among (folded text) ws ≡ spelled_among text ws
 among_folded text [] = refl
@@ -188,7 +196,8 @@ reserved_folded : (text : List ℕ) → reserved (folded text) ≡ reserved text
 unfolding reserved
 reserved_folded text = among_folded text reserved_words
 
-word_count : (text : List ℕ) (x : Lexeme) → str_eq_ignore_ascii_case text (word_text x) ≡ true → not_count x ≤ (if str_eq_ignore_ascii_case text (codes "not") then 1 else 0)
+word_count : (text : List ℕ) (x : Lexeme) → str_eq_ignore_ascii_case text (word_text x) ≡ true →
+    not_count x ≤ (if str_eq_ignore_ascii_case text (codes "not") then 1 else 0)
 word_count text t.Not spelled = rw spelled (omega arith)
 word_count text _ spelled = omega arith
 
@@ -251,7 +260,8 @@ symbol_by b false false is also =
 symbol_limited : (b : ℕ) → LimitedSymbol b
 symbol_limited b = symbol_by b (b == 40) (b == 41) refl refl
 
-flat_token : (line : List ℕ) (token : Token) (x : Lexeme) (k : TokenKind) → token.kind ≡ k → lexeme_of line token ≡ x → Sound x → ((d : ℕ) → level d x ≡ open_behind d k) → not_count x ≤ 0 → Limited line token
+flat_token : (line : List ℕ) (token : Token) (x : Lexeme) (k : TokenKind) → token.kind ≡ k → lexeme_of line token ≡ x → Sound x → ((d : ℕ) →
+    level d x ≡ open_behind d k) → not_count x ≤ 0 → Limited line token
 flat_token line token x k is same sound levels none = record {
   sound = subst Sound (sym same) sound;
   levels = λ d. ap (level d) same ∙ (levels d ∙ sym (ap (open_behind d) is));
@@ -259,12 +269,14 @@ flat_token line token x k is same sound levels none = record {
 }
 
 -- each token that can be read
-limited_by : (line : List ℕ) (token : Token) (k : TokenKind) → token.kind ≡ k → IsUtf8 line → IsReadable line token → is_large_number token ≡ false → Limited line token
+limited_by : (line : List ℕ) (token : Token) (k : TokenKind) → token.kind ≡ k → IsUtf8 line → IsReadable line token → is_large_number token ≡ false →
+    Limited line token
 limited_by line token kind.Word is valid h large =
     let text = slice_range line token.start token.end in
     let w = word_limited text (reserved text) refl (word_at line token valid h is).name in
     let same : lexeme_of line token ≡ word_or_name text (reserved text) = ap (lexeme_from line token.start token.end) is in
-    let not_is : is_not line token ≡ str_eq_ignore_ascii_case text (codes "not") = ap (λ (k : TokenKind). is_word k && str_eq_ignore_ascii_case text (codes "not")) is in
+    let not_is : is_not line token ≡ str_eq_ignore_ascii_case text (codes "not") = ap
+    (λ (k : TokenKind). is_word k && str_eq_ignore_ascii_case text (codes "not")) is in
     record {
       sound = subst Sound (sym same) w.sound;
       levels = λ d. ap (level d) same ∙ (w.levels d ∙ sym (ap (open_behind d) is));
@@ -300,9 +312,12 @@ limited_by line token (kind.Symbol b) is valid h large =
       levels = λ d. ap (level d) same ∙ (l.levels d ∙ sym (ap (open_behind d) is));
       counts = subst (λ (x : Lexeme). not_count x ≤ (if is_not line token then 1 else 0)) (sym same) (omega (arith, l.none));
     }
-limited_by line token kind.NotEqual is valid h large = flat_token line token t.NotEqual kind.NotEqual is (ap (lexeme_from line token.start token.end) is) tt (λ d. refl) (omega arith)
-limited_by line token kind.AtMost is valid h large = flat_token line token t.AtMost kind.AtMost is (ap (lexeme_from line token.start token.end) is) tt (λ d. refl) (omega arith)
-limited_by line token kind.AtLeast is valid h large = flat_token line token t.AtLeast kind.AtLeast is (ap (lexeme_from line token.start token.end) is) tt (λ d. refl) (omega arith)
+limited_by line token kind.NotEqual is valid h large = flat_token line token t.NotEqual kind.NotEqual is (ap (lexeme_from line token.start token.end) is) tt
+    (λ d. refl) (omega arith)
+limited_by line token kind.AtMost is valid h large = flat_token line token t.AtMost kind.AtMost is (ap (lexeme_from line token.start token.end) is) tt
+    (λ d. refl) (omega arith)
+limited_by line token kind.AtLeast is valid h large = flat_token line token t.AtLeast kind.AtLeast is (ap (lexeme_from line token.start token.end) is) tt
+    (λ d. refl) (omega arith)
 
 limited : (line : List ℕ) (token : Token) → IsUtf8 line → IsReadable line token → is_large_number token ≡ false → Limited line token
 limited line token valid h large = limited_by line token token.kind refl valid h large
@@ -312,7 +327,8 @@ pub record AllReadable (line : List ℕ) (tokens : List Token) : Type 0 where
   pub readable : (k : ℕ) (other : Token) → k < length tokens → IsReadable line (get_or tokens k other)
   pub small : list_any is_large_number tokens ≡ false
 
-first_readable : (line : List ℕ) (token : Token) (tokens : List Token) → AllReadable line (token ∷ tokens) → IsReadable line token × (is_large_number token ≡ false) × AllReadable line tokens
+first_readable : (line : List ℕ) (token : Token) (tokens : List Token) → AllReadable line (token ∷ tokens) → IsReadable line token ×
+    (is_large_number token ≡ false) × AllReadable line tokens
 first_readable line token tokens h =
     let ab = any_split is_large_number token tokens h.small in
     (h.readable 0 token (omega arith), ab.0, record { readable = λ k other inside. h.readable (suc k) other (omega arith); small = ab.1 })
@@ -324,7 +340,8 @@ all_sound line (token ∷ tokens) valid h =
     ((limited line token valid f.0 f.1).sound, all_sound line tokens valid f.2)
 
 -- a test that fails: not more than 32
-pub shallow_from : (line : List ℕ) (tokens : List Token) (d : ℕ) → IsUtf8 line → AllReadable line tokens → nests_deep d tokens ≡ false → Shallow d (lexemes_of line tokens)
+pub shallow_from : (line : List ℕ) (tokens : List Token) (d : ℕ) → IsUtf8 line → AllReadable line tokens → nests_deep d tokens ≡ false →
+    Shallow d (lexemes_of line tokens)
 shallow_from line [] d valid h low = tt
 shallow_from line (token ∷ tokens) d valid h low =
     let f = first_readable line token tokens h in

@@ -140,7 +140,8 @@ reads_behind [] before line at sound is = record { tokens = []; read = ap (token
 reads_behind (x ∷ s) before line at sound is =
     let rest = text_behind (edge_after before x) s in
     let lexeme : (a : ℕ) → drop a line ≡ spelling x ++ rest → ReadsAs line a (x ∷ s) =
-    λ a e. reads_lexeme x s line rest a sound.0 (following before x s) e (λ next. reads_behind s (edge_after before x) line (a + length (spelling x)) sound.1 next) in
+    λ a e. reads_lexeme x s line rest a sound.0 (following before x s) e
+    (λ next. reads_behind s (edge_after before x) line (a + length (spelling x)) sound.1 next) in
     elim (gap_cases before x) [
       | inl none ↦ lexeme at (is ∙ ap (λ (z : List ℕ). (z ++ spelling x) ++ rest) none)
       | inr space ↦ reads_space line (spelling x ++ rest) at (x ∷ s) (is ∙ ap (λ (z : List ℕ). (z ++ spelling x) ++ rest) space) (λ next. lexeme (at + 1) next)
@@ -154,4 +155,5 @@ pub lexemes_read : (line : List ℕ) (tokens : List Token) (s : Lexemes) → All
 lexemes_read line [] [] h = refl
 lexemes_read line [] (x ∷ s) h = absurd h
 lexemes_read line (token ∷ tokens) [] h = absurd h
-lexemes_read line (token ∷ tokens) (x ∷ s) h = ap (λ (z : Lexeme). z ∷ lexemes_of line tokens) h.0.says_is ∙ ap (λ (z : Lexemes). x ∷ z) (lexemes_read line tokens s h.1)
+lexemes_read line (token ∷ tokens) (x ∷ s) h = ap (λ (z : Lexeme). z ∷ lexemes_of line tokens) h.0.says_is ∙ ap
+    (λ (z : Lexemes). x ∷ z) (lexemes_read line tokens s h.1)

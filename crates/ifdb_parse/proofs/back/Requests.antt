@@ -55,18 +55,21 @@ enclosed_names = record {
       along before.Other before.Operand (canon.enclosed (canon.names_tokens a)) (sym i.parts) (elim i.spelled [
         | inl x ↦ parens_lighter before.Other before.Operand (canon.names_tokens a) i.within (names_print.goes i.within a x e)
         | inr x ↦ parens_lighter before.Other before.Other (canon.names_tokens a) i.within
-            (along before.Other before.Other (canon.names_tokens a) (sym x.0) (along_text before.Other before.Other [] (ap canon.names_tokens (sym x.1)) (nil_lighter before.Other)))
+            (along before.Other before.Other (canon.names_tokens a) (sym x.0) (along_text before.Other before.Other [] (ap canon.names_tokens (sym x.1))
+            (nil_lighter before.Other)))
       ]);
 }
 
 set_label_prints : Prints before.Other operand rule.set_label request_short request_tokens
 set_label_prints =
-    whole (word t.Set SET _ refl refl (λ k. refl) (word t.Label LABEL _ refl refl (λ k. refl) (part _ enclosed_names (λ tags. done (q.SetLabel tags) refl refl))))
+    whole (word t.Set SET _ refl refl (λ k. refl) (word t.Label LABEL _ refl refl (λ k. refl) (part _ enclosed_names
+    (λ tags. done (q.SetLabel tags) refl refl))))
 
 show_label_prints : Prints before.Other other rule.show_label request_short request_tokens
 show_label_prints = whole (word t.Show SHOW _ refl refl (λ k. refl) (word t.Label LABEL _ refl refl (λ k. refl) (done q.ShowLabel refl refl)))
 
-word_prints : (x : Lexeme) (k : ℕ) (r : Request) → kind x ≡ k → nat_lt (kind x) NAME ≡ true → Flat x → behind before.Other x ≡ before.Other → request_tokens r ≡ x ∷ [] → Prints before.Other other (rule.word k r) request_short request_tokens
+word_prints : (x : Lexeme) (k : ℕ) (r : Request) → kind x ≡ k → nat_lt (kind x) NAME ≡ true → Flat x → behind before.Other x ≡ before.Other →
+    request_tokens r ≡ x ∷ [] → Prints before.Other other (rule.word k r) request_short request_tokens
 word_prints x k r is_k low flat to form = whole (word x k _ is_k low flat (done r (sym to) form))
 
 -- ---- CREATE
@@ -81,7 +84,8 @@ plain_tag_prints =
     word t.Tag TAG _ refl refl (λ k. refl) (part _ (name_prints before.Other) (λ n.
     part _ (names_behind_prints t.In IN refl refl (λ k. refl)) (λ parents. done (q.CreateTag n false parents) refl refl)))
 
-compound_tag_prints : Behind before.Other before.Other (ending before.Other operand) (rule.tag true) request_short request_tokens (Unit {0}) (t.Create ∷ t.Compound ∷ [])
+compound_tag_prints : Behind before.Other before.Other (ending before.Other operand) (rule.tag true) request_short request_tokens (Unit {0}) (t.Create ∷
+    t.Compound ∷ [])
 compound_tag_prints =
     word t.Tag TAG _ refl refl (λ k. refl) (part _ (name_prints before.Other) (λ n.
     part _ (names_behind_prints t.In IN refl refl (λ k. refl)) (λ parents. done (q.CreateTag n true parents) refl refl)))
@@ -93,7 +97,10 @@ value_kind_prints : Prints before.Operand other rule.value_kind any (λ k. kind_
 value_kind_prints =
     either (either
     (whole (word t.Int INT _ refl refl (λ k. refl) (done of.Int refl refl)))
-    (whole (part {g = λ _. t.Int ∷ []} _ (record { goes = λ u a h e. along before.Operand before.Other (t.Int ∷ []) (sym (token_is t.Integer INTEGER u a refl refl h)) (int_for t.Integer (λ k. refl) refl) }) (λ _. done of.Int refl refl))))
+    (whole (part {g = λ _. t.Int ∷ []} _ (record {
+      goes = λ u a h e. along before.Operand before.Other (t.Int ∷ []) (sym (token_is t.Integer INTEGER u a refl
+          refl h)) (int_for t.Integer (λ k. refl) refl);
+    }) (λ _. done of.Int refl refl))))
     (whole (word t.Text TEXT _ refl refl (λ k. refl) (done of.Text refl refl)))
 
 column_prints : Prints before.Other other rule.column any column_tokens
@@ -102,13 +109,16 @@ column_prints = whole (part _ (name_prints before.Other) (λ n. part _ value_kin
 parens_names : (b : Before) → Prints b operand (parens names) any (λ ns. canon.enclosed (canon.names_tokens ns))
 parens_names b = parens_prints b names_print
 
-foreign_form : (columns : List (List ℕ)) (parent : List ℕ) → foreign_tokens (record { columns = columns; parent = parent }) ≡ (((t.Foreign ∷ t.Key ∷ []) ++ canon.enclosed (canon.names_tokens columns)) ++ t.References ∷ []) ++ t.Name parent ∷ []
+foreign_form : (columns : List (List ℕ)) (parent : List ℕ) →
+    foreign_tokens (record { columns = columns; parent = parent }) ≡ (((t.Foreign ∷ t.Key ∷ []) ++ canon.enclosed (canon.names_tokens columns)) ++
+    t.References ∷ []) ++ t.Name parent ∷ []
 foreign_form columns parent = simp append_assoc refl
 
 foreign_prints : Prints before.Other operand rule.foreign any foreign_tokens
 foreign_prints =
     whole (word t.Foreign FOREIGN _ refl refl (λ k. refl) (word t.Key KEY _ refl refl (λ k. refl) (part _ (parens_names before.Other) (λ columns.
-    word t.References REFERENCES _ refl refl (λ k. refl) (part _ (name_prints before.Other) (λ parent. done (record { columns = columns; parent = parent }) refl (foreign_form columns parent)))))))
+    word t.References REFERENCES _ refl refl (λ k. refl) (part _ (name_prints before.Other)
+    (λ parent. done (record { columns = columns; parent = parent }) refl (foreign_form columns parent)))))))
 
 -- each column with a comma behind it
 columns_then : List Column → Lexemes
@@ -118,7 +128,8 @@ columns_then (x ∷ xs) = (column_tokens x ++ t.Comma ∷ []) ++ columns_then xs
 columns_more : (xs : List Column) (x : Column) → columns_then (xs ++ x ∷ []) ≡ columns_then xs ++ (column_tokens x ++ t.Comma ∷ [])
 unfolding columns_then
 columns_more [] x = append-nil (column_tokens x ++ t.Comma ∷ [])
-columns_more (y ∷ xs) x = ap (λ (z : Lexemes). (column_tokens y ++ t.Comma ∷ []) ++ z) (columns_more xs x) ∙ sym (append_assoc (column_tokens y ++ t.Comma ∷ []) (columns_then xs) (column_tokens x ++ t.Comma ∷ []))
+columns_more (y ∷ xs) x = ap (λ (z : Lexemes). (column_tokens y ++ t.Comma ∷ []) ++ z) (columns_more xs x)
+    ∙ sym (append_assoc (column_tokens y ++ t.Comma ∷ []) (columns_then xs) (column_tokens x ++ t.Comma ∷ []))
 
 columns_behind : (xs : List Column) (rest : Lexemes) → canon.behind t.Comma column_tokens xs ++ t.Comma ∷ rest ≡ t.Comma ∷ (columns_then xs ++ rest)
 unfolding columns_then
@@ -126,7 +137,8 @@ columns_behind [] rest = refl
 columns_behind (x ∷ xs) rest =
     ap (λ (z : Lexemes). t.Comma ∷ z) (append_assoc (column_tokens x) (canon.behind t.Comma column_tokens xs) (t.Comma ∷ rest)
     ∙ (ap (λ (z : Lexemes). column_tokens x ++ z) (columns_behind xs rest)
-    ∙ (sym (append_assoc (column_tokens x) (t.Comma ∷ []) (columns_then xs ++ rest)) ∙ sym (append_assoc (column_tokens x ++ t.Comma ∷ []) (columns_then xs) rest))))
+    ∙ (sym (append_assoc (column_tokens x) (t.Comma ∷ []) (columns_then xs ++ rest))
+    ∙ sym (append_assoc (column_tokens x ++ t.Comma ∷ []) (columns_then xs) rest))))
 
 -- which is how they are written where more follows
 columns_form : (xs : List Column) (rest : Lexemes) → some_member xs ≡ true → canon.commas column_tokens xs ++ t.Comma ∷ rest ≡ columns_then xs ++ rest
@@ -135,7 +147,8 @@ columns_form [] rest some = absurd (cc)
 columns_form (x ∷ xs) rest some =
     append_assoc (column_tokens x) (canon.behind t.Comma column_tokens xs) (t.Comma ∷ rest)
     ∙ (ap (λ (z : Lexemes). column_tokens x ++ z) (columns_behind xs rest)
-    ∙ (sym (append_assoc (column_tokens x) (t.Comma ∷ []) (columns_then xs ++ rest)) ∙ sym (append_assoc (column_tokens x ++ t.Comma ∷ []) (columns_then xs) rest)))
+    ∙ (sym (append_assoc (column_tokens x) (t.Comma ∷ []) (columns_then xs ++ rest))
+    ∙ sym (append_assoc (column_tokens x ++ t.Comma ∷ []) (columns_then xs) rest)))
 
 column_rounds : Grows some_member before.Other other rule.column_round any columns_then
 column_rounds = record {
@@ -145,13 +158,15 @@ column_rounds = record {
 }
 
 -- foreign keys, behind what was written
-foreign_more : (v : Lexemes) (xs : List ForeignKey) (x : ForeignKey) → v ++ canon.behind t.Comma foreign_tokens (xs ++ x ∷ []) ≡ ((v ++ canon.behind t.Comma foreign_tokens xs) ++ t.Comma ∷ []) ++ foreign_tokens x
+foreign_more : (v : Lexemes) (xs : List ForeignKey) (x : ForeignKey) →
+    v ++ canon.behind t.Comma foreign_tokens (xs ++ x ∷ []) ≡ ((v ++ canon.behind t.Comma foreign_tokens xs) ++ t.Comma ∷ []) ++ foreign_tokens x
 foreign_more v xs x = ap (λ (z : Lexemes). v ++ z) (behind_more t.Comma foreign_tokens xs x) ∙ simp append_assoc refl
 
 foreign_rounds : (v : Lexemes) → Grows (λ _. true) before.Other operand rule.foreign_round any (λ keys. v ++ canon.behind t.Comma foreign_tokens keys)
 foreign_rounds v = record {
   keeps = λ found u ys h. refl;
-  grows = λ found some. word t.Comma COMMA _ refl refl (λ k. refl) (part _ foreign_prints (λ x. end (found ++ x ∷ []) refl (λ _. refl) (foreign_more v found x)));
+  grows = λ found some. word t.Comma COMMA _ refl refl (λ k. refl) (part _ foreign_prints (λ x. end (found ++ x ∷ []) refl
+      (λ _. refl) (foreign_more v found x)));
 }
 
 -- what stands between the parentheses of a table
@@ -166,9 +181,11 @@ key_tokens columns key = ((columns_then columns ++ t.Primary ∷ []) ++ t.Key �
 gather : (a : Lexemes) (x y : Lexeme) (b c : Lexemes) → a ++ (x ∷ y ∷ b ++ c) ≡ (((a ++ x ∷ []) ++ y ∷ []) ++ b) ++ c
 gather a x y b c = simp append_assoc refl
 
-inner_form : (columns : List Column) (key : List (List ℕ)) (keys : List ForeignKey) → some_member columns ≡ true → table_tokens columns key keys ≡ key_tokens columns key ++ canon.behind t.Comma foreign_tokens keys
+inner_form : (columns : List Column) (key : List (List ℕ)) (keys : List ForeignKey) → some_member columns ≡ true →
+    table_tokens columns key keys ≡ key_tokens columns key ++ canon.behind t.Comma foreign_tokens keys
 unfolding key_tokens
-inner_form columns key keys some = columns_form columns (t.Primary ∷ t.Key ∷ canon.enclosed (canon.names_tokens key) ++ canon.behind t.Comma foreign_tokens keys) some ∙ gather (columns_then columns) t.Primary t.Key (canon.enclosed (canon.names_tokens key)) (canon.behind t.Comma foreign_tokens keys)
+inner_form columns key keys some = columns_form columns (t.Primary ∷ t.Key ∷ canon.enclosed (canon.names_tokens key) ++ canon.behind t.Comma foreign_tokens
+    keys) some ∙ gather (columns_then columns) t.Primary t.Key (canon.enclosed (canon.names_tokens key)) (canon.behind t.Comma foreign_tokens keys)
 
 table_prints : Behind before.Other before.Other (ending before.Other operand) rule.table request_short request_tokens (Unit {0}) (t.Create ∷ [])
 unfolding columns_then key_tokens inner_tokens
@@ -177,14 +194,18 @@ table_prints =
     opened {g = inner_tokens} (part _ column_prints (λ first. word t.Comma COMMA _ refl refl (λ k. refl)
     (rounds_then {q = some_member} {c = other} {g = columns_then} (first ∷ []) _ refl refl (append-nil _) column_rounds (λ columns some.
     word t.Primary PRIMARY _ refl refl (λ k. refl) (word t.Key KEY _ refl refl (λ k. refl) (part _ (parens_names before.Other) (λ key.
-    rounds_then {q = λ _. true} {c = operand} {g = λ keys. key_tokens columns key ++ canon.behind t.Comma foreign_tokens keys} [] _ refl refl (append-nil _) (foreign_rounds (key_tokens columns key)) (λ keys _.
+    rounds_then {q = λ _. true} {c = operand} {g = λ keys. key_tokens columns key ++ canon.behind t.Comma foreign_tokens keys} [] _ refl refl (append-nil _)
+    (foreign_rounds (key_tokens columns key)) (λ keys _.
     close_last (q.CreateTable n columns key keys) (λ _. tt) (inner_form columns key keys some)))))))))
     (λ u a k.
     let made = k.second.second.second.second.second.second.second.second.1 in
     subst (λ (z : Request). request_tokens z ≡ t.Create ∷ t.Table ∷ t.Name n ∷ t.Open ∷ (inner_tokens z ++ t.Close ∷ [])) (sym made) refl)))
 
-view_form : (n : List ℕ) (shown : _) (tags : List (List ℕ)) → request_tokens (q.CreateView n shown tags) ≡ (((t.Create ∷ t.View ∷ t.Name n ∷ t.As ∷ select_tokens shown) ++ t.With ∷ []) ++ t.Declassifying ∷ []) ++ canon.enclosed (canon.names_tokens tags)
-view_form n shown tags = gather_two (t.Create ∷ t.View ∷ t.Name n ∷ t.As ∷ select_tokens shown) t.With t.Declassifying (canon.enclosed (canon.names_tokens tags))
+view_form : (n : List ℕ) (shown : _) (tags : List (List ℕ)) →
+    request_tokens (q.CreateView n shown tags) ≡ (((t.Create ∷ t.View ∷ t.Name n ∷ t.As ∷ select_tokens shown) ++ t.With ∷ []) ++ t.Declassifying ∷ []) ++
+    canon.enclosed (canon.names_tokens tags)
+view_form n shown tags = gather_two (t.Create ∷ t.View ∷ t.Name n ∷ t.As ∷ select_tokens shown) t.With t.Declassifying (canon.enclosed (canon.names_tokens
+    tags))
   where
     gather_two : (a : Lexemes) (x y : Lexeme) (b : Lexemes) → a ++ x ∷ y ∷ b ≡ ((a ++ x ∷ []) ++ y ∷ []) ++ b
     gather_two a x y b = simp append_assoc refl
@@ -209,8 +230,10 @@ columns_print : Prints before.Operand operand (optional_list (parens names)) any
 columns_print = optional_prints (parens_names before.Operand) (parens_makes some_member names names_make) (λ n ns. refl) refl
 
 insert_form : (n : List ℕ) (columns : List (List ℕ)) (rows : List (List Value)) (tags : List (List ℕ)) →
-    request_tokens (q.Insert n columns rows tags) ≡ (((t.Insert ∷ t.Into ∷ t.Name n ∷ columns_tokens columns) ++ t.Values ∷ []) ++ canon.commas row_tokens rows) ++ canon.names_behind_tokens t.Declassifying tags
-insert_form n columns rows tags = gather_last (t.Insert ∷ t.Into ∷ t.Name n ∷ columns_tokens columns) t.Values (canon.commas row_tokens rows) (canon.names_behind_tokens t.Declassifying tags)
+    request_tokens (q.Insert n columns rows tags) ≡ (((t.Insert ∷ t.Into ∷ t.Name n ∷ columns_tokens columns) ++ t.Values ∷ []) ++ canon.commas row_tokens
+    rows) ++ canon.names_behind_tokens t.Declassifying tags
+insert_form n columns rows tags = gather_last (t.Insert ∷ t.Into ∷ t.Name n ∷ columns_tokens columns) t.Values (canon.commas row_tokens rows)
+    (canon.names_behind_tokens t.Declassifying tags)
   where
     gather_last : (a : Lexemes) (x : Lexeme) (b d : Lexemes) → a ++ (x ∷ b ++ d) ≡ ((a ++ x ∷ []) ++ b) ++ d
     gather_last a x b d = simp append_assoc refl
@@ -219,7 +242,8 @@ insert_prints : Prints before.Other operand (rule.insert bounded) request_short 
 insert_prints =
     whole (word t.Insert INSERT _ refl refl (λ k. refl) (word t.Into INTO _ refl refl (λ k. refl) (part _ (name_prints before.Other) (λ n.
     part _ columns_print (λ columns. word t.Values VALUES _ refl refl (λ k. refl) (part _ (free_listing row_prints) (λ rows.
-    part _ (names_behind_prints t.Declassifying DECLASSIFYING refl refl (λ k. refl)) (λ tags. done (q.Insert n columns rows tags) refl (insert_form n columns rows tags)))))))))
+    part _ (names_behind_prints t.Declassifying DECLASSIFYING refl refl (λ k. refl))
+    (λ tags. done (q.Insert n columns rows tags) refl (insert_form n columns rows tags)))))))))
 
 assignment_prints : Prints before.Other operand (rule.assignment bounded) assignment_short assignment_tokens
 assignment_prints =
@@ -227,8 +251,10 @@ assignment_prints =
     end (record { column = n; expr = x }) refl (λ short. (tt, short)) refl))))
 
 update_form : (n : List ℕ) (assignments : List Assignment) (found : _) (tags : List (List ℕ)) →
-    request_tokens (q.Update n assignments found tags) ≡ ((t.Update ∷ t.Name n ∷ t.Set ∷ canon.commas assignment_tokens assignments) ++ condition_tokens found) ++ canon.names_behind_tokens t.Declassifying tags
-update_form n assignments found tags = sym (append_assoc (t.Update ∷ t.Name n ∷ t.Set ∷ canon.commas assignment_tokens assignments) (condition_tokens found) (canon.names_behind_tokens t.Declassifying tags))
+    request_tokens (q.Update n assignments found tags) ≡ ((t.Update ∷ t.Name n ∷ t.Set ∷ canon.commas assignment_tokens assignments) ++ condition_tokens
+    found) ++ canon.names_behind_tokens t.Declassifying tags
+update_form n assignments found tags = sym (append_assoc (t.Update ∷ t.Name n ∷ t.Set ∷ canon.commas assignment_tokens assignments) (condition_tokens found)
+    (canon.names_behind_tokens t.Declassifying tags))
 
 update_prints : Prints before.Other operand (rule.update bounded) request_short request_tokens
 update_prints =
@@ -264,10 +290,13 @@ query_ends u r h e =
 
 request_ends : Ends (rule.request bounded)
 request_ends =
-    ends_or _ _ (ends_or _ _ (ends_or _ _ (ends_or _ _ (ends_or _ _ (ends_or _ _ (ends_or _ _ (ends_or _ _ (ends_or _ _ (ends_or _ _ (ends_or _ _ (ends_or _ _ (ends_or _ _
+    ends_or _ _ (ends_or _ _ (ends_or _ _ (ends_or _ _ (ends_or _ _ (ends_or _ _ (ends_or _ _ (ends_or _ _ (ends_or _ _ (ends_or _ _ (ends_or _ _ (ends_or _
+    _ (ends_or _ _
     (ends_by hello_prints) (ends_by create_prints)) (ends_by grant_prints)) (ends_by revoke_prints)) (ends_by set_label_prints)) (ends_by show_label_prints))
-    (ends_by (word_prints t.Begin BEGIN q.Begin refl refl (λ k. refl) refl refl))) (ends_by (word_prints t.Commit COMMIT q.Commit refl refl (λ k. refl) refl refl)))
-    (ends_by (word_prints t.Rollback ROLLBACK q.Rollback refl refl (λ k. refl) refl refl))) (ends_by (word_prints t.Bye BYE q.Bye refl refl (λ k. refl) refl refl)))
+    (ends_by (word_prints t.Begin BEGIN q.Begin refl refl (λ k. refl) refl refl))) (ends_by (word_prints t.Commit COMMIT q.Commit refl refl
+    (λ k. refl) refl refl)))
+    (ends_by (word_prints t.Rollback ROLLBACK q.Rollback refl refl (λ k. refl) refl refl))) (ends_by (word_prints t.Bye BYE q.Bye refl refl
+    (λ k. refl) refl refl)))
     query_ends) (ends_by insert_prints)) (ends_by update_prints)) (ends_by delete_prints)
 
 -- what a line without `;` keeps, it keeps with one
@@ -301,4 +330,5 @@ pub line_ends : Ends (rule.line bounded)
 line_ends u r h e =
     let same : r ≡ h.value = end_same h.value r h.back h.second in
     let front : rule.request bounded h.front r = subst (λ (z : Request). rule.request bounded h.front z) (sym same) h.first in
-    subst (λ (z : Lexemes). LighterEnd before.Other (request_tokens r) z) (sym h.parts) (without_end (request_tokens r) h.front h.back (request_ends h.front r front e))
+    subst (λ (z : Lexemes). LighterEnd before.Other (request_tokens r) z) (sym h.parts) (without_end (request_tokens r) h.front h.back (request_ends h.front
+    r front e))

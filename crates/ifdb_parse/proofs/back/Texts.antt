@@ -120,7 +120,8 @@ undoubled_last : (c : ℕ) (test : Bool) → (c == 39) ≡ test → undoubled (e
 undoubled_last c true is = rw (encoded_quote c is) refl
 undoubled_last c false is = undoubled_past (encode c) [] (encoded_no_quote c is)
 
-undoubled_step : (c d : ℕ) (cs : List ℕ) (quote next : Bool) → (c == 39) ≡ quote → (d == 39) ≡ next → undoubled (encodes cs) ≡ encodes (undoubled cs) → undoubled (encodes (d ∷ cs)) ≡ encodes (undoubled (d ∷ cs)) →
+undoubled_step : (c d : ℕ) (cs : List ℕ) (quote next : Bool) → (c == 39) ≡ quote → (d == 39) ≡ next → undoubled (encodes cs) ≡ encodes (undoubled cs) →
+    undoubled (encodes (d ∷ cs)) ≡ encodes (undoubled (d ∷ cs)) →
     undoubled (encode c ++ encodes (d ∷ cs)) ≡ encodes (undoubled (c ∷ d ∷ cs))
 undoubled_step c d cs true true is also rest more = rw (is, also, encoded_quote c is, encoded_quote d also, one_quote) (ap (λ (z : List ℕ). 39 ∷ z) rest)
 undoubled_step c d cs true false is other rest more =
@@ -143,7 +144,11 @@ undoubled_scalars (c ∷ []) h = h
 undoubled_scalars (c ∷ d ∷ cs) h =
     let a = and_parts (scalar c) (scalar d && scalars cs) h in
     let b = and_parts (scalar d) (scalars cs) a.1 in
-    either_scalars (c == 39 && d == 39) (39 ∷ undoubled cs) (c ∷ undoubled (d ∷ cs)) (rw (undoubled_scalars cs b.1) refl) (rw (a.0, undoubled_scalars (d ∷ cs) a.1) refl)
+    either_scalars (c == 39 && d == 39) (39 ∷ undoubled cs) (c ∷ undoubled (d ∷ cs)) (rw (undoubled_scalars cs b.1) refl) (rw (
+      a.0,
+      undoubled_scalars (d ∷
+          cs) a.1,
+    ) refl)
   where
     either_scalars : (test : Bool) (x y : List ℕ) → scalars x ≡ true → scalars y ≡ true → scalars (if test then x else y) ≡ true
     either_scalars true x y h k = h
@@ -177,7 +182,8 @@ name_ascii (b ∷ n) h =
 spelling_utf8 : (x : Lexeme) → Sound x → IsUtf8 (spelling x)
 spelling_utf8 (t.Name n) sound = ascii_utf8 n (name_ascii n (name_parts n sound.0).all)
 spelling_utf8 (t.Number n) sound = IsUtf8-from_ascii (decimal n) (IsAscii-decimal n (omega (arith, sound)))
-spelling_utf8 (t.Quoted w) sound = IsUtf8-append (39 ∷ flat_map doubled w) (39 ∷ []) (IsUtf8-append (39 ∷ []) (flat_map doubled w) (ascii_utf8 (39 ∷ []) refl) (doubled_utf8 w sound)) (ascii_utf8 (39 ∷ []) refl)
+spelling_utf8 (t.Quoted w) sound = IsUtf8-append (39 ∷ flat_map doubled w) (39 ∷ []) (IsUtf8-append (39 ∷ []) (flat_map doubled w) (ascii_utf8 (39 ∷ [])
+    refl) (doubled_utf8 w sound)) (ascii_utf8 (39 ∷ []) refl)
 spelling_utf8 word sound = ascii_utf8 (spelling word) refl
 
 gap_utf8 : (before : Edge) (x : Lexeme) → IsUtf8 (gap before x)
@@ -186,7 +192,8 @@ gap_utf8 before x = elim (gap_cases before x) [ inl is ↦ subst IsUtf8 (sym is)
 behind_utf8 : (s : Lexemes) (before : Edge) → AllSound s → IsUtf8 (text_behind before s)
 behind_utf8 [] before sound = IsUtf8-nil
 behind_utf8 (x ∷ s) before sound =
-    IsUtf8-append (gap before x ++ spelling x) (text_behind (edge_after before x) s) (IsUtf8-append (gap before x) (spelling x) (gap_utf8 before x) (spelling_utf8 x sound.0)) (behind_utf8 s (edge_after before x) sound.1)
+    IsUtf8-append (gap before x ++ spelling x) (text_behind (edge_after before x) s) (IsUtf8-append (gap before x) (spelling x) (gap_utf8 before x)
+    (spelling_utf8 x sound.0)) (behind_utf8 s (edge_after before x) sound.1)
 
 pub spaced_utf8 : (s : Lexemes) → AllSound s → IsUtf8 (spaced s)
 spaced_utf8 s sound = behind_utf8 s edge.Tight sound
@@ -225,7 +232,8 @@ last_spelling (t.Name n) sound =
     name_some n h = grind (arith, nat_tests)
 last_spelling (t.Number n) sound =
     let small : n < 2 ^ 64 = omega (arith, sound) in
-    last_digit (last_of (decimal n)) (last_passes is_ascii_digit (decimal n) (is_ascii_digit (last_of (decimal n))) (decimal_digits n small) (decimal_nonempty n small) refl)
+    last_digit (last_of (decimal n)) (last_passes is_ascii_digit (decimal n) (is_ascii_digit (last_of (decimal n))) (decimal_digits n small)
+    (decimal_nonempty n small) refl)
 last_spelling (t.Quoted w) sound =
     let e : last_of (quoted w) ≡ 39 = last_append (39 ∷ flat_map doubled w) (39 ∷ []) (omega arith) in
     rw e refl
@@ -244,7 +252,8 @@ unfolding last_of
 last_behind [] before sound = refl
 last_behind (x ∷ []) before sound =
     let some = (stands x sound.0 [] (ends_at_end x)).some in
-    let e : last_of ((gap before x ++ spelling x) ++ []) ≡ last_of (spelling x) = ap last_of (append-nil (gap before x ++ spelling x)) ∙ last_append (gap before x) (spelling x) some in
+    let e : last_of ((gap before x ++ spelling x) ++ []) ≡ last_of (spelling x) = ap last_of (append-nil (gap before x ++ spelling x))
+    ∙ last_append (gap before x) (spelling x) some in
     rw e (last_spelling x sound.0)
 last_behind (x ∷ y ∷ s) before sound =
     let e = last_append (gap before x ++ spelling x) (text_behind (edge_after before x) (y ∷ s)) (some_behind y s (edge_after before x) sound.1.0) in
