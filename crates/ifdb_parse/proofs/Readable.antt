@@ -70,8 +70,8 @@ no_text : {A : Type 0} (o : Option Piece) (len : ℕ) → is_text (kind_of o) �
 unfolding kind_of is_text
 no_text o len other e = not_true (sym other ∙ ap (λ (p : Option Piece). is_text (kind_of p)) e)
 
-pub front_word : (text : List ℕ) (len : ℕ) → front text ≡ Some (kind.Word, len) → (begins_word (slice_index text 0) ≡ true) ×
-    (len ≡ prefix_len is_word_byte text)
+pub front_word : (text : List ℕ) (len : ℕ) → front text ≡ Some (kind.Word, len) →
+    (begins_word (slice_index text 0) ≡ true) × (len ≡ prefix_len is_word_byte text)
 unfolding kind_of length_of
 front_word text len e =
     let first = slice_index text 0 in

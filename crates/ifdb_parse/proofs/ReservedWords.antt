@@ -16,7 +16,8 @@ other_length : (a b : List ℕ) → (length a == length b) ≡ false → str_eq_
 other_length a b h = grind (
   arith,
   nat_tests,
-  bytes_eq-Decides (map to_ascii_lowercase a) (map to_ascii_lowercase b),
+  bytes_eq-Decides (map to_ascii_lowercase a)
+      (map to_ascii_lowercase b),
   length-map a to_ascii_lowercase,
   length-map b to_ascii_lowercase,
 )
@@ -41,23 +42,23 @@ pub of_two : (text : List ℕ) → length text ≡ 2 → reserved text ≡ spell
 unfolding reserved of_length
 of_two text h = among_of_length text 2 reserved_words h
 
-pub of_three : (text : List ℕ) → length text ≡ 3 →
-    reserved text ≡ spelled_among text (t.And ∷ t.Asc ∷ t.Bye ∷ t.Int ∷ t.Key ∷ t.Max ∷ t.Min ∷ t.Not ∷ t.Set ∷ t.Sum ∷ t.Tag ∷ [])
+pub of_three : (text : List ℕ) → length text ≡ 3 → reserved text ≡ spelled_among text
+    (t.And ∷ t.Asc ∷ t.Bye ∷ t.Int ∷ t.Key ∷ t.Max ∷ t.Min ∷ t.Not ∷ t.Set ∷ t.Sum ∷ t.Tag ∷ [])
 unfolding reserved of_length
 of_three text h = among_of_length text 3 reserved_words h
 
-pub of_four : (text : List ℕ) → length text ≡ 4 →
-    reserved text ≡ spelled_among text (t.Call ∷ t.Desc ∷ t.From ∷ t.Into ∷ t.Null ∷ t.Show ∷ t.Text ∷ t.View ∷ t.With ∷ [])
+pub of_four : (text : List ℕ) → length text ≡ 4 → reserved text ≡ spelled_among text
+    (t.Call ∷ t.Desc ∷ t.From ∷ t.Into ∷ t.Null ∷ t.Show ∷ t.Text ∷ t.View ∷ t.With ∷ [])
 unfolding reserved of_length
 of_four text h = among_of_length text 4 reserved_words h
 
-pub of_five : (text : List ℕ) → length text ≡ 5 →
-    reserved text ≡ spelled_among text (t.Begin ∷ t.Count ∷ t.Grant ∷ t.Group ∷ t.Hello ∷ t.Label ∷ t.Order ∷ t.Table ∷ t.Where ∷ [])
+pub of_five : (text : List ℕ) → length text ≡ 5 → reserved text ≡ spelled_among text
+    (t.Begin ∷ t.Count ∷ t.Grant ∷ t.Group ∷ t.Hello ∷ t.Label ∷ t.Order ∷ t.Table ∷ t.Where ∷ [])
 unfolding reserved of_length
 of_five text h = among_of_length text 5 reserved_words h
 
-pub of_six : (text : List ℕ) → length text ≡ 6 →
-    reserved text ≡ spelled_among text (t.Commit ∷ t.Create ∷ t.Delete ∷ t.Insert ∷ t.Revoke ∷ t.Select ∷ t.Update ∷ t.Values ∷ [])
+pub of_six : (text : List ℕ) → length text ≡ 6 → reserved text ≡ spelled_among text
+    (t.Commit ∷ t.Create ∷ t.Delete ∷ t.Insert ∷ t.Revoke ∷ t.Select ∷ t.Update ∷ t.Values ∷ [])
 unfolding reserved of_length
 of_six text h = among_of_length text 6 reserved_words h
 

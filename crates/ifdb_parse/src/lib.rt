@@ -7,3 +7,6 @@ mod way_back;
 mod words;
 
 pub use way_back::canonical_text_reads_back;
+
+#[cfg(test)]
+mod tests;

@@ -60,18 +60,18 @@ items_within (x ∷ xs) h = let ab = neither (exceeds_item x) (list_any exceeds_
 
 assignments_within : (xs : List Assignment) → list_any exceeds_assignment xs ≡ false → list_all assignment_short xs ≡ true
 assignments_within [] h = refl
-assignments_within (x ∷ xs) h = let ab = neither (exceeds_assignment x) (list_any exceeds_assignment xs) h in rw (short_of (operators x.expr) ab.0)
-    (assignments_within xs ab.1)
+assignments_within (x ∷ xs) h = let ab = neither (exceeds_assignment x) (list_any exceeds_assignment xs) h in
+    rw (short_of (operators x.expr) ab.0) (assignments_within xs ab.1)
 
 select_within : (s : Select) → exceeds_select s ≡ false → list_all item_short s.items ≡ true
-select_within s h = items_within s.items (neither (exceeds_list s.items || exceeds_len 4 s.sources || exceeds_list s.group || exceeds_list s.order) (list_any
-    exceeds_item s.items) h).1
+select_within s h = items_within s.items (neither (exceeds_list s.items || exceeds_len 4 s.sources || exceeds_list s.group || exceeds_list s.order)
+    (list_any exceeds_item s.items) h).1
 
 request_within : (r : Request) → exceeds_request r ≡ false → request_short r ≡ true
 request_within (q.CreateView name select tags) h = select_within select (neither (exceeds_select select) (exceeds_list tags) h).0
 request_within (q.Select select) h = select_within select h
-request_within (q.Update table assignments cond tags) h = assignments_within assignments (neither (exceeds_list assignments || exceeds_list tags) (list_any
-    exceeds_assignment assignments) h).1
+request_within (q.Update table assignments cond tags) h =
+    assignments_within assignments (neither (exceeds_list assignments || exceeds_list tags) (list_any exceeds_assignment assignments) h).1
 request_within (q.Insert table columns rows tags) h = refl
 request_within (q.Delete table cond) h = refl
 request_within (q.Hello name key) h = refl
@@ -153,8 +153,8 @@ faultless line tokens e =
 
 -- ---- the way back
 
-read_back : (s : Lexemes) → AllSound s → Shallow 0 s → nots s ≤ 64 → (tokens : List Token) × (lexed (spaced s) ≡ Ok tokens) ×
-    (lexemes_of (without_return (spaced s)) tokens ≡ s)
+read_back : (s : Lexemes) → AllSound s → Shallow 0 s → nots s ≤ 64 →
+    (tokens : List Token) × (lexed (spaced s) ≡ Ok tokens) × (lexemes_of (without_return (spaced s)) tokens ≡ s)
 read_back s sound low few =
     let text = spaced s in
     let r = reads_spaced s sound in

@@ -52,8 +52,8 @@ same_compare b how.AtLeast = same_lighter b t.AtLeast (λ k. refl)
 
 compare_prints : (b : Before) → Prints b other compare any (λ how. compare_token how ∷ [])
 compare_prints b = record {
-  goes = λ u how h e. along b before.Other (compare_token how ∷ []) (ap (λ (y : Lexeme). y ∷ []) (compare_is h.0 how h.2)
-      ∙ sym h.1) (same_compare b how);
+  goes = λ u how h e. along b before.Other (compare_token how ∷ []) (ap (λ (y : Lexeme). y ∷ []) (compare_is h.0 how h.2) ∙ sym h.1)
+      (same_compare b how);
 }
 
 -- a condition in a place
@@ -77,8 +77,8 @@ enclosed_or x u wanted form free place = by_test (wanted place) refl
     plain : cond_tokens x at.Cond ≡ u
     plain = form at.Cond ∙ (ap (λ (z : Bool). canon.enclosed_if z u) free ∙ append-nil u)
 
-    by_test : (test : Bool) → wanted place ≡ test →
-        (cond_tokens x place ≡ canon.enclosed (cond_tokens x at.Cond)) ⊎ (cond_tokens x place ≡ cond_tokens x at.Cond)
+    by_test : (test : Bool) → wanted place ≡ test → (cond_tokens x place ≡ canon.enclosed (cond_tokens x at.Cond)) ⊎
+        (cond_tokens x place ≡ cond_tokens x at.Cond)
     by_test true is = inl (form place ∙ (ap (λ (z : Bool). canon.enclosed_if z u) is ∙ ap canon.enclosed (sym plain)))
     by_test false is = inr (form place ∙ (ap (λ (z : Bool). canon.enclosed_if z u) is ∙ (append-nil u ∙ sym plain)))
 
@@ -111,21 +111,21 @@ Everywhere l = (place : CondPlace) → Prints before.Other operand l any (at_pla
 negated_upto_prints : (l : Lang Cond) → Everywhere l → (n : ℕ) → Everywhere (negated_upto l n)
 negated_upto_prints l h zero place = h place
 negated_upto_prints l h (suc n) place =
-    either (whole (word t.Not NOT _ refl refl (λ k. refl) (part _ (negated_upto_prints l h n at.Prim)
-    (λ x. done (c.Not x) refl (cond_tokens-Not x place))))) (h place)
+    either (whole (word t.Not NOT _ refl refl (λ k. refl) (part _ (negated_upto_prints l h n at.Prim) (λ x. done (c.Not x) refl (cond_tokens-Not x place)))))
+    (h place)
 
 negated_prints : (l : Lang Cond) → Everywhere l → Everywhere (negated l)
 negated_prints l h place = in_some (λ n. negated_upto_prints l h n place)
 
 -- members, each in a place
-in_chain : (k : Lexeme) (n : ℕ) (l : Lang Cond) (place : CondPlace) → kind k ≡ n → nat_lt (kind k) NAME ≡ true → Flat k → ((d : Before) →
-    behind d k ≡ before.Other) → Prints before.Other operand l any (at_place place) →
+in_chain : (k : Lexeme) (n : ℕ) (l : Lang Cond) (place : CondPlace) → kind k ≡ n → nat_lt (kind k) NAME ≡ true → Flat k →
+    ((d : Before) → behind d k ≡ before.Other) → Prints before.Other operand l any (at_place place) →
     Prints before.Other operand (separated n l) any (canon.separated k (at_place place))
 in_chain k n l place is_k low flat back h = record { goes = λ u a w e. (members before.Other k n is_k low flat back h).goes u a w (any_all a) }
 
 -- one member is written in the place of the chain, and of several each in the place of a member
-chain_goes : (node : List Cond → Cond) (place member : CondPlace) (k : Lexeme) → ((x y : Cond) (more : List Cond) →
-    cond_tokens (node (x ∷ y ∷ more)) place ≡ canon.separated k (at_place member) (x ∷ y ∷ more)) →
+chain_goes : (node : List Cond → Cond) (place member : CondPlace) (k : Lexeme) →
+    ((x y : Cond) (more : List Cond) → cond_tokens (node (x ∷ y ∷ more)) place ≡ canon.separated k (at_place member) (x ∷ y ∷ more)) →
     (cond_tokens (node []) place ≡ []) → ((x : Cond) → node (x ∷ []) ≡ x) → (parts : List Cond) (u : Lexemes) →
     Lighter before.Other before.Operand (canon.separated k (at_place place) parts) u →
     Lighter before.Other before.Operand (canon.separated k (at_place member) parts) u →
@@ -153,15 +153,16 @@ conj_prints : (l : Lang Cond) → Everywhere l → (place : CondPlace) → and_e
 conj_prints l h place free =
     chain_prints AND t.And l and_of place at.Prim
     (in_chain t.And AND l place refl refl (λ k. refl) (λ d. refl) (h place)) (in_chain t.And AND l at.Prim refl refl (λ k. refl) (λ d. refl) (h at.Prim))
-    (λ x y more. cond_tokens-And (x ∷ y ∷ more) place ∙ (ap (λ (z : Bool). canon.enclosed_if z (canon.separated t.And (at_place at.Prim) (x ∷ y ∷ more))) free
+    (λ x y more. cond_tokens-And (x ∷ y ∷ more) place ∙
+    (ap (λ (z : Bool). canon.enclosed_if z (canon.separated t.And (at_place at.Prim) (x ∷ y ∷ more))) free
     ∙ append-nil (canon.separated t.And (at_place at.Prim) (x ∷ y ∷ more))))
     (cond_tokens-And [] place ∙ ap (λ (z : Bool). canon.enclosed_if z []) free) (λ x. refl)
 
 disj_prints : (l : Lang Cond) → Everywhere l → Prints before.Other operand (disj (conj l)) any (at_place at.Cond)
 disj_prints l h =
     chain_prints OR t.Or (conj l) or_of at.Cond at.Conj
-    (in_chain t.Or OR (conj l) at.Cond refl refl (λ k. refl) (λ d. refl) (conj_prints l h at.Cond refl)) (in_chain t.Or OR (conj l) at.Conj refl refl
-    (λ k. refl) (λ d. refl) (conj_prints l h at.Conj refl))
+    (in_chain t.Or OR (conj l) at.Cond refl refl (λ k. refl) (λ d. refl) (conj_prints l h at.Cond refl))
+    (in_chain t.Or OR (conj l) at.Conj refl refl (λ k. refl) (λ d. refl) (conj_prints l h at.Conj refl))
     (λ x y more. cond_tokens-Or (x ∷ y ∷ more) at.Cond ∙ append-nil (canon.separated t.Or (at_place at.Conj) (x ∷ y ∷ more)))
     (cond_tokens-Or [] at.Cond) (λ x. refl)
 

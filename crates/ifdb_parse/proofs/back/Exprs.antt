@@ -56,18 +56,19 @@ minus_lighter (suc m) n le top =
     (same_lighter before.Other t.Minus (λ k. refl))
     (one_lighter before.Sign before.Operand (t.Number (suc m)) (t.Number n) (λ k. refl) (λ k. refl) (λ s. top) (omega arith) refl refl (λ _. refl))
 
-negated_prints : Prints before.Other operand (λ u a. Then (token MINUS) (λ _. λ u a. Then number
-    (λ n. nothing (value.Int (bounded.negated n))) u a) u a) any canon.literal_tokens
+negated_prints : Prints before.Other operand (λ u a. Then (token MINUS)
+    (λ _. λ u a. Then number (λ n. nothing (value.Int (bounded.negated n))) u a) u a) any canon.literal_tokens
 negated_prints = record {
   goes = λ u a h e.
       let k = h.second in
-      let back : h.back ≡ t.Number k.value ∷ [] = k.parts ∙ (ap (λ (z : Lexemes). k.front ++ z) k.second.0 ∙ (append-nil k.front ∙ (k.first.1 ∙ ap
-      (λ (y : Lexeme). y ∷ []) (sym (number_is k.first.0 k.value k.first.2))))) in
-      let all : u ≡ t.Minus ∷ t.Number k.value ∷ [] = h.parts ∙ (ap (λ (z : Lexemes). z ++ h.back) (token_is t.Minus MINUS h.front h.value refl refl h.first)
-      ∙ ap (λ (z : Lexemes). t.Minus ∷ z) back) in
+      let back : h.back ≡ t.Number k.value ∷ [] = k.parts
+      ∙ (ap (λ (z : Lexemes). k.front ++ z) k.second.0 ∙
+      (append-nil k.front ∙ (k.first.1 ∙ ap (λ (y : Lexeme). y ∷ []) (sym (number_is k.first.0 k.value k.first.2))))) in
+      let all : u ≡ t.Minus ∷ t.Number k.value ∷ [] = h.parts
+      ∙ (ap (λ (z : Lexemes). z ++ h.back) (token_is t.Minus MINUS h.front h.value refl refl h.first) ∙ ap (λ (z : Lexemes). t.Minus ∷ z) back) in
       along before.Other before.Operand (canon.literal_tokens a) (sym all)
-      (along_text before.Other before.Operand _ (sym (ap canon.literal_tokens k.second.1)) (minus_lighter (min k.value (2 ^ 63)) k.value (omega arith) (omega
-      arith)));
+      (along_text before.Other before.Operand _ (sym (ap canon.literal_tokens k.second.1))
+      (minus_lighter (min k.value (2 ^ 63)) k.value (omega arith) (omega arith)));
 }
 
 pub literal_prints : Prints before.Other operand (literal bounded) any canon.literal_tokens
@@ -97,8 +98,8 @@ enclosed_or x u wanted form free place = by_test (wanted place) refl
     plain : expr_tokens x at.Expr ≡ u
     plain = form at.Expr ∙ (ap (λ (z : Bool). canon.enclosed_if z u) free ∙ append-nil u)
 
-    by_test : (test : Bool) → wanted place ≡ test →
-        (expr_tokens x place ≡ canon.enclosed (expr_tokens x at.Expr)) ⊎ (expr_tokens x place ≡ expr_tokens x at.Expr)
+    by_test : (test : Bool) → wanted place ≡ test → (expr_tokens x place ≡ canon.enclosed (expr_tokens x at.Expr)) ⊎
+        (expr_tokens x place ≡ expr_tokens x at.Expr)
     by_test true is = inl (form place ∙ (ap (λ (z : Bool). canon.enclosed_if z u) is ∙ ap canon.enclosed (sym plain)))
     by_test false is = inr (form place ∙ (ap (λ (z : Bool). canon.enclosed_if z u) is ∙ (append-nil u ∙ sym plain)))
 
@@ -177,8 +178,8 @@ module _ (F : Lang Expr) (h : (place : ExprPlace) → Prints before.Other operan
       let is : y ≡ joined e.Mul x right = k.second.second.1 in
       let n = node e.Mul x right (operators-Mul x right) (subst (λ (z : Expr). expr_short z ≡ true) is short) in
       let whole_is : y ≡ e.Mul x right = is ∙ n.same in
-      subst (λ (z : Expr). expr_tokens z at.Expr ≡ expr_tokens z at.Term) (sym whole_is) (expr_tokens-Mul x right at.Expr
-      ∙ sym (expr_tokens-Mul x right at.Term))
+      subst (λ (z : Expr). expr_tokens z at.Expr ≡ expr_tokens z at.Term) (sym whole_is)
+      (expr_tokens-Mul x right at.Expr ∙ sym (expr_tokens-Mul x right at.Term))
 
   term_prints_expr : Prints before.Other operand (term bounded F) expr_short (at_place at.Expr)
   term_prints_expr = record { goes = λ u y k short. by_rounds u y k.value k.front k.back k.second.0 k.parts k.first k.second.1 short }
@@ -196,8 +197,8 @@ module _ (F : Lang Expr) (h : (place : ExprPlace) → Prints before.Other operan
           along_text before.Other before.Operand u (sym (alike short))
           (term_prints.goes u y (record { front = front; back = back; value = x; parts = parts; first = first; second = (suc n, inl r) }) short)
 
-  plus_behind : (x : Expr) → Behind before.Other before.Operand (ending before.Other operand) (sum_round bounded (term bounded F) x) expr_short (at_place
-      at.Expr) (expr_short x ≡ true) (expr_tokens x at.Expr)
+  plus_behind : (x : Expr) → Behind before.Other before.Operand (ending before.Other operand) (sum_round bounded (term bounded F) x) expr_short
+      (at_place at.Expr) (expr_short x ≡ true) (expr_tokens x at.Expr)
   plus_behind x =
       either_behind
       (word t.Plus PLUS _ refl refl (λ k. refl) (tested _ term_prints (λ right. end_if (joined e.Add x right) refl
@@ -211,8 +212,8 @@ module _ (F : Lang Expr) (h : (place : ExprPlace) → Prints before.Other operan
 
   sum_prints : Prints before.Other operand (sum bounded (term bounded F)) expr_short (at_place at.Expr)
   sum_prints =
-      whole (tested _ term_prints_expr (λ x. repeated x refl refl
-      (λ short. (tt, short)) refl (record { keeps = λ y u z k. refl; grows = λ y (_ : true ≡ true). plus_behind y })))
+      whole (tested _ term_prints_expr (λ x. repeated x refl refl (λ short. (tt, short)) refl
+      (record { keeps = λ y u z k. refl; grows = λ y (_ : true ≡ true). plus_behind y })))
 
 expr_upto_prints : (n : ℕ) → Prints before.Other operand (expr_upto bounded n) expr_short (at_place at.Expr)
 expr_upto_prints zero = sum_prints (atom bounded) atom_prints

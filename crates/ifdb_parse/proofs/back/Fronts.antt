@@ -80,10 +80,8 @@ end_is_no_word b h = (
   grind (arith, common_steps),
   grind (arith, common_steps),
   grind (arith, common_steps),
-  grind (
-    arith,
-    common_steps,
-  ),
+  grind
+      (arith, common_steps),
 )
 
 begins_no_blank : (b : ℕ) → begins_word b ≡ true → is_blank b ≡ false
@@ -163,13 +161,14 @@ digits_stand [] rest n all some is le ends = absurd (omega arith)
 digits_stand (b ∷ ds) rest n all some is le ends =
     let digit = (and_parts (is_ascii_digit b) (list_all is_ascii_digit ds) all).0 in
     let d = digit_begins b digit in
-    let len : prefix_len is_ascii_digit ((b ∷ ds) ++ rest) ≡ length (b ∷ ds) = prefix_all is_ascii_digit (b ∷ ds) rest all (end_is_no_word (slice_index rest
-    0) ends).1 in
+    let len : prefix_len is_ascii_digit ((b ∷ ds) ++ rest) ≡ length (b ∷ ds) =
+    prefix_all is_ascii_digit (b ∷ ds) rest all (end_is_no_word (slice_index rest 0) ends).1 in
     let val : capped (value_of 0 (take (length (b ∷ ds)) ((b ∷ ds) ++ rest))) ≡ n =
     ap (λ (z : List ℕ). capped (value_of 0 z)) (take_front (b ∷ ds) rest) ∙ (ap capped is ∙ omega arith) in
     record {
-      front_is = front_digit ((b ∷ ds) ++ rest) d.0 digit ∙ (ap (λ (m : ℕ). Some (kind.Number (capped (value_of 0 (take m ((b ∷ ds) ++ rest)))), m)) len ∙ ap
-          (λ (m : ℕ). Some (kind.Number m, length (b ∷ ds))) val);
+      front_is = front_digit ((b ∷ ds) ++ rest) d.0 digit
+          ∙ (ap (λ (m : ℕ). Some (kind.Number (capped (value_of 0 (take m ((b ∷ ds) ++ rest)))), m)) len
+          ∙ ap (λ (m : ℕ). Some (kind.Number m, length (b ∷ ds))) val);
       first = d.1;
       some = some;
     }
@@ -178,8 +177,8 @@ pub decimal_digits : (n : ℕ) → n < 2 ^ 64 → list_all is_ascii_digit (decim
 decimal_digits n small = digits_decimal own n small
 
 number_stands : (n : ℕ) (rest : List ℕ) → n ≤ 2 ^ 63 → is_end (slice_index rest 0) ≡ true → Stands (decimal n) (kind.Number n) rest
-number_stands n rest le ends = let small : n < 2 ^ 64 = omega arith in digits_stand (decimal n) rest n (digits_decimal own n small) (decimal_nonempty n
-    small) (digits_value-decimal own n small) le ends
+number_stands n rest le ends = let small : n < 2 ^ 64 = omega arith in
+    digits_stand (decimal n) rest n (digits_decimal own n small) (decimal_nonempty n small) (digits_value-decimal own n small) le ends
 
 -- ---- texts
 
@@ -204,8 +203,8 @@ closing_doubled (b ∷ w) n rest e = closing_more b w n rest (b == 39) refl (clo
         closing (n + 1) (flat_map doubled w ++ 39 ∷ rest) ≡ Some (n + 1 + length (flat_map doubled w) + 1) →
         closing n (flat_map doubled (b ∷ w) ++ 39 ∷ rest) ≡ Some (n + length (flat_map doubled (b ∷ w)) + 1)
     closing_more b w n rest true is two one = rw is (two ∙ ap (λ (m : ℕ). Some m) (omega arith))
-    closing_more b w n rest false is two one = rw is (past b n (flat_map doubled w ++ 39 ∷ rest) is (ends_some (flat_map doubled w) rest) ∙ (one ∙ ap
-        (λ (m : ℕ). Some m) (omega arith)))
+    closing_more b w n rest false is two one = rw is (past b n (flat_map doubled w ++ 39 ∷ rest) is (ends_some (flat_map doubled w) rest)
+        ∙ (one ∙ ap (λ (m : ℕ). Some m) (omega arith)))
 
 undoubled_doubled : (w : List ℕ) → undoubled (flat_map doubled w) ≡ w
 undoubled_doubled [] = refl
@@ -226,8 +225,8 @@ text_stands : (w rest : List ℕ) → is_end (slice_index rest 0) ≡ true → S
 text_stands w rest ends = record {
   front_is =
       let other = (end_is_no_word (slice_index rest 0) ends).2 in
-      let text : in_quotes w ++ rest ≡ 39 ∷ (flat_map doubled w ++ 39 ∷ rest) = ap
-      (λ (z : List ℕ). 39 ∷ z) (append_assoc (flat_map doubled w) (39 ∷ []) rest) in
+      let text : in_quotes w ++ rest ≡ 39 ∷ (flat_map doubled w ++ 39 ∷ rest) =
+      ap (λ (z : List ℕ). 39 ∷ z) (append_assoc (flat_map doubled w) (39 ∷ []) rest) in
       let len : 1 + length (flat_map doubled w) + 1 ≡ length (in_quotes w) = (let e = length-append (flat_map doubled w) (39 ∷ []) in omega arith) in
       ap front text ∙ (ap closed (closing_doubled w 1 rest other) ∙ ap (λ (m : ℕ). Some (kind.Text, m)) len);
   first = refl;

@@ -53,16 +53,16 @@ no_long line [] [] h sound = refl
 no_long line [] (x ∷ s) h sound = absurd h
 no_long line (token ∷ tokens) [] h sound = absurd h
 no_long line (token ∷ tokens) (x ∷ s) h sound =
-    any_none is_long_name token tokens (ap (λ (k : TokenKind). is_word k && nat_lt 63 (token.end - token.start)) h.0.kind_is ∙ (ap
-    (λ (n : ℕ). is_word (token_kind x) && nat_lt 63 n) h.0.len_is ∙ long_not x sound.0))
+    any_none is_long_name token tokens (ap (λ (k : TokenKind). is_word k && nat_lt 63 (token.end - token.start)) h.0.kind_is
+    ∙ (ap (λ (n : ℕ). is_word (token_kind x) && nat_lt 63 n) h.0.len_is ∙ long_not x sound.0))
     (no_long line tokens s h.1 sound.1)
 
 no_large : (line : List ℕ) (tokens : List Token) (s : Lexemes) → AllStandFor line tokens s → AllSound s → list_any is_large_number tokens ≡ false
 no_large line [] [] h sound = refl
 no_large line [] (x ∷ s) h sound = absurd h
 no_large line (token ∷ tokens) [] h sound = absurd h
-no_large line (token ∷ tokens) (x ∷ s) h sound = any_none is_large_number token tokens (ap is_large h.0.kind_is
-    ∙ large_not x sound.0) (no_large line tokens s h.1 sound.1)
+no_large line (token ∷ tokens) (x ∷ s) h sound = any_none is_large_number token tokens (ap is_large h.0.kind_is ∙ large_not x sound.0)
+    (no_large line tokens s h.1 sound.1)
 
 not_deep : (line : List ℕ) (tokens : List Token) (s : Lexemes) (d : ℕ) → AllStandFor line tokens s → Shallow d s → nests_deep d tokens ≡ false
 not_deep line [] [] d h low = refl
@@ -85,8 +85,8 @@ miss_at : (text : List ℕ) (ws : Lexemes) (k : ℕ) → k < length ws → spell
     str_eq_ignore_ascii_case text (word_text (get_or ws k t.Not)) ≡ false
 miss_at text [] k inside none = absurd (omega arith)
 miss_at text (w ∷ ws) zero inside none = (no_word (str_eq_ignore_ascii_case text (word_text w)) w (spelled_among text ws) none).0
-miss_at text (w ∷ ws) (suc k) inside none = miss_at text ws k (omega arith) (no_word (str_eq_ignore_ascii_case text (word_text w)) w (spelled_among text ws)
-    none).1
+miss_at text (w ∷ ws) (suc k) inside none = miss_at text ws k (omega arith)
+    (no_word (str_eq_ignore_ascii_case text (word_text w)) w (spelled_among text ws) none).1
 
 not_spelled : (text : List ℕ) → reserved text ≡ None → str_eq_ignore_ascii_case text (codes "not") ≡ false
 unfolding reserved
@@ -113,8 +113,8 @@ same_nots line (token ∷ tokens) (x ∷ s) h sound =
     ∙ (ap (λ (w : List ℕ). is_word (token_kind x) && str_eq_ignore_ascii_case w (codes "not")) h.0.text_is ∙ count_not x sound.0) in
     let here : (if is_not line token then 1 else 0) ≡ not_count x = ap (λ (b : Bool). if b then 1 else 0) is ∙ count_one x in
     let more = same_nots line tokens s h.1 sound.1 in
-    sum_by-cons (λ x. if is_not line x then 1 else 0) token tokens ∙ (ap (λ (n : ℕ). n + count_by (is_not line) tokens) here ∙ ap
-    (λ (n : ℕ). not_count x + n) more)
+    sum_by-cons (λ x. if is_not line x then 1 else 0) token tokens
+    ∙ (ap (λ (n : ℕ). n + count_by (is_not line) tokens) here ∙ ap (λ (n : ℕ). not_count x + n) more)
 
 -- canonical text passes no limit of its tokens
 pub passes_none : (line : List ℕ) (tokens : List Token) (s : Lexemes) → AllStandFor line tokens s → AllSound s → Shallow 0 s → nots s ≤ 64 →
@@ -183,8 +183,8 @@ found text x e = found_among text reserved_words x refl e
 -- a folded name spells what the name spells
 folded_same : (text : List ℕ) → str_to_ascii_lowercase (folded text) ≡ str_to_ascii_lowercase text
 folded_same [] = refl
-folded_same (b ∷ text) = ap (λ (z : ℕ). z ∷ str_to_ascii_lowercase (folded text)) (lowercase-lowercase b) ∙ ap
-    (λ (z : List ℕ). to_ascii_lowercase b ∷ z) (folded_same text)
+folded_same (b ∷ text) = ap (λ (z : ℕ). z ∷ str_to_ascii_lowercase (folded text)) (lowercase-lowercase b)
+    ∙ ap (λ (z : List ℕ). to_ascii_lowercase b ∷ z) (folded_same text)
 
 among_folded : (text : List ℕ) (ws : Lexemes) → spelled_among (folded text) ws ≡ spelled_among text ws
 among_folded text [] = refl
@@ -260,8 +260,8 @@ symbol_by b false false is also =
 symbol_limited : (b : ℕ) → LimitedSymbol b
 symbol_limited b = symbol_by b (b == 40) (b == 41) refl refl
 
-flat_token : (line : List ℕ) (token : Token) (x : Lexeme) (k : TokenKind) → token.kind ≡ k → lexeme_of line token ≡ x → Sound x → ((d : ℕ) →
-    level d x ≡ open_behind d k) → not_count x ≤ 0 → Limited line token
+flat_token : (line : List ℕ) (token : Token) (x : Lexeme) (k : TokenKind) → token.kind ≡ k → lexeme_of line token ≡ x → Sound x →
+    ((d : ℕ) → level d x ≡ open_behind d k) → not_count x ≤ 0 → Limited line token
 flat_token line token x k is same sound levels none = record {
   sound = subst Sound (sym same) sound;
   levels = λ d. ap (level d) same ∙ (levels d ∙ sym (ap (open_behind d) is));
@@ -275,8 +275,8 @@ limited_by line token kind.Word is valid h large =
     let text = slice_range line token.start token.end in
     let w = word_limited text (reserved text) refl (word_at line token valid h is).name in
     let same : lexeme_of line token ≡ word_or_name text (reserved text) = ap (lexeme_from line token.start token.end) is in
-    let not_is : is_not line token ≡ str_eq_ignore_ascii_case text (codes "not") = ap
-    (λ (k : TokenKind). is_word k && str_eq_ignore_ascii_case text (codes "not")) is in
+    let not_is : is_not line token ≡ str_eq_ignore_ascii_case text (codes "not") =
+    ap (λ (k : TokenKind). is_word k && str_eq_ignore_ascii_case text (codes "not")) is in
     record {
       sound = subst Sound (sym same) w.sound;
       levels = λ d. ap (level d) same ∙ (w.levels d ∙ sym (ap (open_behind d) is));
@@ -312,12 +312,12 @@ limited_by line token (kind.Symbol b) is valid h large =
       levels = λ d. ap (level d) same ∙ (l.levels d ∙ sym (ap (open_behind d) is));
       counts = subst (λ (x : Lexeme). not_count x ≤ (if is_not line token then 1 else 0)) (sym same) (omega (arith, l.none));
     }
-limited_by line token kind.NotEqual is valid h large = flat_token line token t.NotEqual kind.NotEqual is (ap (lexeme_from line token.start token.end) is) tt
-    (λ d. refl) (omega arith)
-limited_by line token kind.AtMost is valid h large = flat_token line token t.AtMost kind.AtMost is (ap (lexeme_from line token.start token.end) is) tt
-    (λ d. refl) (omega arith)
-limited_by line token kind.AtLeast is valid h large = flat_token line token t.AtLeast kind.AtLeast is (ap (lexeme_from line token.start token.end) is) tt
-    (λ d. refl) (omega arith)
+limited_by line token kind.NotEqual is valid h large =
+    flat_token line token t.NotEqual kind.NotEqual is (ap (lexeme_from line token.start token.end) is) tt (λ d. refl) (omega arith)
+limited_by line token kind.AtMost is valid h large =
+    flat_token line token t.AtMost kind.AtMost is (ap (lexeme_from line token.start token.end) is) tt (λ d. refl) (omega arith)
+limited_by line token kind.AtLeast is valid h large =
+    flat_token line token t.AtLeast kind.AtLeast is (ap (lexeme_from line token.start token.end) is) tt (λ d. refl) (omega arith)
 
 limited : (line : List ℕ) (token : Token) → IsUtf8 line → IsReadable line token → is_large_number token ≡ false → Limited line token
 limited line token valid h large = limited_by line token token.kind refl valid h large
@@ -327,8 +327,8 @@ pub record AllReadable (line : List ℕ) (tokens : List Token) : Type 0 where
   pub readable : (k : ℕ) (other : Token) → k < length tokens → IsReadable line (get_or tokens k other)
   pub small : list_any is_large_number tokens ≡ false
 
-first_readable : (line : List ℕ) (token : Token) (tokens : List Token) → AllReadable line (token ∷ tokens) → IsReadable line token ×
-    (is_large_number token ≡ false) × AllReadable line tokens
+first_readable : (line : List ℕ) (token : Token) (tokens : List Token) → AllReadable line (token ∷ tokens) →
+    IsReadable line token × (is_large_number token ≡ false) × AllReadable line tokens
 first_readable line token tokens h =
     let ab = any_split is_large_number token tokens h.small in
     (h.readable 0 token (omega arith), ab.0, record { readable = λ k other inside. h.readable (suc k) other (omega arith); small = ab.1 })

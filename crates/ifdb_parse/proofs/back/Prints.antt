@@ -22,8 +22,8 @@ pub record Prints {A : Type 0} (b : Before) (c : A → Before) (l : Lang A) (p :
   pub goes : (u : Lexemes) (a : A) → l u a → p a ≡ true → Lighter b (c a) (f a) u
 
 -- the same for the rest of a rule, of whose parts v was written for what was read: the parts pass their tests if the whole does
-pub record Behind {A : Type 0} (start b : Before) (R : A → Lexemes → Lexemes → Type 0) (m : Lang A) (p : A → Bool) (f : A →
-    Lexemes) (Pre : Type 0) (v : Lexemes) : Type 0 where
+pub record Behind {A : Type 0} (start b : Before) (R : A → Lexemes → Lexemes → Type 0) (m : Lang A) (p : A → Bool) (f : A → Lexemes) (Pre : Type 0)
+    (v : Lexemes) : Type 0 where
   pub goes : (w u : Lexemes) (a : A) → m u a → p a ≡ true → Pre × (Lighter start b v w → R a (f a) (w ++ u))
 
 -- what is written of a value is lighter, up to where it ends
@@ -55,8 +55,8 @@ along_text b c w e h = subst (λ (z : Lexemes). Lighter b c z w) e h
 -- ---- the parts of a rule
 
 -- one that is a language of its own
-pub tested : {A B : Type 0} {start b : Before} {d : A → Before} {R : B → Lexemes → Lexemes → Type 0} {l : Lang A} {q : A → Bool} {g : A → Lexemes} {p : B →
-    Bool} {f : B → Lexemes} {Pre : Type 0} {v : Lexemes} (m : A → Lang B) →
+pub tested : {A B : Type 0} {start b : Before} {d : A → Before} {R : B → Lexemes → Lexemes → Type 0} {l : Lang A} {q : A → Bool} {g : A → Lexemes}
+    {p : B → Bool} {f : B → Lexemes} {Pre : Type 0} {v : Lexemes} (m : A → Lang B) →
     Prints b d l q g → ((a : A) → Behind start (d a) R (m a) p f (Pre × (q a ≡ true)) (v ++ g a)) → Behind start b R (λ u x. Then l m u x) p f Pre v
 tested {start = start} {b = b} {d = d} {R = R} {g = g} {f = f} {v = v} m hl hm = record {
   goes = λ w u x h e.
@@ -68,8 +68,8 @@ tested {start = start} {b = b} {d = d} {R = R} {g = g} {f = f} {v = v} m hl hm =
 }
 
 -- one of which nothing is asked
-pub part : {A B : Type 0} {start b : Before} {d : A → Before} {R : B → Lexemes → Lexemes → Type 0} {l : Lang A} {g : A → Lexemes} {p : B → Bool} {f : B →
-    Lexemes} {Pre : Type 0} {v : Lexemes} (m : A → Lang B) →
+pub part : {A B : Type 0} {start b : Before} {d : A → Before} {R : B → Lexemes → Lexemes → Type 0} {l : Lang A} {g : A → Lexemes} {p : B → Bool}
+    {f : B → Lexemes} {Pre : Type 0} {v : Lexemes} (m : A → Lang B) →
     Prints b d l any g → ((a : A) → Behind start (d a) R (m a) p f Pre (v ++ g a)) → Behind start b R (λ u x. Then l m u x) p f Pre v
 part {start = start} {b = b} {d = d} {R = R} {g = g} {f = f} {v = v} m hl hm = record {
   goes = λ w u x h e.
@@ -81,8 +81,8 @@ part {start = start} {b = b} {d = d} {R = R} {g = g} {f = f} {v = v} m hl hm = r
 }
 
 -- the end, where the text is known of a value that passes
-pub end_if : {B : Type 0} {start b : Before} {c : B → Before} {p : B → Bool} {f : B → Lexemes} {Pre : Type 0} {v : Lexemes} (x : B) → c x ≡ b → (p x ≡ true →
-    Pre) → (p x ≡ true → f x ≡ v) → Behind start b (ending start c) (nothing x) p f Pre v
+pub end_if : {B : Type 0} {start b : Before} {c : B → Before} {p : B → Bool} {f : B → Lexemes} {Pre : Type 0} {v : Lexemes} (x : B) → c x ≡ b →
+    (p x ≡ true → Pre) → (p x ≡ true → f x ≡ v) → Behind start b (ending start c) (nothing x) p f Pre v
 end_if {start = start} {b = b} {c = c} {p = p} {f = f} {v = v} x to pre is = record {
   goes = λ w u a h e.
       let passes = subst (λ (z : _). p z ≡ true) h.1 e in (
@@ -94,8 +94,8 @@ end_if {start = start} {b = b} {c = c} {p = p} {f = f} {v = v} x to pre is = rec
       );
 }
 
-pub end : {B : Type 0} {start b : Before} {c : B → Before} {p : B → Bool} {f : B → Lexemes} {Pre : Type 0} {v : Lexemes} (x : B) → c x ≡ b → (p x ≡ true →
-    Pre) → f x ≡ v → Behind start b (ending start c) (nothing x) p f Pre v
+pub end : {B : Type 0} {start b : Before} {c : B → Before} {p : B → Bool} {f : B → Lexemes} {Pre : Type 0} {v : Lexemes} (x : B) → c x ≡ b →
+    (p x ≡ true → Pre) → f x ≡ v → Behind start b (ending start c) (nothing x) p f Pre v
 end x to pre is = end_if x to pre (λ _. is)
 
 -- the end of a rule of whose parts nothing is asked
@@ -116,19 +116,19 @@ the_lexeme x y k a is_k low h = kinds_differ x y low (is_k ∙ sym (eqb-true (ki
 pub token_is : (x : Lexeme) (k : ℕ) (u : Lexemes) (a : Unit {0}) → kind x ≡ k → nat_lt (kind x) NAME ≡ true → token k u a → u ≡ x ∷ []
 token_is x k u a is_k low h = h.1 ∙ ap (λ (y : Lexeme). y ∷ []) (sym (the_lexeme x h.0 k a is_k low h.2))
 
-pub token_prints : (b : Before) (x : Lexeme) (k : ℕ) → kind x ≡ k → nat_lt (kind x) NAME ≡ true → Flat x → Prints b (λ _. behind b x) (token k) any
-    (λ _. x ∷ [])
+pub token_prints : (b : Before) (x : Lexeme) (k : ℕ) → kind x ≡ k → nat_lt (kind x) NAME ≡ true → Flat x →
+    Prints b (λ _. behind b x) (token k) any (λ _. x ∷ [])
 token_prints b x k is_k low flat = record { goes = λ u a h e. along b (behind b x) (x ∷ []) (sym (token_is x k u a is_k low h)) (same_lighter b x flat) }
 
 -- a word or symbol, which is written as it is
-pub word : {B : Type 0} {start b : Before} {R : B → Lexemes → Lexemes → Type 0} {p : B → Bool} {f : B →
-    Lexemes} {Pre : Type 0} {v : Lexemes} (x : Lexeme) (k : ℕ) (m : Unit {0} → Lang B) → kind x ≡ k → nat_lt (kind x) NAME ≡ true → Flat x →
+pub word : {B : Type 0} {start b : Before} {R : B → Lexemes → Lexemes → Type 0} {p : B → Bool} {f : B → Lexemes} {Pre : Type 0} {v : Lexemes} (x : Lexeme)
+    (k : ℕ) (m : Unit {0} → Lang B) → kind x ≡ k → nat_lt (kind x) NAME ≡ true → Flat x →
     Behind start (behind b x) R (m tt) p f Pre (v ++ x ∷ []) → Behind start b R (λ u y. Then (token k) m u y) p f Pre v
 word {b = b} x k m is_k low flat h = part m (token_prints b x k is_k low flat) (λ a. h)
 
 -- a word that is not written
-pub unwritten : {B : Type 0} {start b : Before} {R : B → Lexemes → Lexemes → Type 0} {p : B → Bool} {f : B →
-    Lexemes} {Pre : Type 0} {v : Lexemes} (x : Lexeme) (k : ℕ) (m : Unit {0} → Lang B) → kind x ≡ k → nat_lt (kind x) NAME ≡ true → Flat x → behind b x ≡ b →
+pub unwritten : {B : Type 0} {start b : Before} {R : B → Lexemes → Lexemes → Type 0} {p : B → Bool} {f : B → Lexemes} {Pre : Type 0} {v : Lexemes}
+    (x : Lexeme) (k : ℕ) (m : Unit {0} → Lang B) → kind x ≡ k → nat_lt (kind x) NAME ≡ true → Flat x → behind b x ≡ b →
     Behind start b R (m tt) p f Pre v → Behind start b R (λ u y. Then (token k) m u y) p f Pre v
 unwritten {start = start} {b = b} {R = R} {p = p} {f = f} {Pre = Pre} {v = v} x k m is_k low flat to h =
     part m (record { goes = λ u a h e. along b b [] (sym (token_is x k u a is_k low h)) (none_lighter b x flat to) })
@@ -143,8 +143,8 @@ name_is _ n h = absurd (cc)
 
 pub name_prints : (b : Before) → Prints b operand name any canon.name_tokens
 name_prints b = record {
-  goes = λ u n h e. along b before.Operand (t.Name n ∷ []) (ap (λ (y : Lexeme). y ∷ []) (name_is h.0 n h.2)
-      ∙ sym h.1) (same_lighter b (t.Name n) (λ k. refl));
+  goes = λ u n h e. along b before.Operand (t.Name n ∷ []) (ap (λ (y : Lexeme). y ∷ []) (name_is h.0 n h.2) ∙ sym h.1)
+      (same_lighter b (t.Name n) (λ k. refl));
 }
 
 text_is : (x : Lexeme) (w : List ℕ) → text_of x ≡ Some w → t.Quoted w ≡ x
@@ -156,8 +156,8 @@ text_is _ n h = absurd (cc)
 
 pub text_prints : (b : Before) → Prints b operand text any (λ w. t.Quoted w ∷ [])
 text_prints b = record {
-  goes = λ u n h e. along b before.Operand (t.Quoted n ∷ []) (ap (λ (y : Lexeme). y ∷ []) (text_is h.0 n h.2)
-      ∙ sym h.1) (same_lighter b (t.Quoted n) (λ k. refl));
+  goes = λ u n h e. along b before.Operand (t.Quoted n ∷ []) (ap (λ (y : Lexeme). y ∷ []) (text_is h.0 n h.2) ∙ sym h.1)
+      (same_lighter b (t.Quoted n) (λ k. refl));
 }
 
 pub number_is : (x : Lexeme) (n : ℕ) → number_of x ≡ Some n → t.Number n ≡ x
@@ -169,19 +169,20 @@ number_is _ n h = absurd (cc)
 
 -- ---- choices and repetition
 
-pub either : {A : Type 0} {b : Before} {c : A → Before} {l k : Lang A} {p : A → Bool} {f : A → Lexemes} → Prints b c l p f → Prints b c k p f → Prints b c
-    (λ u a. l u a ⊎ k u a) p f
+pub either : {A : Type 0} {b : Before} {c : A → Before} {l k : Lang A} {p : A → Bool} {f : A → Lexemes} → Prints b c l p f → Prints b c k p f →
+    Prints b c (λ u a. l u a ⊎ k u a) p f
 either hl hk = record { goes = λ u a h e. elim h [ inl x ↦ hl.goes u a x e | inr y ↦ hk.goes u a y e ] }
 
-pub either_behind : {A : Type 0} {start b : Before} {R : A → Lexemes → Lexemes → Type 0} {l k : Lang A} {p : A → Bool} {f : A →
-    Lexemes} {Pre : Type 0} {v : Lexemes} → Behind start b R l p f Pre v → Behind start b R k p f Pre v → Behind start b R (λ u a. l u a ⊎ k u a) p f Pre v
+pub either_behind : {A : Type 0} {start b : Before} {R : A → Lexemes → Lexemes → Type 0} {l k : Lang A} {p : A → Bool}
+    {f : A → Lexemes} {Pre : Type 0}
+    {v : Lexemes} → Behind start b R l p f Pre v → Behind start b R k p f Pre v → Behind start b R (λ u a. l u a ⊎ k u a) p f Pre v
 either_behind hl hk = record { goes = λ w u a h e. elim h [ inl x ↦ hl.goes w u a x e | inr y ↦ hk.goes w u a y e ] }
 
 -- the first part is one of two
-pub either_first : {A B : Type 0} {start b : Before} {R : B → Lexemes → Lexemes → Type 0} {l k : Lang A} {m : A → Lang B} {p : B → Bool} {f : B →
-    Lexemes} {Pre : Type 0} {v : Lexemes} →
-    Behind start b R (λ u x. Then l m u x) p f Pre v → Behind start b R (λ u x. Then k m u x) p f Pre v → Behind start b R (λ u x. Then
-    (λ w a. l w a ⊎ k w a) m u x) p f Pre v
+pub either_first : {A B : Type 0} {start b : Before} {R : B → Lexemes → Lexemes → Type 0} {l k : Lang A} {m : A → Lang B} {p : B → Bool}
+    {f : B → Lexemes} {Pre : Type 0} {v : Lexemes} →
+    Behind start b R (λ u x. Then l m u x) p f Pre v → Behind start b R (λ u x. Then k m u x) p f Pre v →
+    Behind start b R (λ u x. Then (λ w a. l w a ⊎ k w a) m u x) p f Pre v
 either_first hl hk = record {
   goes = λ w u x h e. elim h.first [
     | inl y ↦ hl.goes w u x (record { front = h.front; back = h.back; value = h.value; parts = h.parts; first = y; second = h.second }) e
@@ -223,8 +224,8 @@ rounds_grow q b c step p f h (suc n) x known w u y (inr k) e = (
 )
 
 -- rounds behind what was written for their first value
-pub repeated : {X : Type 0} {q : X → Bool} {b b' : Before} {c : X → Before} {step : X → Lang X} {p : X → Bool} {f : X →
-    Lexemes} {Pre : Type 0} {v : Lexemes} (x : X) → q x ≡ true → c x ≡ b' → (p x ≡ true → Pre) → f x ≡ v → Grows q b c step p f →
+pub repeated : {X : Type 0} {q : X → Bool} {b b' : Before} {c : X → Before} {step : X → Lang X} {p : X → Bool} {f : X → Lexemes} {Pre : Type 0} {v : Lexemes}
+    (x : X) → q x ≡ true → c x ≡ b' → (p x ≡ true → Pre) → f x ≡ v → Grows q b c step p f →
     Behind b b' (ending b c) (repeat step x) p f Pre v
 repeated {q = q} {b = b} {c = c} {step = step} {p = p} {f = f} {v = v} x known to pre is h = record {
   goes = λ w u y k e.
@@ -250,12 +251,12 @@ pub inside : {A : Type 0} (l : Lang A) (u : Lexemes) (a : A) → parens l u a �
 inside l u a h =
     let r = h.second in
     let c = r.second in
-    let close : r.back ≡ t.Close ∷ [] = c.parts ∙ (ap (λ (z : Lexemes). z ++ c.back) (token_is t.Close CLOSE c.front c.value refl refl c.first) ∙ ap
-    (λ (z : Lexemes). t.Close ∷ z) c.second.0) in
+    let close : r.back ≡ t.Close ∷ [] = c.parts ∙ (ap (λ (z : Lexemes). z ++ c.back) (token_is t.Close CLOSE c.front c.value refl refl c.first)
+    ∙ ap (λ (z : Lexemes). t.Close ∷ z) c.second.0) in
     record {
       within = r.front;
-      parts = h.parts ∙ (ap (λ (z : Lexemes). z ++ h.back) (token_is t.Open OPEN h.front h.value refl refl h.first) ∙ ap
-          (λ (z : Lexemes). t.Open ∷ z) (r.parts ∙ ap (λ (z : Lexemes). r.front ++ z) close));
+      parts = h.parts ∙ (ap (λ (z : Lexemes). z ++ h.back) (token_is t.Open OPEN h.front h.value refl refl h.first)
+          ∙ ap (λ (z : Lexemes). t.Open ∷ z) (r.parts ∙ ap (λ (z : Lexemes). r.front ++ z) close));
       spelled = subst (λ (z : _). l r.front z) (sym c.second.1) r.first;
     }
 
@@ -293,11 +294,10 @@ member_round : {X : Type 0} (b : Before) (c : X → Before) (k : Lexeme) (n : �
     Behind b (last (y ∷ xs)) (ending b last) (next_member n l (y ∷ xs)) (list_all p) (listed k f) (list_all p (y ∷ xs) ≡ true) (listed k f (y ∷ xs))
 member_round b c k n l p f y xs is_k low flat back h last ends =
     word k n _ is_k low flat
-    (subst (λ (z : Before). Behind b z (ending b last) (Then l
-    (λ x. nothing ((y ∷ xs) ++ x ∷ []))) (list_all p) (listed k f) (list_all p (y ∷ xs) ≡ true) (listed k f (y ∷ xs) ++ k ∷ [])) (sym (back (last (y ∷
-    xs))))
-    (tested _ h (λ x. end ((y ∷ xs) ++ x ∷ []) (ends (y ∷ xs) x) (all_parts p (y ∷ xs) x) (separated_more k f y xs x
-    ∙ sym (append_assoc (listed k f (y ∷ xs)) (k ∷ []) (f x))))))
+    (subst (λ (z : Before). Behind b z (ending b last) (Then l (λ x. nothing ((y ∷ xs) ++ x ∷ []))) (list_all p) (listed k f) (list_all p (y ∷ xs) ≡ true)
+    (listed k f (y ∷ xs) ++ k ∷ [])) (sym (back (last (y ∷ xs))))
+    (tested _ h (λ x. end ((y ∷ xs) ++ x ∷ []) (ends (y ∷ xs) x) (all_parts p (y ∷ xs) x)
+    (separated_more k f y xs x ∙ sym (append_assoc (listed k f (y ∷ xs)) (k ∷ []) (f x))))))
 
 some_next : {X : Type 0} (n : ℕ) (l : Lang X) (found : List X) (u : Lexemes) (ys : List X) → next_member n l found u ys → some_member ys ≡ true
 some_next n l found u ys h =
@@ -324,8 +324,8 @@ pub members_end : {X : Type 0} (b : Before) (c : X → Before) (k : Lexeme) (n :
     ((d : Before) → behind d k ≡ b) → Prints b c l p f → (last : List X → Before) → ((found : List X) (x : X) → last (found ++ x ∷ []) ≡ c x) →
     Prints b last (separated n l) (list_all p) (listed k f)
 members_end b c k n l p f is_k low flat back h last ends =
-    whole (tested _ h (λ x. repeated (x ∷ []) refl (ends [] x)
-    (λ e. (tt, (and_parts (p x) true e).0)) (append-nil (f x)) (member_grows b c k n l p f is_k low flat back h last ends)))
+    whole (tested _ h (λ x. repeated (x ∷ []) refl (ends [] x) (λ e. (tt, (and_parts (p x) true e).0)) (append-nil (f x))
+    (member_grows b c k n l p f is_k low flat back h last ends)))
 
 -- members between separators, each of which ends as an operand
 pub members : {X : Type 0} {l : Lang X} {p : X → Bool} {f : X → Lexemes} (b : Before) (k : Lexeme) (n : ℕ) → kind k ≡ n → nat_lt (kind k) NAME ≡ true → Flat k →
@@ -378,10 +378,10 @@ names_behind_prints x k is_k low flat =
 
 -- ---- rounds in the middle of a rule
 
-pub rounds_then : {X A : Type 0} {start b : Before} {q : X → Bool} {c : X → Before} {R : A → Lexemes → Lexemes → Type 0} {step : X → Lang X} {g : X →
-    Lexemes} {p : A → Bool} {f : A → Lexemes} {Pre : Type 0} {v : Lexemes} (x : X) (m : X → Lang A) → q x ≡ true → c x ≡ b → g x ≡ v →
-    Grows q start c step any g → ((y : X) → q y ≡ true → Behind start (c y) R (m y) p f Pre (g y)) → Behind start b R
-    (λ u a. Then (repeat step x) m u a) p f Pre v
+pub rounds_then : {X A : Type 0} {start b : Before} {q : X → Bool} {c : X → Before} {R : A → Lexemes → Lexemes → Type 0} {step : X → Lang X}
+    {g : X → Lexemes} {p : A → Bool} {f : A → Lexemes} {Pre : Type 0} {v : Lexemes} (x : X) (m : X → Lang A) → q x ≡ true → c x ≡ b → g x ≡ v →
+    Grows q start c step any g → ((y : X) → q y ≡ true → Behind start (c y) R (m y) p f Pre (g y)) →
+    Behind start b R (λ u a. Then (repeat step x) m u a) p f Pre v
 rounds_then {start = start} {q = q} {c = c} {R = R} {step = step} {g = g} {f = f} {v = v} x m known to is h hm = record {
   goes = λ w u a k e.
       let y = k.value in
@@ -407,11 +407,11 @@ close_last {b = b} {d = d} {p = p} {f = f} {v = v} x pre is = record {
     pre (subst (λ (z : _). p z ≡ true) h.second.1 e),
     λ i.
         let text : w ++ t.Close ∷ [] ≡ w ++ u =
-        ap (λ (z : Lexemes). w ++ z) (ap (λ (z : Lexemes). t.Close ∷ z) (sym h.second.0) ∙ (sym (ap
-        (λ (z : Lexemes). z ++ h.back) (token_is t.Close CLOSE h.front h.value refl refl h.first)) ∙ sym h.parts)) in
+        ap (λ (z : Lexemes). w ++ z) (ap (λ (z : Lexemes). t.Close ∷ z) (sym h.second.0)
+        ∙ (sym (ap (λ (z : Lexemes). z ++ h.back) (token_is t.Close CLOSE h.front h.value refl refl h.first)) ∙ sym h.parts)) in
         subst (λ (z : Lexemes). Lighter b before.Operand (t.Open ∷ f a ++ t.Close ∷ []) (t.Open ∷ z)) text
-        (subst (λ (z : Lexemes). Lighter b before.Operand (t.Open ∷ z ++ t.Close ∷ []) (t.Open ∷ w ++ t.Close ∷ [])) (sym (ap f h.second.1
-        ∙ is)) (parens_lighter b d v w i)),
+        (subst (λ (z : Lexemes). Lighter b before.Operand (t.Open ∷ z ++ t.Close ∷ []) (t.Open ∷ w ++ t.Close ∷ [])) (sym (ap f h.second.1 ∙ is))
+        (parens_lighter b d v w i)),
   );
 }
 
@@ -423,10 +423,10 @@ opened {start = start} {b = b} {f = f} {g = g} {v = v} h form = record {
       let inner = h.goes [] k.back a k.second e in (
         inner.0,
         λ i.
-            let text : w ++ t.Open ∷ k.back ≡ w ++ u = ap (λ (z : Lexemes). w ++ z) (sym (ap
-            (λ (z : Lexemes). z ++ k.back) (token_is t.Open OPEN k.front k.value refl refl k.first)) ∙ sym k.parts) in
+            let text : w ++ t.Open ∷ k.back ≡ w ++ u = ap (λ (z : Lexemes). w ++ z)
+            (sym (ap (λ (z : Lexemes). z ++ k.back) (token_is t.Open OPEN k.front k.value refl refl k.first)) ∙ sym k.parts) in
             let all = append_lighter start b before.Operand v w (canon.enclosed (g a)) (t.Open ∷ k.back) i (inner.1 (nil_lighter before.Other)) in
-            subst (λ (z : Lexemes). Lighter start before.Operand (f a) z) text (along_text start before.Operand (w ++ t.Open ∷ k.back) (sym (form k.back a
-            k.second)) all),
+            subst (λ (z : Lexemes). Lighter start before.Operand (f a) z) text
+            (along_text start before.Operand (w ++ t.Open ∷ k.back) (sym (form k.back a k.second)) all),
       );
 }

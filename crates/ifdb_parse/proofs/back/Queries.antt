@@ -56,12 +56,12 @@ count_all_prints =
 item_prints : Prints before.Other operand (item bounded) item_short item_tokens
 item_prints =
     either (either (either (either (either named_prints label_of_prints) count_all_prints)
-    (whole (word t.Sum SUM _ refl refl (λ k. refl) (part _ (parens_prints before.Other (ref_prints before.Other)) (λ x. part _ named_as_prints
-    (λ n. done (i.Sum x n) refl refl))))))
-    (whole (word t.Min MIN _ refl refl (λ k. refl) (part _ (parens_prints before.Other (ref_prints before.Other)) (λ x. part _ named_as_prints
-    (λ n. done (i.Min x n) refl refl))))))
-    (whole (word t.Max MAX _ refl refl (λ k. refl) (part _ (parens_prints before.Other (ref_prints before.Other)) (λ x. part _ named_as_prints
-    (λ n. done (i.Max x n) refl refl)))))
+    (whole (word t.Sum SUM _ refl refl (λ k. refl) (part _ (parens_prints before.Other (ref_prints before.Other))
+    (λ x. part _ named_as_prints (λ n. done (i.Sum x n) refl refl))))))
+    (whole (word t.Min MIN _ refl refl (λ k. refl) (part _ (parens_prints before.Other (ref_prints before.Other))
+    (λ x. part _ named_as_prints (λ n. done (i.Min x n) refl refl))))))
+    (whole (word t.Max MAX _ refl refl (λ k. refl) (part _ (parens_prints before.Other (ref_prints before.Other))
+    (λ x. part _ named_as_prints (λ n. done (i.Max x n) refl refl)))))
 
 all_prints : Prints before.Other other all any (canon.commas item_tokens)
 all_prints = whole (word t.Star STAR _ refl refl (λ k. refl) (done (i.All ∷ []) refl refl))
@@ -89,8 +89,8 @@ also_out a = record {
 }
 
 kept : (a : List ℕ) → Lighter before.Operand before.Operand (t.As ∷ t.Name a ∷ []) (t.As ∷ t.Name a ∷ [])
-kept a = append_lighter before.Operand before.Other before.Operand (t.As ∷ []) (t.As ∷ []) (t.Name a ∷ []) (t.Name a ∷ []) (same_lighter before.Operand t.As
-    (λ k. refl)) (same_lighter before.Other (t.Name a) (λ k. refl))
+kept a = append_lighter before.Operand before.Other before.Operand (t.As ∷ []) (t.As ∷ []) (t.Name a ∷ []) (t.Name a ∷ [])
+    (same_lighter before.Operand t.As (λ k. refl)) (same_lighter before.Other (t.Name a) (λ k. refl))
 
 put_in : (a : List ℕ) → Lighter before.Operand before.Operand (t.As ∷ t.Name a ∷ []) (t.Name a ∷ [])
 put_in a = record {
@@ -126,10 +126,10 @@ bare_name_is u a h = h.1 ∙ ap (λ (y : Lexeme). y ∷ []) (sym (name_is h.0 a 
 alias_prints : (n : List ℕ) → Prints before.Operand operand (λ u a. Then (token AS) (λ _. name) u a ⊎ name u a) any (alias_tokens n)
 alias_prints n = record {
   goes = λ u a h e. elim h [
-    | inl k ↦ along before.Operand before.Operand (alias_tokens n a) (sym (as_name_is u a k)) (alias_lighter n a (t.As ∷ t.Name a ∷ []) (bytes_eq n a) refl
-        (left_out a) (kept a))
-    | inr k ↦ along before.Operand before.Operand (alias_tokens n a) (sym (bare_name_is u a k)) (alias_lighter n a (t.Name a ∷ []) (bytes_eq n a) refl
-        (also_out a) (put_in a))
+    | inl k ↦ along before.Operand before.Operand (alias_tokens n a) (sym (as_name_is u a k))
+        (alias_lighter n a (t.As ∷ t.Name a ∷ []) (bytes_eq n a) refl (left_out a) (kept a))
+    | inr k ↦ along before.Operand before.Operand (alias_tokens n a) (sym (bare_name_is u a k))
+        (alias_lighter n a (t.Name a ∷ []) (bytes_eq n a) refl (also_out a) (put_in a))
   ];
 }
 
@@ -150,17 +150,18 @@ sources_print = free_listing source_prints
 group_prints : Prints before.Operand operand (optional_list (λ u x. Then (token GROUP) (λ _. λ v y. Then (token BY) (λ _. columns) v y) u x)) any group_tokens
 group_prints =
     optional_prints {g = λ cs. t.Group ∷ t.By ∷ canon.commas canon.ref_tokens cs}
-    (whole (word t.Group GROUP _ refl refl (λ k. refl) (word t.By BY _ refl refl (λ k. refl) (last (free_listing (ref_prints before.Other)) (λ a e. tt)
-    (λ a. refl)))))
+    (whole (word t.Group GROUP _ refl refl (λ k. refl)
+    (word t.By BY _ refl refl (λ k. refl) (last (free_listing (ref_prints before.Other)) (λ a e. tt) (λ a. refl)))))
     (next_makes some_member _ _ (λ _. next_makes some_member _ _ (λ _. some_makes COMMA ref))) (λ x xs. refl) refl
 
 target_prints : Prints before.Other operand order_by any (λ x. order_by_token x ∷ [])
 target_prints =
     either (whole (part _ (name_prints before.Other) (λ n. done (by.Name n) refl refl)))
     (whole (part {g = λ n. t.Number n ∷ []} _ (record {
-      goes = λ u n h e. along before.Other before.Operand (t.Number n ∷ []) (ap
-          (λ (y : Lexeme). y ∷ []) (number_is h.0 n h.2) ∙ sym h.1) (same_lighter before.Other (t.Number n) (λ k. refl));
-    }) (λ n. done (by.Place n) refl refl)))
+      goes = λ u n h e. along before.Other before.Operand (t.Number n ∷ [])
+          (ap (λ (y : Lexeme). y ∷ []) (number_is h.0 n h.2) ∙ sym h.1) (same_lighter before.Other (t.Number n) (λ k. refl));
+    })
+    (λ n. done (by.Place n) refl refl)))
 
 -- before what begins with a comma, or nothing, it is all the same whether an operand was last
 abbrev Parted : Lexemes → Type 0
@@ -183,11 +184,11 @@ desc_end v u parted parted' l = record {
 }
 
 -- one word, and a value
-word_is : (x : Lexeme) (k : ℕ) (d e : Bool) (u : Lexemes) → kind x ≡ k → nat_lt (kind x) NAME ≡ true → Then (token k) (λ _. nothing e) u d → (u ≡ x ∷ []) ×
-    (d ≡ e)
+word_is : (x : Lexeme) (k : ℕ) (d e : Bool) (u : Lexemes) → kind x ≡ k → nat_lt (kind x) NAME ≡ true → Then (token k) (λ _. nothing e) u d →
+    (u ≡ x ∷ []) × (d ≡ e)
 word_is x k d e u is_k low h = (
-  h.parts ∙ (ap (λ (z : Lexemes). z ++ h.back) (token_is x k h.front h.value is_k low h.first) ∙ ap
-      (λ (z : Lexemes). x ∷ z) h.second.0),
+  h.parts ∙ (ap (λ (z : Lexemes). z ++ h.back) (token_is x k h.front h.value is_k low h.first)
+      ∙ ap (λ (z : Lexemes). x ∷ z) h.second.0),
   h.second.1,
 )
 
@@ -212,12 +213,12 @@ order_end : (u : Lexemes) (o : Order) (v x : Lexemes) → order u o → Parted x
 order_end u o v x h px pv l =
     let k = h.second in
     let rest = descends_end k.front k.value v x k.first px pv l in
-    let all = append_end before.Other before.Operand (order_by_token h.value ∷ []) h.front (descends_tokens k.value ++ v) (k.front ++ x) (target_prints.goes
-    h.front h.value h.first refl) rest in
-    let back : k.front ++ x ≡ h.back ++ x = ap (λ (z : Lexemes). z ++ x) (sym (append-nil k.front) ∙ (ap (λ (z : Lexemes). k.front ++ z) (sym k.second.0)
-    ∙ sym k.parts)) in
-    let text : h.front ++ (k.front ++ x) ≡ u ++ x = ap (λ (z : Lexemes). h.front ++ z) back ∙ (sym (append_assoc h.front h.back x) ∙ ap
-    (λ (z : Lexemes). z ++ x) (sym h.parts)) in
+    let all = append_end before.Other before.Operand (order_by_token h.value ∷ []) h.front (descends_tokens k.value ++ v) (k.front ++ x)
+    (target_prints.goes h.front h.value h.first refl) rest in
+    let back : k.front ++ x ≡ h.back ++ x = ap (λ (z : Lexemes). z ++ x)
+    (sym (append-nil k.front) ∙ (ap (λ (z : Lexemes). k.front ++ z) (sym k.second.0) ∙ sym k.parts)) in
+    let text : h.front ++ (k.front ++ x) ≡ u ++ x = ap (λ (z : Lexemes). h.front ++ z) back
+    ∙ (sym (append_assoc h.front h.back x) ∙ ap (λ (z : Lexemes). z ++ x) (sym h.parts)) in
     subst (λ (z : Order). LighterEnd before.Other (order_tokens z ++ v) (u ++ x)) (sym k.second.1)
     (subst (λ (z : Lexemes). LighterEnd before.Other (order_by_token h.value ∷ (descends_tokens k.value ++ v)) z) text all)
 
@@ -260,8 +261,8 @@ chain_end [] u c = subst (λ (z : Lexemes). LighterEnd before.Operand [] z) (sym
 chain_end (o ∷ os) u c =
     let rest = order_end c.0 o (canon.behind t.Comma order_tokens os) c.1 c.3 (chain_parted os c.1 c.4) (behind_parted os) (chain_end os c.1 c.4) in
     subst (λ (z : Lexemes). LighterEnd before.Operand (canon.behind t.Comma order_tokens (o ∷ os)) z) (sym c.2)
-    (append_end before.Operand before.Other (t.Comma ∷ []) (t.Comma ∷ []) (order_tokens o ++ canon.behind t.Comma order_tokens os) (c.0 ++ c.1) (same_lighter
-    before.Operand t.Comma (λ k. refl)) rest)
+    (append_end before.Operand before.Other (t.Comma ∷ []) (t.Comma ∷ []) (order_tokens o ++ canon.behind t.Comma order_tokens os) (c.0 ++ c.1)
+    (same_lighter before.Operand t.Comma (λ k. refl)) rest)
 
 orders_end : (u : Lexemes) (zs : List Order) → commas order u zs → LighterEnd before.Other (canon.commas order_tokens zs) u
 orders_end u zs h =
@@ -284,10 +285,10 @@ keys_end : (u : Lexemes) (zs : List Order) → keys_rule u zs → LighterEnd bef
 keys_end u zs (inl h) =
     let k = h.second in
     let some = some_makes COMMA order k.back zs k.second in
-    let words = append_lighter before.Operand before.Other before.Other (t.Order ∷ []) (t.Order ∷ []) (t.By ∷ []) (t.By ∷ []) (same_lighter before.Operand
-    t.Order (λ k. refl)) (same_lighter before.Other t.By (λ k. refl)) in
-    let all = append_end before.Operand before.Other (t.Order ∷ t.By ∷ []) (t.Order ∷ t.By ∷ []) (canon.commas order_tokens zs) k.back words (orders_end
-    k.back zs k.second) in
+    let words = append_lighter before.Operand before.Other before.Other (t.Order ∷ []) (t.Order ∷ []) (t.By ∷ []) (t.By ∷ [])
+    (same_lighter before.Operand t.Order (λ k. refl)) (same_lighter before.Other t.By (λ k. refl)) in
+    let all = append_end before.Operand before.Other (t.Order ∷ t.By ∷ []) (t.Order ∷ t.By ∷ []) (canon.commas order_tokens zs) k.back words
+    (orders_end k.back zs k.second) in
     let text : u ≡ t.Order ∷ t.By ∷ k.back =
     h.parts ∙ (ap (λ (z : Lexemes). z ++ h.back) (token_is t.Order ORDER h.front h.value refl refl h.first)
     ∙ ap (λ (z : Lexemes). t.Order ∷ z) (k.parts ∙ ap (λ (z : Lexemes). z ++ k.back) (token_is t.By BY k.front k.value refl refl k.first))) in
@@ -308,8 +309,8 @@ keys_last {start = start} {p = p} {v = v} make pre form = record {
     pre h.value (subst (λ (z : Select). p z ≡ true) h.second.1 e),
     λ i.
         let all = append_end start before.Operand v w (orders_tokens h.value) h.front i (keys_end h.front h.value h.first) in
-        let text : w ++ h.front ≡ w ++ u = ap (λ (z : Lexemes). w ++ z) (sym (append-nil h.front) ∙ (ap (λ (z : Lexemes). h.front ++ z) (sym h.second.0)
-        ∙ sym h.parts)) in
+        let text : w ++ h.front ≡ w ++ u = ap (λ (z : Lexemes). w ++ z)
+        (sym (append-nil h.front) ∙ (ap (λ (z : Lexemes). h.front ++ z) (sym h.second.0) ∙ sym h.parts)) in
         subst (λ (z : Lexemes). LighterEnd start (select_tokens s) z) text
         (subst (λ (z : Lexemes). LighterEnd start z (w ++ h.front)) (sym (ap select_tokens h.second.1 ∙ form h.value)) all),
   );
@@ -318,8 +319,8 @@ keys_last {start = start} {p = p} {v = v} make pre form = record {
 -- the parts of a SELECT, in order
 select_form : (items : List Item) (from : List Source) (found : _) (group : List ColumnRef) (ks : List Order) →
     select_tokens (record { items = items; sources = from; cond = found; group = group; order = ks })
-    ≡ (((((t.Select ∷ canon.commas item_tokens items) ++ t.From ∷ []) ++ canon.commas source_tokens from) ++ condition_tokens found) ++ group_tokens group)
-    ++ orders_tokens ks
+    ≡ (((((t.Select ∷ canon.commas item_tokens items) ++ t.From ∷ []) ++ canon.commas source_tokens from) ++ condition_tokens found)
+    ++ group_tokens group) ++ orders_tokens ks
 select_form items from found group ks = simp append_assoc refl
 
 -- FROM sources [WHERE cond] [GROUP BY columns] [ORDER BY order {, order}], behind the items
@@ -333,8 +334,8 @@ select_rest : (d : Before) (Pre : Type 0) (items : List Item) → (list_all item
     Behind before.Other d (λ s. LighterEnd before.Other) (behind_items items) select_short select_tokens Pre (t.Select ∷ canon.commas item_tokens items)
 select_rest d Pre items pre =
     word t.From FROM _ refl refl (λ k. refl) (part _ sources_print (λ from. part _ condition_prints (λ found. part _ group_prints (λ group.
-    keys_last (λ keys. record { items = items; sources = from; cond = found; group = group; order = keys })
-    (λ keys short. pre short) (select_form items from found group)))))
+    keys_last (λ keys. record { items = items; sources = from; cond = found; group = group; order = keys }) (λ keys short. pre short)
+    (select_form items from found group)))))
 
 select_behind : Behind before.Other before.Other (λ s. LighterEnd before.Other) (select bounded) select_short select_tokens (Unit {0}) []
 select_behind =

@@ -155,5 +155,5 @@ pub lexemes_read : (line : List ℕ) (tokens : List Token) (s : Lexemes) → All
 lexemes_read line [] [] h = refl
 lexemes_read line [] (x ∷ s) h = absurd h
 lexemes_read line (token ∷ tokens) [] h = absurd h
-lexemes_read line (token ∷ tokens) (x ∷ s) h = ap (λ (z : Lexeme). z ∷ lexemes_of line tokens) h.0.says_is ∙ ap
-    (λ (z : Lexemes). x ∷ z) (lexemes_read line tokens s h.1)
+lexemes_read line (token ∷ tokens) (x ∷ s) h = ap (λ (z : Lexeme). z ∷ lexemes_of line tokens) h.0.says_is
+    ∙ ap (λ (z : Lexemes). x ∷ z) (lexemes_read line tokens s h.1)

@@ -55,15 +55,15 @@ enclosed_names = record {
       along before.Other before.Operand (canon.enclosed (canon.names_tokens a)) (sym i.parts) (elim i.spelled [
         | inl x ↦ parens_lighter before.Other before.Operand (canon.names_tokens a) i.within (names_print.goes i.within a x e)
         | inr x ↦ parens_lighter before.Other before.Other (canon.names_tokens a) i.within
-            (along before.Other before.Other (canon.names_tokens a) (sym x.0) (along_text before.Other before.Other [] (ap canon.names_tokens (sym x.1))
-            (nil_lighter before.Other)))
+            (along before.Other before.Other (canon.names_tokens a) (sym x.0)
+            (along_text before.Other before.Other [] (ap canon.names_tokens (sym x.1)) (nil_lighter before.Other)))
       ]);
 }
 
 set_label_prints : Prints before.Other operand rule.set_label request_short request_tokens
 set_label_prints =
-    whole (word t.Set SET _ refl refl (λ k. refl) (word t.Label LABEL _ refl refl (λ k. refl) (part _ enclosed_names
-    (λ tags. done (q.SetLabel tags) refl refl))))
+    whole (word t.Set SET _ refl refl (λ k. refl) (word t.Label LABEL _ refl refl (λ k. refl)
+    (part _ enclosed_names (λ tags. done (q.SetLabel tags) refl refl))))
 
 show_label_prints : Prints before.Other other rule.show_label request_short request_tokens
 show_label_prints = whole (word t.Show SHOW _ refl refl (λ k. refl) (word t.Label LABEL _ refl refl (λ k. refl) (done q.ShowLabel refl refl)))
@@ -84,8 +84,8 @@ plain_tag_prints =
     word t.Tag TAG _ refl refl (λ k. refl) (part _ (name_prints before.Other) (λ n.
     part _ (names_behind_prints t.In IN refl refl (λ k. refl)) (λ parents. done (q.CreateTag n false parents) refl refl)))
 
-compound_tag_prints : Behind before.Other before.Other (ending before.Other operand) (rule.tag true) request_short request_tokens (Unit {0}) (t.Create ∷
-    t.Compound ∷ [])
+compound_tag_prints : Behind before.Other before.Other (ending before.Other operand) (rule.tag true) request_short request_tokens (Unit {0})
+    (t.Create ∷ t.Compound ∷ [])
 compound_tag_prints =
     word t.Tag TAG _ refl refl (λ k. refl) (part _ (name_prints before.Other) (λ n.
     part _ (names_behind_prints t.In IN refl refl (λ k. refl)) (λ parents. done (q.CreateTag n true parents) refl refl)))
@@ -98,8 +98,8 @@ value_kind_prints =
     either (either
     (whole (word t.Int INT _ refl refl (λ k. refl) (done of.Int refl refl)))
     (whole (part {g = λ _. t.Int ∷ []} _ (record {
-      goes = λ u a h e. along before.Operand before.Other (t.Int ∷ []) (sym (token_is t.Integer INTEGER u a refl
-          refl h)) (int_for t.Integer (λ k. refl) refl);
+      goes = λ u a h e. along before.Operand before.Other (t.Int ∷ [])
+          (sym (token_is t.Integer INTEGER u a refl refl h)) (int_for t.Integer (λ k. refl) refl);
     }) (λ _. done of.Int refl refl))))
     (whole (word t.Text TEXT _ refl refl (λ k. refl) (done of.Text refl refl)))
 
@@ -110,15 +110,15 @@ parens_names : (b : Before) → Prints b operand (parens names) any (λ ns. cano
 parens_names b = parens_prints b names_print
 
 foreign_form : (columns : List (List ℕ)) (parent : List ℕ) →
-    foreign_tokens (record { columns = columns; parent = parent }) ≡ (((t.Foreign ∷ t.Key ∷ []) ++ canon.enclosed (canon.names_tokens columns)) ++
-    t.References ∷ []) ++ t.Name parent ∷ []
+    foreign_tokens (record { columns = columns; parent = parent }) ≡
+    (((t.Foreign ∷ t.Key ∷ []) ++ canon.enclosed (canon.names_tokens columns)) ++ t.References ∷ []) ++ t.Name parent ∷ []
 foreign_form columns parent = simp append_assoc refl
 
 foreign_prints : Prints before.Other operand rule.foreign any foreign_tokens
 foreign_prints =
     whole (word t.Foreign FOREIGN _ refl refl (λ k. refl) (word t.Key KEY _ refl refl (λ k. refl) (part _ (parens_names before.Other) (λ columns.
-    word t.References REFERENCES _ refl refl (λ k. refl) (part _ (name_prints before.Other)
-    (λ parent. done (record { columns = columns; parent = parent }) refl (foreign_form columns parent)))))))
+    word t.References REFERENCES _ refl refl (λ k. refl)
+    (part _ (name_prints before.Other) (λ parent. done (record { columns = columns; parent = parent }) refl (foreign_form columns parent)))))))
 
 -- each column with a comma behind it
 columns_then : List Column → Lexemes
@@ -165,8 +165,8 @@ foreign_more v xs x = ap (λ (z : Lexemes). v ++ z) (behind_more t.Comma foreign
 foreign_rounds : (v : Lexemes) → Grows (λ _. true) before.Other operand rule.foreign_round any (λ keys. v ++ canon.behind t.Comma foreign_tokens keys)
 foreign_rounds v = record {
   keeps = λ found u ys h. refl;
-  grows = λ found some. word t.Comma COMMA _ refl refl (λ k. refl) (part _ foreign_prints (λ x. end (found ++ x ∷ []) refl
-      (λ _. refl) (foreign_more v found x)));
+  grows = λ found some. word t.Comma COMMA _ refl refl (λ k. refl)
+      (part _ foreign_prints (λ x. end (found ++ x ∷ []) refl (λ _. refl) (foreign_more v found x)));
 }
 
 -- what stands between the parentheses of a table
@@ -184,8 +184,9 @@ gather a x y b c = simp append_assoc refl
 inner_form : (columns : List Column) (key : List (List ℕ)) (keys : List ForeignKey) → some_member columns ≡ true →
     table_tokens columns key keys ≡ key_tokens columns key ++ canon.behind t.Comma foreign_tokens keys
 unfolding key_tokens
-inner_form columns key keys some = columns_form columns (t.Primary ∷ t.Key ∷ canon.enclosed (canon.names_tokens key) ++ canon.behind t.Comma foreign_tokens
-    keys) some ∙ gather (columns_then columns) t.Primary t.Key (canon.enclosed (canon.names_tokens key)) (canon.behind t.Comma foreign_tokens keys)
+inner_form columns key keys some = columns_form columns
+    (t.Primary ∷ t.Key ∷ canon.enclosed (canon.names_tokens key) ++ canon.behind t.Comma foreign_tokens keys) some
+    ∙ gather (columns_then columns) t.Primary t.Key (canon.enclosed (canon.names_tokens key)) (canon.behind t.Comma foreign_tokens keys)
 
 table_prints : Behind before.Other before.Other (ending before.Other operand) rule.table request_short request_tokens (Unit {0}) (t.Create ∷ [])
 unfolding columns_then key_tokens inner_tokens
@@ -202,10 +203,10 @@ table_prints =
     subst (λ (z : Request). request_tokens z ≡ t.Create ∷ t.Table ∷ t.Name n ∷ t.Open ∷ (inner_tokens z ++ t.Close ∷ [])) (sym made) refl)))
 
 view_form : (n : List ℕ) (shown : _) (tags : List (List ℕ)) →
-    request_tokens (q.CreateView n shown tags) ≡ (((t.Create ∷ t.View ∷ t.Name n ∷ t.As ∷ select_tokens shown) ++ t.With ∷ []) ++ t.Declassifying ∷ []) ++
-    canon.enclosed (canon.names_tokens tags)
-view_form n shown tags = gather_two (t.Create ∷ t.View ∷ t.Name n ∷ t.As ∷ select_tokens shown) t.With t.Declassifying (canon.enclosed (canon.names_tokens
-    tags))
+    request_tokens (q.CreateView n shown tags)
+    ≡ (((t.Create ∷ t.View ∷ t.Name n ∷ t.As ∷ select_tokens shown) ++ t.With ∷ []) ++ t.Declassifying ∷ []) ++ canon.enclosed (canon.names_tokens tags)
+view_form n shown tags = gather_two (t.Create ∷ t.View ∷ t.Name n ∷ t.As ∷ select_tokens shown) t.With t.Declassifying
+    (canon.enclosed (canon.names_tokens tags))
   where
     gather_two : (a : Lexemes) (x y : Lexeme) (b : Lexemes) → a ++ x ∷ y ∷ b ≡ ((a ++ x ∷ []) ++ y ∷ []) ++ b
     gather_two a x y b = simp append_assoc refl
@@ -230,8 +231,9 @@ columns_print : Prints before.Operand operand (optional_list (parens names)) any
 columns_print = optional_prints (parens_names before.Operand) (parens_makes some_member names names_make) (λ n ns. refl) refl
 
 insert_form : (n : List ℕ) (columns : List (List ℕ)) (rows : List (List Value)) (tags : List (List ℕ)) →
-    request_tokens (q.Insert n columns rows tags) ≡ (((t.Insert ∷ t.Into ∷ t.Name n ∷ columns_tokens columns) ++ t.Values ∷ []) ++ canon.commas row_tokens
-    rows) ++ canon.names_behind_tokens t.Declassifying tags
+    request_tokens (q.Insert n columns rows tags)
+    ≡ (((t.Insert ∷ t.Into ∷ t.Name n ∷ columns_tokens columns) ++ t.Values ∷ []) ++ canon.commas row_tokens rows)
+    ++ canon.names_behind_tokens t.Declassifying tags
 insert_form n columns rows tags = gather_last (t.Insert ∷ t.Into ∷ t.Name n ∷ columns_tokens columns) t.Values (canon.commas row_tokens rows)
     (canon.names_behind_tokens t.Declassifying tags)
   where
@@ -251,8 +253,8 @@ assignment_prints =
     end (record { column = n; expr = x }) refl (λ short. (tt, short)) refl))))
 
 update_form : (n : List ℕ) (assignments : List Assignment) (found : _) (tags : List (List ℕ)) →
-    request_tokens (q.Update n assignments found tags) ≡ ((t.Update ∷ t.Name n ∷ t.Set ∷ canon.commas assignment_tokens assignments) ++ condition_tokens
-    found) ++ canon.names_behind_tokens t.Declassifying tags
+    request_tokens (q.Update n assignments found tags) ≡
+    ((t.Update ∷ t.Name n ∷ t.Set ∷ canon.commas assignment_tokens assignments) ++ condition_tokens found) ++ canon.names_behind_tokens t.Declassifying tags
 update_form n assignments found tags = sym (append_assoc (t.Update ∷ t.Name n ∷ t.Set ∷ canon.commas assignment_tokens assignments) (condition_tokens found)
     (canon.names_behind_tokens t.Declassifying tags))
 
@@ -290,13 +292,13 @@ query_ends u r h e =
 
 request_ends : Ends (rule.request bounded)
 request_ends =
-    ends_or _ _ (ends_or _ _ (ends_or _ _ (ends_or _ _ (ends_or _ _ (ends_or _ _ (ends_or _ _ (ends_or _ _ (ends_or _ _ (ends_or _ _ (ends_or _ _ (ends_or _
-    _ (ends_or _ _
+    ends_or _ _ (ends_or _ _ (ends_or _ _ (ends_or _ _
+    (ends_or _ _ (ends_or _ _ (ends_or _ _ (ends_or _ _ (ends_or _ _ (ends_or _ _ (ends_or _ _ (ends_or _ _ (ends_or _ _
     (ends_by hello_prints) (ends_by create_prints)) (ends_by grant_prints)) (ends_by revoke_prints)) (ends_by set_label_prints)) (ends_by show_label_prints))
-    (ends_by (word_prints t.Begin BEGIN q.Begin refl refl (λ k. refl) refl refl))) (ends_by (word_prints t.Commit COMMIT q.Commit refl refl
-    (λ k. refl) refl refl)))
-    (ends_by (word_prints t.Rollback ROLLBACK q.Rollback refl refl (λ k. refl) refl refl))) (ends_by (word_prints t.Bye BYE q.Bye refl refl
-    (λ k. refl) refl refl)))
+    (ends_by (word_prints t.Begin BEGIN q.Begin refl refl (λ k. refl) refl refl)))
+    (ends_by (word_prints t.Commit COMMIT q.Commit refl refl (λ k. refl) refl refl)))
+    (ends_by (word_prints t.Rollback ROLLBACK q.Rollback refl refl (λ k. refl) refl refl)))
+    (ends_by (word_prints t.Bye BYE q.Bye refl refl (λ k. refl) refl refl)))
     query_ends) (ends_by insert_prints)) (ends_by update_prints)) (ends_by delete_prints)
 
 -- what a line without `;` keeps, it keeps with one
@@ -330,5 +332,5 @@ pub line_ends : Ends (rule.line bounded)
 line_ends u r h e =
     let same : r ≡ h.value = end_same h.value r h.back h.second in
     let front : rule.request bounded h.front r = subst (λ (z : Request). rule.request bounded h.front z) (sym same) h.first in
-    subst (λ (z : Lexemes). LighterEnd before.Other (request_tokens r) z) (sym h.parts) (without_end (request_tokens r) h.front h.back (request_ends h.front
-    r front e))
+    subst (λ (z : Lexemes). LighterEnd before.Other (request_tokens r) z) (sym h.parts)
+    (without_end (request_tokens r) h.front h.back (request_ends h.front r front e))

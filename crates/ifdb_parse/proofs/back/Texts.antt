@@ -144,11 +144,8 @@ undoubled_scalars (c ∷ []) h = h
 undoubled_scalars (c ∷ d ∷ cs) h =
     let a = and_parts (scalar c) (scalar d && scalars cs) h in
     let b = and_parts (scalar d) (scalars cs) a.1 in
-    either_scalars (c == 39 && d == 39) (39 ∷ undoubled cs) (c ∷ undoubled (d ∷ cs)) (rw (undoubled_scalars cs b.1) refl) (rw (
-      a.0,
-      undoubled_scalars (d ∷
-          cs) a.1,
-    ) refl)
+    either_scalars (c == 39 && d == 39) (39 ∷ undoubled cs) (c ∷ undoubled (d ∷ cs)) (rw (undoubled_scalars cs b.1) refl)
+    (rw (a.0, undoubled_scalars (d ∷ cs) a.1) refl)
   where
     either_scalars : (test : Bool) (x y : List ℕ) → scalars x ≡ true → scalars y ≡ true → scalars (if test then x else y) ≡ true
     either_scalars true x y h k = h
@@ -182,8 +179,8 @@ name_ascii (b ∷ n) h =
 spelling_utf8 : (x : Lexeme) → Sound x → IsUtf8 (spelling x)
 spelling_utf8 (t.Name n) sound = ascii_utf8 n (name_ascii n (name_parts n sound.0).all)
 spelling_utf8 (t.Number n) sound = IsUtf8-from_ascii (decimal n) (IsAscii-decimal n (omega (arith, sound)))
-spelling_utf8 (t.Quoted w) sound = IsUtf8-append (39 ∷ flat_map doubled w) (39 ∷ []) (IsUtf8-append (39 ∷ []) (flat_map doubled w) (ascii_utf8 (39 ∷ [])
-    refl) (doubled_utf8 w sound)) (ascii_utf8 (39 ∷ []) refl)
+spelling_utf8 (t.Quoted w) sound = IsUtf8-append (39 ∷ flat_map doubled w) (39 ∷ [])
+    (IsUtf8-append (39 ∷ []) (flat_map doubled w) (ascii_utf8 (39 ∷ []) refl) (doubled_utf8 w sound)) (ascii_utf8 (39 ∷ []) refl)
 spelling_utf8 word sound = ascii_utf8 (spelling word) refl
 
 gap_utf8 : (before : Edge) (x : Lexeme) → IsUtf8 (gap before x)
@@ -192,8 +189,8 @@ gap_utf8 before x = elim (gap_cases before x) [ inl is ↦ subst IsUtf8 (sym is)
 behind_utf8 : (s : Lexemes) (before : Edge) → AllSound s → IsUtf8 (text_behind before s)
 behind_utf8 [] before sound = IsUtf8-nil
 behind_utf8 (x ∷ s) before sound =
-    IsUtf8-append (gap before x ++ spelling x) (text_behind (edge_after before x) s) (IsUtf8-append (gap before x) (spelling x) (gap_utf8 before x)
-    (spelling_utf8 x sound.0)) (behind_utf8 s (edge_after before x) sound.1)
+    IsUtf8-append (gap before x ++ spelling x) (text_behind (edge_after before x) s)
+    (IsUtf8-append (gap before x) (spelling x) (gap_utf8 before x) (spelling_utf8 x sound.0)) (behind_utf8 s (edge_after before x) sound.1)
 
 pub spaced_utf8 : (s : Lexemes) → AllSound s → IsUtf8 (spaced s)
 spaced_utf8 s sound = behind_utf8 s edge.Tight sound
