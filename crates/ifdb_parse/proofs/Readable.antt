@@ -70,7 +70,8 @@ no_text : {A : Type 0} (o : Option Piece) (len : ℕ) → is_text (kind_of o) �
 unfolding kind_of is_text
 no_text o len other e = not_true (sym other ∙ ap (λ (p : Option Piece). is_text (kind_of p)) e)
 
-pub front_word : (text : List ℕ) (len : ℕ) → front text ≡ Some (kind.Word, len) → (begins_word (slice_index text 0) ≡ true) × (len ≡ prefix_len is_word_byte text)
+pub front_word : (text : List ℕ) (len : ℕ) → front text ≡ Some (kind.Word, len) →
+    (begins_word (slice_index text 0) ≡ true) × (len ≡ prefix_len is_word_byte text)
 unfolding kind_of length_of
 front_word text len e =
     let first = slice_index text 0 in
@@ -129,7 +130,8 @@ bytes_fold [] = refl
 bytes_fold (b ∷ text) = bytes_fold_step b text (is_word_byte b) refl (bytes_fold text)
 
 -- the bytes of a word, from 1 to 63 of them, are a name once they are folded
-word_is_name : (text : List ℕ) (len : ℕ) → len ≡ prefix_len is_word_byte text → 0 < len → len ≤ 63 → len ≤ length text → begins_word (slice_index text 0) ≡ true → is_name (folded (take len text)) ≡ true
+word_is_name : (text : List ℕ) (len : ℕ) → len ≡ prefix_len is_word_byte text → 0 < len → len ≤ 63 → len ≤ length text →
+    begins_word (slice_index text 0) ≡ true → is_name (folded (take len text)) ≡ true
 word_is_name text len is some short fits begins =
     let size : length (take len text) ≡ len = length-take-le len text fits in
     let first : slice_index (take len text) 0 ≡ slice_index text 0 = get_or-take len text 0 0 some in
@@ -252,7 +254,7 @@ short_names line tokens h =
     let c = nests_deep 0 tokens in
     (neither a b (neither (a || b) c (neither (a || b || c) (nat_lt 64 (count_by (is_not line) tokens)) h).0).0).0
 
-any_split : (p : Token → Bool) (token : Token) (tokens : List Token) → list_any p (token ∷ tokens) ≡ false → (p token ≡ false) × (list_any p tokens ≡ false)
+pub any_split : (p : Token → Bool) (token : Token) (tokens : List Token) → list_any p (token ∷ tokens) ≡ false → (p token ≡ false) × (list_any p tokens ≡ false)
 any_split p token tokens h = neither (p token) (list_any p tokens) h
 
 laid_readable : (line : List ℕ) (at : ℕ) (tokens : List Token) → IsLaidOut line at tokens → list_any is_long_name tokens ≡ false →
@@ -263,7 +265,8 @@ laid_readable line at (token ∷ tokens) h short zero other le =
 laid_readable line at (token ∷ tokens) h short (suc k) other le =
     laid_readable line token.end tokens h.5 (any_split is_long_name token tokens short).1 k other (omega arith)
 
-pub tokens_readable : (line : List ℕ) (tokens : List Token) → lexed line ≡ Ok tokens → IsLaidOut (without_return line) 0 tokens → AreReadable (without_return line) tokens
+pub tokens_readable : (line : List ℕ) (tokens : List Token) → lexed line ≡ Ok tokens → IsLaidOut (without_return line) 0 tokens →
+    AreReadable (without_return line) tokens
 tokens_readable line tokens e h =
     let j = judged_ok (without_return line) (tokens_of (without_return line)) tokens e in
     laid_readable (without_return line) 0 tokens h (short_names (without_return line) tokens j.within)

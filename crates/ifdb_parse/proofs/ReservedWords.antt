@@ -13,7 +13,14 @@ use Rattle.ifdb_parse.specs.Lexemes.{reserved_words, spelled_among, reserved}
 
 -- texts of two lengths are not the same in any case
 other_length : (a b : List ℕ) → (length a == length b) ≡ false → str_eq_ignore_ascii_case a b ≡ false
-other_length a b h = grind (arith, nat_tests, bytes_eq-Decides (map to_ascii_lowercase a) (map to_ascii_lowercase b), length-map a to_ascii_lowercase, length-map b to_ascii_lowercase)
+other_length a b h = grind (
+  arith,
+  nat_tests,
+  bytes_eq-Decides (map to_ascii_lowercase a)
+      (map to_ascii_lowercase b),
+  length-map a to_ascii_lowercase,
+  length-map b to_ascii_lowercase,
+)
 
 -- the words of one length
 of_length : ℕ → Lexemes → Lexemes
@@ -35,19 +42,23 @@ pub of_two : (text : List ℕ) → length text ≡ 2 → reserved text ≡ spell
 unfolding reserved of_length
 of_two text h = among_of_length text 2 reserved_words h
 
-pub of_three : (text : List ℕ) → length text ≡ 3 → reserved text ≡ spelled_among text (t.And ∷ t.Asc ∷ t.Bye ∷ t.Int ∷ t.Key ∷ t.Max ∷ t.Min ∷ t.Not ∷ t.Set ∷ t.Sum ∷ t.Tag ∷ [])
+pub of_three : (text : List ℕ) → length text ≡ 3 → reserved text ≡ spelled_among text
+    (t.And ∷ t.Asc ∷ t.Bye ∷ t.Int ∷ t.Key ∷ t.Max ∷ t.Min ∷ t.Not ∷ t.Set ∷ t.Sum ∷ t.Tag ∷ [])
 unfolding reserved of_length
 of_three text h = among_of_length text 3 reserved_words h
 
-pub of_four : (text : List ℕ) → length text ≡ 4 → reserved text ≡ spelled_among text (t.Call ∷ t.Desc ∷ t.From ∷ t.Into ∷ t.Null ∷ t.Show ∷ t.Text ∷ t.View ∷ t.With ∷ [])
+pub of_four : (text : List ℕ) → length text ≡ 4 → reserved text ≡ spelled_among text
+    (t.Call ∷ t.Desc ∷ t.From ∷ t.Into ∷ t.Null ∷ t.Show ∷ t.Text ∷ t.View ∷ t.With ∷ [])
 unfolding reserved of_length
 of_four text h = among_of_length text 4 reserved_words h
 
-pub of_five : (text : List ℕ) → length text ≡ 5 → reserved text ≡ spelled_among text (t.Begin ∷ t.Count ∷ t.Grant ∷ t.Group ∷ t.Hello ∷ t.Label ∷ t.Order ∷ t.Table ∷ t.Where ∷ [])
+pub of_five : (text : List ℕ) → length text ≡ 5 → reserved text ≡ spelled_among text
+    (t.Begin ∷ t.Count ∷ t.Grant ∷ t.Group ∷ t.Hello ∷ t.Label ∷ t.Order ∷ t.Table ∷ t.Where ∷ [])
 unfolding reserved of_length
 of_five text h = among_of_length text 5 reserved_words h
 
-pub of_six : (text : List ℕ) → length text ≡ 6 → reserved text ≡ spelled_among text (t.Commit ∷ t.Create ∷ t.Delete ∷ t.Insert ∷ t.Revoke ∷ t.Select ∷ t.Update ∷ t.Values ∷ [])
+pub of_six : (text : List ℕ) → length text ≡ 6 → reserved text ≡ spelled_among text
+    (t.Commit ∷ t.Create ∷ t.Delete ∷ t.Insert ∷ t.Revoke ∷ t.Select ∷ t.Update ∷ t.Values ∷ [])
 unfolding reserved of_length
 of_six text h = among_of_length text 6 reserved_words h
 
@@ -72,6 +83,8 @@ unfolding reserved of_length
 of_thirteen text h = among_of_length text 13 reserved_words h
 
 -- a text of another length is none of them
-pub of_other : (text : List ℕ) → (length text == 2) ≡ false → (length text == 3) ≡ false → (length text == 4) ≡ false → (length text == 5) ≡ false → (length text == 6) ≡ false → (length text == 7) ≡ false → (length text == 8) ≡ false → (length text == 9) ≡ false → (length text == 10) ≡ false → (length text == 13) ≡ false → reserved text ≡ None
+pub of_other : (text : List ℕ) → (length text == 2) ≡ false → (length text == 3) ≡ false → (length text == 4) ≡ false → (length text == 5) ≡ false →
+    (length text == 6) ≡ false → (length text == 7) ≡ false → (length text == 8) ≡ false → (length text == 9) ≡ false → (length text == 10) ≡ false →
+    (length text == 13) ≡ false → reserved text ≡ None
 unfolding reserved of_length
 of_other text h2 h3 h4 h5 h6 h7 h8 h9 h10 h13 = among_of_length text (length text) reserved_words refl ∙ (rw (h2, h3, h4, h5, h6, h7, h8, h9, h10, h13) refl)

@@ -15,7 +15,8 @@ no_pair [] (suc at) h le = refl
 no_pair (b ∷ text) (suc at) h le = ap (λ (z : List ℕ). b ∷ z) (no_pair text at (omega arith) (omega arith))
 
 -- past a byte that begins no pair
-pub undoubled_goes : (text : List ℕ) (at : ℕ) → at + 1 < length text → (slice_index text at == 39 && slice_index text (at + 1) == 39) ≡ false → take (at + 1) text ++ undoubled (drop (at + 1) text) ≡ take at text ++ undoubled (drop at text)
+pub undoubled_goes : (text : List ℕ) (at : ℕ) → at + 1 < length text → (slice_index text at == 39 && slice_index text (at + 1) == 39) ≡ false →
+    take (at + 1) text ++ undoubled (drop (at + 1) text) ≡ take at text ++ undoubled (drop at text)
 undoubled_goes [] at h other = absurd (omega arith)
 undoubled_goes (b ∷ []) at h other = absurd (omega arith)
 undoubled_goes (b ∷ next ∷ text) zero h other = rw other refl
@@ -25,7 +26,8 @@ undoubled_goes (b ∷ next ∷ text) (suc at) h other =
     rw n (ap (λ (z : List ℕ). b ∷ z) (undoubled_goes (next ∷ text) at (omega arith) o))
 
 -- past a pair
-pub undoubled_pair : (text : List ℕ) (at : ℕ) → at + 1 < length text → (slice_index text at == 39 && slice_index text (at + 1) == 39) ≡ true → take (at + 1) text ++ undoubled (drop (at + 2) text) ≡ take at text ++ undoubled (drop at text)
+pub undoubled_pair : (text : List ℕ) (at : ℕ) → at + 1 < length text → (slice_index text at == 39 && slice_index text (at + 1) == 39) ≡ true →
+    take (at + 1) text ++ undoubled (drop (at + 2) text) ≡ take at text ++ undoubled (drop at text)
 undoubled_pair [] at h pair = absurd (omega arith)
 undoubled_pair (b ∷ []) at h pair = absurd (omega arith)
 undoubled_pair (b ∷ next ∷ text) zero h pair = rw pair (ap (λ n. n ∷ undoubled text) (grind (arith, common_steps)))

@@ -5,3 +5,4 @@ pub mod Statements
 pub mod Tokens
 pub mod Limits
 pub mod Parsed
+pub mod ReadsBack

@@ -9,6 +9,7 @@ use Rattle.ifdb_syntax.specs.Words.{Lexemes}
 use Rattle.ifdb_syntax.specs.Reading.{written, bounded}
 use Rattle.ifdb_syntax.specs.Requests.{line}
 use Rattle.ifdb_syntax.specs.Fault.{IsFault}
+use Rattle.ifdb_syntax.specs.canonical.Text.{canonical_text}
 use Rattle.ifdb_parse.specs.declared.fault.ParseFault.TheVariants as fault
 use Rattle.ifdb_parse.specs.Lexemes.{lexemes_of}
 use Rattle.ifdb_parse.specs.Numbers.{numbers_fit}
@@ -67,3 +68,7 @@ ParsedIsSyntax = (l : List ℕ) (at : ℕ) → (parsed l ≡ Err (fault.Syntax a
 
 abbrev pub ParsedIsLimit : Type 0
 ParsedIsLimit = (l : List ℕ) → (parsed l ≡ Err fault.Limit) ↔ ((lexed l ≡ Err lex.Limit) ⊎ IsTooLarge l)
+
+-- the canonical text of a request that a line is read as, is read as the same
+abbrev pub ParsedReadsBack : Type 0
+ParsedReadsBack = (l : List ℕ) (r : Request) → parsed l ≡ Ok r → parsed (canonical_text r) ≡ Ok r

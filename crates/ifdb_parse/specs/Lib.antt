@@ -5,4 +5,5 @@ pub mod Readable
 pub mod TreeLimits
 pub mod Numbers
 pub mod Parsed
+pub mod Back
 pub mod Laws

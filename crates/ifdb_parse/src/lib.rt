@@ -21,11 +21,13 @@ mod shared;
 mod statements;
 mod stop;
 mod tables;
+mod way_back;
 mod words;
 
 pub use fault::ParseFault;
 pub use laws::{parser_reads_the_grammar, requests_are_read};
 pub use line::parse;
+pub use way_back::{canonical_text_reads_back, requests_read_back};
 
 #[cfg(test)]
 mod tests;

@@ -5,11 +5,12 @@ use std::alloc::Global;
 use std::test::Fail;
 
 /// Lines, each with its request's canonical text or its fault.
-static LINES: [(&[u8], &str); 6] = [
+static LINES: [(&[u8], &str); 7] = [
     (
         b"select  ID from Note where not (id!=1);",
         "SELECT id FROM note WHERE NOT id <> 1",
     ),
+    (b"hello Ann KEY 'it''s'\r", "HELLO ann KEY 'it''s'"),
     (b"SHOW ?", "Syntax(5)"),
     (b"SHOW LABELS", "Syntax(5)"),
     (b"SHOW\r", "Syntax(4)"),
