@@ -28,39 +28,39 @@ use Rattle.ifdb_syntax.proofs.Mapped.{Mapped, same_mapped, nothing_mapped, then_
 
 -- ---- trees by their form
 
-bounded-Column : (x : _) → bounded_expr (e.Column x) ≡ e.Column x
+pub bounded-Column : (x : _) → bounded_expr (e.Column x) ≡ e.Column x
 unfolding bounded_expr
 bounded-Column x = ap (fold-Expr Expr expr_step) (sym (e.rolls-Column x)) ∙ fold-roll-Expr Expr expr_step (Expr-F.Column x)
 
-bounded-Literal : (v : Value) → bounded_expr (e.Literal v) ≡ e.Literal (bounded_value v)
+pub bounded-Literal : (v : Value) → bounded_expr (e.Literal v) ≡ e.Literal (bounded_value v)
 unfolding bounded_expr
 bounded-Literal v = ap (fold-Expr Expr expr_step) (sym (e.rolls-Literal v)) ∙ fold-roll-Expr Expr expr_step (Expr-F.Literal v)
 
-bounded-Add : (a b : Expr) → bounded_expr (e.Add a b) ≡ joined e.Add (bounded_expr a) (bounded_expr b)
+pub bounded-Add : (a b : Expr) → bounded_expr (e.Add a b) ≡ joined e.Add (bounded_expr a) (bounded_expr b)
 unfolding bounded_expr
 bounded-Add a b = ap (fold-Expr Expr expr_step) (sym (e.rolls-Add a b)) ∙ fold-roll-Expr Expr expr_step (Expr-F.Add a b)
 
-bounded-Sub : (a b : Expr) → bounded_expr (e.Sub a b) ≡ joined e.Sub (bounded_expr a) (bounded_expr b)
+pub bounded-Sub : (a b : Expr) → bounded_expr (e.Sub a b) ≡ joined e.Sub (bounded_expr a) (bounded_expr b)
 unfolding bounded_expr
 bounded-Sub a b = ap (fold-Expr Expr expr_step) (sym (e.rolls-Sub a b)) ∙ fold-roll-Expr Expr expr_step (Expr-F.Sub a b)
 
-bounded-Mul : (a b : Expr) → bounded_expr (e.Mul a b) ≡ joined e.Mul (bounded_expr a) (bounded_expr b)
+pub bounded-Mul : (a b : Expr) → bounded_expr (e.Mul a b) ≡ joined e.Mul (bounded_expr a) (bounded_expr b)
 unfolding bounded_expr
 bounded-Mul a b = ap (fold-Expr Expr expr_step) (sym (e.rolls-Mul a b)) ∙ fold-roll-Expr Expr expr_step (Expr-F.Mul a b)
 
-bounded-Or : (parts : List Cond) → bounded_cond (c.Or parts) ≡ c.Or (map bounded_cond parts)
+pub bounded-Or : (parts : List Cond) → bounded_cond (c.Or parts) ≡ c.Or (map bounded_cond parts)
 unfolding bounded_cond
 bounded-Or parts = ap (fold-Cond Cond cond_step) (sym (c.rolls-Or parts)) ∙ fold-roll-Cond Cond cond_step (Cond-F.Or parts)
 
-bounded-And : (parts : List Cond) → bounded_cond (c.And parts) ≡ c.And (map bounded_cond parts)
+pub bounded-And : (parts : List Cond) → bounded_cond (c.And parts) ≡ c.And (map bounded_cond parts)
 unfolding bounded_cond
 bounded-And parts = ap (fold-Cond Cond cond_step) (sym (c.rolls-And parts)) ∙ fold-roll-Cond Cond cond_step (Cond-F.And parts)
 
-bounded-Not : (a : Cond) → bounded_cond (c.Not a) ≡ c.Not (bounded_cond a)
+pub bounded-Not : (a : Cond) → bounded_cond (c.Not a) ≡ c.Not (bounded_cond a)
 unfolding bounded_cond
 bounded-Not a = ap (fold-Cond Cond cond_step) (sym (c.rolls-Not a)) ∙ fold-roll-Cond Cond cond_step (Cond-F.Not a)
 
-bounded-Compare : (a : Operand) (how : _) (b : Operand) → bounded_cond (c.Compare a how b) ≡ c.Compare (bounded_operand a) how (bounded_operand b)
+pub bounded-Compare : (a : Operand) (how : _) (b : Operand) → bounded_cond (c.Compare a how b) ≡ c.Compare (bounded_operand a) how (bounded_operand b)
 unfolding bounded_cond
 bounded-Compare a how b = ap (fold-Cond Cond cond_step) (sym (c.rolls-Compare a how b)) ∙ fold-roll-Cond Cond cond_step (Cond-F.Compare a how b)
 

@@ -8,15 +8,15 @@ use Rattle.ifdb_syntax.specs.declared.expression.Expr.TheOpen.{Expr-F}
 use Rattle.ifdb_syntax.specs.declared.expression.Expr.TheFolds.{fold-Expr, fold-roll-Expr}
 use Rattle.ifdb_syntax.specs.Reading.{operators, operators_step, joined, bounded, written}
 
-operators-Add : (a b : Expr) → operators (e.Add a b) ≡ min 65 (operators a + operators b + 1)
+pub operators-Add : (a b : Expr) → operators (e.Add a b) ≡ min 65 (operators a + operators b + 1)
 unfolding operators
 operators-Add a b = ap (fold-Expr ℕ operators_step) (sym (e.rolls-Add a b)) ∙ fold-roll-Expr ℕ operators_step (Expr-F.Add a b)
 
-operators-Sub : (a b : Expr) → operators (e.Sub a b) ≡ min 65 (operators a + operators b + 1)
+pub operators-Sub : (a b : Expr) → operators (e.Sub a b) ≡ min 65 (operators a + operators b + 1)
 unfolding operators
 operators-Sub a b = ap (fold-Expr ℕ operators_step) (sym (e.rolls-Sub a b)) ∙ fold-roll-Expr ℕ operators_step (Expr-F.Sub a b)
 
-operators-Mul : (a b : Expr) → operators (e.Mul a b) ≡ min 65 (operators a + operators b + 1)
+pub operators-Mul : (a b : Expr) → operators (e.Mul a b) ≡ min 65 (operators a + operators b + 1)
 unfolding operators
 operators-Mul a b = ap (fold-Expr ℕ operators_step) (sym (e.rolls-Mul a b)) ∙ fold-roll-Expr ℕ operators_step (Expr-F.Mul a b)
 
@@ -30,13 +30,13 @@ both_by op a b ha hb = rw (not_more (operators a) ha, not_more (operators b) hb)
 joined_by : (op : Expr → Expr → Expr) (a b : Expr) → operators (op a b) ≡ min 65 (operators a + operators b + 1) → operators (op a b) ≤ 64 → joined op a b ≡ op a b
 joined_by op a b h le = both_by op a b (omega arith) (omega arith)
 
-joined-Add : (a b : Expr) → operators (e.Add a b) ≤ 64 → bounded.join e.Add a b ≡ e.Add a b
+pub joined-Add : (a b : Expr) → operators (e.Add a b) ≤ 64 → bounded.join e.Add a b ≡ e.Add a b
 joined-Add a b = joined_by e.Add a b (operators-Add a b)
 
-joined-Sub : (a b : Expr) → operators (e.Sub a b) ≤ 64 → bounded.join e.Sub a b ≡ e.Sub a b
+pub joined-Sub : (a b : Expr) → operators (e.Sub a b) ≤ 64 → bounded.join e.Sub a b ≡ e.Sub a b
 joined-Sub a b = joined_by e.Sub a b (operators-Sub a b)
 
-joined-Mul : (a b : Expr) → operators (e.Mul a b) ≤ 64 → bounded.join e.Mul a b ≡ e.Mul a b
+pub joined-Mul : (a b : Expr) → operators (e.Mul a b) ≤ 64 → bounded.join e.Mul a b ≡ e.Mul a b
 joined-Mul a b = joined_by e.Mul a b (operators-Mul a b)
 
 plain_number : (n : ℕ) → n < 2 ^ 63 → bounded.plain n ≡ written.plain n

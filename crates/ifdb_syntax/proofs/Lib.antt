@@ -11,3 +11,8 @@ pub mod KindsDiffer
 pub mod BoundedReading
 pub mod Mapped
 pub mod BoundedLine
+pub mod ByForm
+pub mod Within
+pub mod Makes
+pub mod LineShape
+pub mod Examples

@@ -5,9 +5,10 @@ use Rattle.ifdb_syntax.specs.declared.expression.Expr.{Expr}
 use Rattle.ifdb_syntax.specs.declared.expression.Expr.TheVariants as e
 use Rattle.ifdb_syntax.specs.declared.request.Request.{Request}
 use Rattle.ifdb_syntax.specs.Words.{Lexemes, kind, NAME}
-use Rattle.ifdb_syntax.specs.Reading.{written, bounded, operators}
+use Rattle.ifdb_syntax.specs.Reading.{Reading, written, bounded, operators}
 use Rattle.ifdb_syntax.specs.Requests.{line}
 use Rattle.ifdb_syntax.specs.Bounded.{bounded_request}
+use Rattle.ifdb_syntax.specs.Within.{request_fits, request_short}
 use Rattle.ifdb_syntax.specs.Shapes.{request_shape}
 use Rattle.ifdb_syntax.specs.canonical.Requests.{request_tokens}
 
@@ -39,3 +40,15 @@ WrittenIsBounded = (u : Lexemes) (r : Request) → line written u r → line bou
 abbrev pub BoundedIsWritten : Type 0
 BoundedIsWritten =
     (u : Lexemes) (r : Request) → line bounded u r → (w : Request) × line written u w × (bounded_request w ≡ r)
+
+-- a tree within the limits is left as it is
+abbrev pub WithinIsKept : Type 0
+WithinIsKept = (r : Request) → request_fits r ≡ true → request_short r ≡ true → bounded_request r ≡ r
+
+-- each number of a bounded tree is a value
+abbrev pub BoundedFits : Type 0
+BoundedFits = (r : Request) → request_fits (bounded_request r) ≡ true
+
+-- the grammar makes only trees of its shapes, however numbers and chains are read
+abbrev pub LineHasShape : Type 0
+LineHasShape = (reading : Reading) (u : Lexemes) (r : Request) → line reading u r → request_shape r ≡ true

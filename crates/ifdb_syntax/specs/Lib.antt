@@ -10,5 +10,7 @@ pub mod Fault
 pub mod canonical
 pub mod Printed
 pub mod Shapes
+pub mod Examples
 pub mod Laws
 pub mod Bounded
+pub mod Within

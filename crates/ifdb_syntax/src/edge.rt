@@ -5,7 +5,7 @@ use crate::lexeme::Lexeme;
 
 /// What the last lexeme that was written leaves to the next one.
 #[derive(Clone, Copy)]
-pub(crate) enum Edge {
+pub enum Edge {
     /// Nothing stands behind it: the start of a line, `(`, `.`, or the `-` of a literal.
     Tight,
     /// COUNT, SUM, MIN or MAX: `(` follows without a space.

@@ -3,7 +3,7 @@ ghost use Rattle.std.specs.Prelude.{◌≡◌};
 
 /// The rule in whose place an expression stands, from the loosest to the tightest.
 #[derive(Clone, Copy)]
-pub(crate) enum ExprPlace {
+pub enum ExprPlace {
     /// A whole expression, or the left operand of `+` and `-`.
     Expr,
     /// The right operand of `+` and `-`, or the left one of `*`.
@@ -32,7 +32,7 @@ impl ExprPlace {
 
 /// The rule in whose place a condition stands, from the loosest to the tightest.
 #[derive(Clone, Copy)]
-pub(crate) enum CondPlace {
+pub enum CondPlace {
     /// A whole condition.
     Cond,
     /// A member of OR.
