@@ -12,3 +12,7 @@ pub struct Grant {
     /// To whom.
     pub to: Principal,
 }
+
+/// That a grant which is to be taken away doesn't stand.
+#[derive(Clone, Copy, Debug, PartialEq, Eq)]
+pub struct NotGranted;

@@ -9,5 +9,5 @@ mod grant;
 mod laws;
 
 pub use authority::Authority;
-pub use grant::Grant;
+pub use grant::{Grant, NotGranted};
 pub use laws::{changes_touch_one_grant, grants_stand_once, more_grants_hold_more, steps_suffice};

@@ -11,3 +11,4 @@ pub mod Clinic
 pub mod PairExamples
 pub mod two_worlds
 pub mod ReadBack
+pub mod Stamps

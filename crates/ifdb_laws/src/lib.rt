@@ -21,7 +21,7 @@ ghost use Rattle.ifdb_laws.specs.Scripts.{TwoScripts};
 ghost use Rattle.ifdb_laws.specs.Worked.{first_script, second_script, first_told, second_told, both_heard};
 
 pub use byte_laws::replies_read_back;
-pub use line_laws::{refusals_change_nothing, transactions_are_frozen};
+pub use line_laws::{commits_are_judged, refusals_change_nothing, transactions_are_frozen};
 pub use row_laws::{keys_apart, parents_live};
 pub use worked::{
     clinic_rows, commit_rows, crossing_rows, label_rows, query_rows, reference_rows, view_rows,

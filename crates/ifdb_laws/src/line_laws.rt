@@ -1,5 +1,5 @@
 // Laws of single lines of the whole server: each function's contract is one, and it does nothing.
-ghost use Rattle.ifdb_laws.specs.server.StepLaws.{TransactionsAreFrozen, RefusalsChangeNothing, RefusedCommitsEnd, RefusedStepsChangeNothing};
+ghost use Rattle.ifdb_laws.specs.server.StepLaws.{CommitsAreJudged, StampsAreAbove, TransactionsAreFrozen, RefusalsChangeNothing, RefusedCommitsEnd, RefusedStepsChangeNothing};
 
 /// In a transaction each line but COMMIT is answered by what was before its BEGIN, its own writes and its session alone.
 pub fn transactions_are_frozen()
@@ -11,4 +11,10 @@ pub fn refusals_change_nothing()
     ensures lines { RefusalsChangeNothing }
     ensures steps { RefusedStepsChangeNothing }
     ensures commits { RefusedCommitsEnd }
+{}
+
+/// A COMMIT is judged over the content, with all tags, by the commits since its BEGIN, at the label of now. The stamps of those commits are above the BEGIN.
+pub fn commits_are_judged()
+    ensures verdict { CommitsAreJudged }
+    ensures stamps { StampsAreAbove }
 {}

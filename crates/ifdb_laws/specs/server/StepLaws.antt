@@ -1,11 +1,13 @@
 -- What the laws of single lines say, for every reading of lines.
-use Rattle.std.specs.Prelude.{◌≡◌, ℕ, Bool, true, false, List, take, Some, None, Result, Ok, Err}
+use Rattle.std.specs.Prelude.{◌≡◌, ℕ, ◌<◌, Bool, true, false, List, take, Some, None, Result, Ok, Err}
 use Rattle.ifdb_syntax.specs.declared.request.Request.{Request}
 use Rattle.ifdb_wire.specs.declared.fault.Fault.{Fault}
 use Rattle.ifdb_wire.specs.declared.reply.Reply.TheVariants as reply
-use Rattle.ifdb_model.specs.server.Log.{Entry}
+use Rattle.ifdb_row.specs.declared.slot.Slot.{Slot}
+use Rattle.ifdb_row.specs.Verdict.{written_by, verdict, last_stamp}
+use Rattle.ifdb_model.specs.server.Log.{Entry, all_tags, content_of, commits_since}
 use Rattle.ifdb_model.specs.server.Session.{Txn, Session}
-use Rattle.ifdb_model.specs.server.Step.{Reader, Form, ends, form_of, refuses, ask}
+use Rattle.ifdb_model.specs.server.Step.{Reader, Form, ends, form_of, refuses, judged, ask}
 use Rattle.ifdb_model.specs.server.Run.{State, asks, outcome_of, next}
 
 -- the form is COMMIT
@@ -40,3 +42,12 @@ RefusedCommitsEnd = (read : Reader) (log : List Entry) (s : Session) (asker : �
 abbrev pub RefusedStepsChangeNothing : Type 0
 RefusedStepsChangeNothing = (read : Reader) (st : State) (n : ℕ) (line : List ℕ) (f : Fault)
     → is_commit (read line) ≡ false → (outcome_of read st n line).reply ≡ reply.Refused f → next read st (asks n line) ≡ st
+
+-- a COMMIT is judged over the content, with all tags, by the commits since its BEGIN, at the label of now
+abbrev pub CommitsAreJudged : Type 0
+CommitsAreJudged = (log : List Entry) (s : Session) (x : Txn)
+    → judged log s x ≡ verdict (all_tags log) (content_of log) (written_by (commits_since x.begin log)) x.own s.label
+
+-- the stamp of a slot that was written since a BEGIN is above the BEGIN
+abbrev pub StampsAreAbove : Type 0
+StampsAreAbove = (log : List Entry) (begin stamp : ℕ) (p : Slot) → last_stamp (commits_since begin log) p ≡ Some stamp → begin < stamp

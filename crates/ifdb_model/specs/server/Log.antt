@@ -1,5 +1,5 @@
 -- The log: all changes of the server, in their order.
-use Rattle.std.specs.Prelude.{ℕ, ◌+◌, List, [], ◌∷◌, ◌++◌}
+use Rattle.std.specs.Prelude.{ℕ, ◌+◌, List, [], ◌∷◌, ◌++◌, drop}
 use Rattle.ifdb_label.specs.Tags.{MadeTag}
 use Rattle.ifdb_row.specs.declared.slot.Slot.{Slot}
 use Rattle.ifdb_row.specs.declared.row.Row.{Row}
@@ -50,3 +50,7 @@ abbrev pub stamped_from : ℕ → List Entry → List Commit
 stamped_from at [] = []
 stamped_from at (changes c ∷ log) = stamped_from (at + 1) log
 stamped_from at (commits ws ∷ log) = record { stamp = at + 1; writes = ws } ∷ stamped_from (at + 1) log
+
+-- the commits, with their stamps, that the log had after so many entries
+abbrev pub commits_since : ℕ → List Entry → List Commit
+commits_since begin log = stamped_from begin (drop begin log)
