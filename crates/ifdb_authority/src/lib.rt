@@ -6,8 +6,12 @@
 
 mod authority;
 mod grant;
+mod grantors;
+mod holding;
 mod laws;
+mod search;
 
 pub use authority::Authority;
-pub use grant::Grant;
+pub use grant::{Grant, GrantFault, NotGranted};
+pub use ifdb_label::OutOfMemory;
 pub use laws::{changes_touch_one_grant, grants_stand_once, more_grants_hold_more, steps_suffice};
