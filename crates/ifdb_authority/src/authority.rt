@@ -86,6 +86,7 @@ impl Authority {
         ensures value { IfOk result (λ held. held ≡ holds tags.now self.now p tag) }
         ensures owner { IsTrue (is_owner self.now p tag) → result ≡ Ok true }
     {
+        // The tag is made. `count` also says that each tag's parents are older than it.
         let made = tag.0 < tags.count();
         prove!(made);
         if self.is_owner(p, tag) {
@@ -138,7 +139,7 @@ impl Authority {
         if !self.grants.shift_remove(&Grant { from, tag, to }) {
             return Err(NotGranted);
         }
-        self.grantors.remove(Holding { holder: to, tag }, from);
+        self.grantors.remove(&Holding { holder: to, tag }, from);
         Ok(())
     }
 

@@ -52,12 +52,29 @@ impl Grantors {
         Ok(())
     }
 
-    /// One grantor less. Takes no memory.
-    pub(crate) fn remove(&mut self, to: Holding, from: Principal)
-        ensures { IsGrantedLess self.old self.new to from }
+    /// One grantor less. Takes no memory, and gives back what a list without grantors had.
+    pub(crate) fn remove(&mut self, to: &Holding, from: Principal)
+        ensures { IsGrantedLess self.old self.new to.now from }
     {
-        if let Some(grantors) = self.lists.get_mut(&to) {
+        self.strike(to, from);
+        self.forget_if_none(to);
+    }
+
+    /// Strikes a grantor from the list.
+    fn strike(&mut self, to: &Holding, from: Principal)
+        ensures { IsGrantedLess self.old self.new to.now from }
+    {
+        if let Some(grantors) = self.lists.get_mut(to) {
             grantors.retain(|grantor| *grantor != from);
+        }
+    }
+
+    /// Drops the list, if there are no grantors in it.
+    fn forget_if_none(&mut self, to: &Holding)
+        ensures { IsSameIndex self.old self.new }
+    {
+        if self.of(to).is_empty() {
+            self.lists.remove(to);
         }
     }
 }

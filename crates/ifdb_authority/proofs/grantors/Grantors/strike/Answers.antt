@@ -2,7 +2,7 @@ use Rattle.std.proofs.Common.{rules, arith, eqb}
 use Rattle.std.specs.Prelude.{not}
 use Rattle.std.proofs.lemmas.Bool.Decides.{nat_tests}
 use Rattle.std.proofs.lemmas.Fn.{filter_same}
-use Rattle.ifdb_authority.proofs.grantors.Grantors.remove.Goals as goal
+use Rattle.ifdb_authority.proofs.grantors.Grantors.strike.Goals as goal
 
 pub returns-in-Some : goal.returns-in-Some
 returns-in-Some c h =
