@@ -8,8 +8,8 @@ use Rattle.std.proofs.lemmas.List.{take_more}
 use Rattle.ifdb_label.specs.Ancestors.{has}
 use Rattle.ifdb_authority.specs.declared.grant.Grant.{Grant}
 use Rattle.ifdb_authority.specs.declared.grantors.Grantors.{Grantors}
-use Rattle.ifdb_authority.specs.Authority.{Delegation, is_same_grant, are_distinct, without, stands, granted}
-use Rattle.ifdb_authority.specs.Grantors.{holding, grant, grantors_of, IsGrantedMore, IsGrantedLess, IsIndexed}
+use Rattle.ifdb_authority.specs.Authority.{Delegation, is_same_grant, are_distinct, without, stands, granted, grant}
+use Rattle.ifdb_authority.specs.Grantors.{holding, grantors_of, IsGrantedMore, IsGrantedLess, IsIndexed}
 use Rattle.ifdb_authority.proofs.Grants.{any-push, any-without, distinct-push, distinct-without, same_grant_is, same_grant_refl}
 
 has-push : (list : List ℕ) (p q : ℕ) → has (list ++ p ∷ []) q ≡ has list q || eqb p q

@@ -7,8 +7,7 @@ use Rattle.ifdb_label.specs.Tags.{MadeTag, below, parents_of, AreWellFormed}
 use Rattle.ifdb_label.specs.Ancestors.{has}
 use Rattle.ifdb_label.proofs.TagLaws.{below_unfolds, below_refl}
 use Rattle.ifdb_authority.specs.declared.grant.Grant.{Grant}
-use Rattle.ifdb_authority.specs.Authority.{Delegation, stands, holds_in, Holds}
-use Rattle.ifdb_authority.specs.Grantors.{grant}
+use Rattle.ifdb_authority.specs.Authority.{Delegation, stands, holds_in, Holds, grant}
 use Rattle.ifdb_authority.proofs.Chains.{any_there, any_wider, any_wider_on}
 
 -- one step more of a chain: by a grant

@@ -9,8 +9,8 @@ use Rattle.ifdb_label.specs.Ancestors.{has}
 use Rattle.ifdb_label.proofs.TagLaws.{below_refl, below_trans, below_le}
 use Rattle.ifdb_authority.specs.declared.grant.Grant.{Grant}
 use Rattle.ifdb_authority.specs.declared.holding.Holding.{Holding}
-use Rattle.ifdb_authority.specs.Authority.{Delegation, is_owner, is_same_grant, stands, holds_in, Holds, holds, steps_of}
-use Rattle.ifdb_authority.specs.Grantors.{grant, holding, is_same_holding}
+use Rattle.ifdb_authority.specs.Authority.{Delegation, is_owner, is_same_grant, stands, holds_in, Holds, holds, steps_of, grant}
+use Rattle.ifdb_authority.specs.Grantors.{holding, is_same_holding}
 use Rattle.ifdb_authority.specs.Search.{is_found, is_grantor, leads, IsExtended, AreAbove, HasAbove}
 use Rattle.ifdb_authority.proofs.Chains.{some_grant}
 use Rattle.ifdb_authority.proofs.SearchLemmas.{found-push, same_holding_is, extended_length}

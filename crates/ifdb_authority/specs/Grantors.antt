@@ -7,18 +7,17 @@ use Rattle.ifdb_label.specs.Ancestors.{has}
 use Rattle.ifdb_authority.specs.declared.grant.Grant.{Grant}
 use Rattle.ifdb_authority.specs.declared.holding.Holding.{Holding}
 use Rattle.ifdb_authority.specs.declared.grantors.Grantors.{Grantors}
-use Rattle.ifdb_authority.specs.Authority.{is_same_grant, are_distinct}
+use Rattle.ifdb_authority.specs.Authority.{grant, is_same_grant, are_distinct}
 
+-- a principal and a tag
 abbrev pub holding : ℕ → ℕ → Holding
 holding holder tag = record { holder = holder; tag = tag }
-
-abbrev pub grant : ℕ → ℕ → ℕ → Grant
-grant from tag to = record { from = from; tag = tag; to = to }
 
 -- one principal and one tag
 abbrev pub is_same_holding : Holding → Holding → Bool
 is_same_holding h i = (h.holder == i.holder) && (h.tag == i.tag)
 
+-- the grantors of a list, if there is one
 abbrev pub listed : Option (Vec ℕ) → List ℕ
 listed None = []
 listed (Some grantors) = grantors.items
@@ -35,6 +34,7 @@ IsGrantedMore old new to from = (h : Holding) → grantors_of new h ≡ (if is_s
 abbrev pub IsGrantedLess : Grantors → Grantors → Holding → ℕ → Type 0
 IsGrantedLess old new to from = (h : Holding) → grantors_of new h ≡ (if is_same_holding to h then filter (λ p. not (p == from)) (grantors_of old h) else grantors_of old h)
 
+-- all grantors as before
 abbrev pub IsSameIndex : Grantors → Grantors → Type 0
 IsSameIndex old new = (h : Holding) → grantors_of new h ≡ grantors_of old h
 

@@ -4,8 +4,8 @@ use Rattle.std.specs.List.{list_any, list_all}
 use Rattle.ifdb_label.specs.Tags.{MadeTag, below}
 use Rattle.ifdb_label.specs.Ancestors.{has}
 use Rattle.ifdb_authority.specs.declared.holding.Holding.{Holding}
-use Rattle.ifdb_authority.specs.Authority.{Delegation, stands, holds}
-use Rattle.ifdb_authority.specs.Grantors.{grant, is_same_holding}
+use Rattle.ifdb_authority.specs.Authority.{Delegation, grant, stands, holds}
+use Rattle.ifdb_authority.specs.Grantors.{is_same_holding}
 
 -- the holding is in the list
 abbrev pub is_found : List Holding → Holding → Bool

@@ -1,7 +1,6 @@
 // Who made each tag, and the grants that stand.
 ghost use Rattle.std.specs.Prelude.{◌≡◌, ◌↔◌, ◌<◌, Ok, Err, IfOk, OnOk, OnErr, IsErr, IsTrue, true, false, length};
-ghost use Rattle.ifdb_authority.specs.Authority.{granted, holds, is_owner, no_authority, owned, revoked, stands};
-ghost use Rattle.ifdb_authority.specs.Grantors.{grant};
+ghost use Rattle.ifdb_authority.specs.Authority.{granted, holds, is_owner, no_authority, owned, revoked, stands, grant};
 ghost use Rattle.ifdb_authority.specs.Search.{IsExtended, is_grantor};
 
 use crate::grantors::Grantors;

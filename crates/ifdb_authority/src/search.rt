@@ -25,8 +25,8 @@ pub(crate) fn tags_above(alloc: Global, tags: &Tags, tag: Tag) -> Result<Vec<Tag
     Ok(above)
 }
 
-/// Whether a principal holds a tag, by tags of the list alone beside it: where the list has all tags that the tag is below,
-/// whether the principal holds it.
+/// Whether a principal holds a tag, as far as grants and the compounds of the list show: exact where the list has all tags
+/// that the tag is below.
 ///
 /// Goes back from the principal over grantors and tags above, each pair once, until it finds one who made their tag.
 pub(crate) fn is_held(

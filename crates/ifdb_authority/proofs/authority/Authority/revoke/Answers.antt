@@ -1,6 +1,7 @@
 use Rattle.std.proofs.Common.{sym, subst, ◌∙◌, List, rules}
 use Rattle.ifdb_authority.specs.declared.grant.Grant.{Grant}
-use Rattle.ifdb_authority.specs.Grantors.{IsIndexed, grant}
+use Rattle.ifdb_authority.specs.Grantors.{IsIndexed}
+use Rattle.ifdb_authority.specs.Authority.{grant}
 use Rattle.ifdb_authority.proofs.GrantorLemmas.{indexed-less, remove_key-distinct}
 use Rattle.ifdb_authority.proofs.authority.Authority.revoke.Goals as goal
 
