@@ -11,24 +11,24 @@ use Rattle.ifdb_authority.specs.Laws.{IsWider}
 use Rattle.ifdb_authority.proofs.Grants.{same_grant_refl, same_grant_is, stands-revoked, fewer-without}
 
 -- an element passes, and it is in the list
-some_grant : (f : Grant → Bool) (r : Bool) (grants : List Grant) → ((g : Grant) → f g ≡ true → list_any (is_same_grant g) grants ≡ true → r ≡ true)
+pub some_grant : (f : Grant → Bool) (r : Bool) (grants : List Grant) → ((g : Grant) → f g ≡ true → list_any (is_same_grant g) grants ≡ true → r ≡ true)
     → list_any f grants ≡ true → r ≡ true
 some_grant f r [] h a = grind (arith, nat_tests)
 some_grant f r (g ∷ grants) h a = grind (arith, nat_tests, h g, same_grant_refl g, some_grant f r grants (λ x i j. h x i (grind (arith, nat_tests))))
 
 -- a grant that is in the list and passes
-any_there : (f : Grant → Bool) (g : Grant) (grants : List Grant) → list_any (is_same_grant g) grants ≡ true → f g ≡ true → list_any f grants ≡ true
+pub any_there : (f : Grant → Bool) (g : Grant) (grants : List Grant) → list_any (is_same_grant g) grants ≡ true → f g ≡ true → list_any f grants ≡ true
 any_there f g [] h e = grind (arith, nat_tests)
 any_there f g (x ∷ grants) h e =
     let same : is_same_grant g x ≡ true → f x ≡ true = λ i. ap f (sym (same_grant_is g x i)) ∙ e in
     grind (arith, nat_tests, any_there f g grants, same)
 
-any_wider : (f h : ℕ → Bool) (list : List ℕ) → ((u : ℕ) → f u ≡ true → h u ≡ true) → list_any f list ≡ true → list_any h list ≡ true
+pub any_wider : (f h : ℕ → Bool) (list : List ℕ) → ((u : ℕ) → f u ≡ true → h u ≡ true) → list_any f list ≡ true → list_any h list ≡ true
 any_wider f h [] w a = a
 any_wider f h (u ∷ list) w a = grind (arith, nat_tests, any_wider f h list w, w u)
 
 -- a wider test, of what passes a third, which all do
-any_wider_on : (q f h : ℕ → Bool) (list : List ℕ) → list_all q list ≡ true → ((u : ℕ) → q u ≡ true → f u ≡ true → h u ≡ true) → list_any f list ≡ true → list_any h list ≡ true
+pub any_wider_on : (q f h : ℕ → Bool) (list : List ℕ) → list_all q list ≡ true → ((u : ℕ) → q u ≡ true → f u ≡ true → h u ≡ true) → list_any f list ≡ true → list_any h list ≡ true
 any_wider_on q f h [] b w a = a
 any_wider_on q f h (u ∷ list) b w a = grind (arith, nat_tests, any_wider_on q f h list, w u)
 

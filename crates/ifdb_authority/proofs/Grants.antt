@@ -16,7 +16,7 @@ same_grant_is g h e =
     let to : g.to ≡ h.to = grind (arith, nat_tests) in
     λ i. record { from = from i; tag = tag i; to = to i }
 
-any-push : (p : Grant → Bool) (grants : List Grant) (g : Grant) → list_any p (grants ++ g ∷ []) ≡ list_any p grants || p g
+pub any-push : (p : Grant → Bool) (grants : List Grant) (g : Grant) → list_any p (grants ++ g ∷ []) ≡ list_any p grants || p g
 any-push p [] g = grind (arith, nat_tests)
 any-push p (h ∷ grants) g = grind (arith, nat_tests, any-push p grants g)
 
@@ -30,14 +30,14 @@ stands-granted a g h = by (stands a g) refl where
   by true e = grind (arith, nat_tests, there a.grants e)
   by false e = any-push (is_same_grant h) a.grants g
 
-any-without : (g h : Grant) (grants : List Grant) → list_any (is_same_grant h) (without g grants) ≡ list_any (is_same_grant h) grants && not (is_same_grant h g)
+pub any-without : (g h : Grant) (grants : List Grant) → list_any (is_same_grant h) (without g grants) ≡ list_any (is_same_grant h) grants && not (is_same_grant h g)
 any-without g h [] = refl
 any-without g h (x ∷ grants) = grind (arith, nat_tests, any-without g h grants)
 
 pub stands-revoked : (a : Delegation) (g h : Grant) → stands (revoked a g) h ≡ stands a h && not (is_same_grant h g)
 stands-revoked a g h = any-without g h a.grants
 
-distinct-push : (grants : List Grant) (g : Grant) → list_any (is_same_grant g) grants ≡ false → are_distinct grants ≡ true → are_distinct (grants ++ g ∷ []) ≡ true
+pub distinct-push : (grants : List Grant) (g : Grant) → list_any (is_same_grant g) grants ≡ false → are_distinct grants ≡ true → are_distinct (grants ++ g ∷ []) ≡ true
 distinct-push [] g e d = refl
 distinct-push (x ∷ grants) g e d = grind (arith, nat_tests, distinct-push grants g, any-push (is_same_grant x) grants g)
 

@@ -1,2 +1,7 @@
+mod AboveLemmas
 pub mod Chains
+pub mod GrantorLemmas
 pub mod Grants
+mod HoldsLemmas
+mod SearchLemmas
+mod Searched

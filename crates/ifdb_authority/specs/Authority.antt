@@ -20,6 +20,10 @@ is_some_of (Some q) p = q == p
 abbrev pub is_owner : Delegation → ℕ → ℕ → Bool
 is_owner a p t = is_some_of (slice_get a.owners t) p
 
+-- the grant of a tag by one principal to another
+abbrev pub grant : ℕ → ℕ → ℕ → Grant
+grant from tag to = record { from = from; tag = tag; to = to }
+
 -- two grants by one principal, of one tag, to one principal
 abbrev pub is_same_grant : Grant → Grant → Bool
 is_same_grant g h = (g.from == h.from) && ((g.tag == h.tag) && (g.to == h.to))

@@ -1,12 +1,16 @@
 -- What the laws say.
 use Rattle.std.specs.Prelude.{◌≡◌, ℕ, ◌<◌, true, ◌&&◌, ◌||◌, not, length, List}
-use Rattle.ifdb_label.specs.Tags.{MadeTag, AreWellFormed}
+use Rattle.ifdb_label.specs.Tags.{MadeTag, AreWellFormed, below}
 use Rattle.ifdb_authority.specs.declared.grant.Grant.{Grant}
 use Rattle.ifdb_authority.specs.Authority.{Delegation, is_same_grant, stands, are_distinct, Holds, holds, granted, revoked}
 
 -- of a made tag, a chain of any length gives the answer of `holds`
 abbrev pub StepsSuffice : Type 0
 StepsSuffice = (tags : List MadeTag) (a : Delegation) (p t : ℕ) → AreWellFormed tags → t < length tags → Holds tags a p t → holds tags a p t ≡ true
+
+-- who holds a tag holds each tag that is below it, at any depth
+abbrev pub CompoundsGiveMembers : Type 0
+CompoundsGiveMembers = (tags : List MadeTag) (a : Delegation) (p t u : ℕ) → AreWellFormed tags → below tags t u ≡ true → Holds tags a p u → Holds tags a p t
 
 -- the same owners, and at least these grants
 pub record IsWider (a b : Delegation) : Type 0 where

@@ -1,2 +1,4 @@
 pub mod Authority
+pub mod Grantors
 pub mod Laws
+pub mod Search

@@ -1,6 +1,11 @@
-// Grants.
+// Grants, and why one isn't made or taken away.
+ghost use Rattle.std.specs.Cmp.Rules.{hashing};
+ghost use Rattle.std.proofs.Common.{rules};
+
 use ifdb_label::Tag;
 use ifdb_value::Principal;
+use std::alloc::AllocError;
+use std::hash::{Hash, Hasher};
 
 /// That one principal granted a tag to another.
 #[derive(Clone, Copy, Debug, PartialEq, Eq)]
@@ -12,3 +17,42 @@ pub struct Grant {
     /// To whom.
     pub to: Principal,
 }
+
+impl Hash for Grant {
+    ghost use Rattle.std.specs.Prelude.{◌++◌};
+    ghost use Rattle.std.specs.Hash as fed;
+
+    ghost hash_input = { λ g. fed.u64 g.from ++ fed.u64 g.tag ++ fed.u64 g.to };
+
+    ghost respects_eq = { Prim.search (hashing, rules) };
+
+    fn hash<H: Hasher>(&self, state: &mut H) {
+        state.write_u64(self.from.0);
+        state.write_u64(self.tag.0);
+        state.write_u64(self.to.0);
+    }
+}
+
+/// Why a tag was not granted.
+#[derive(Clone, Copy, Debug, PartialEq, Eq)]
+pub enum GrantFault {
+    /// The grantor doesn't hold the tag.
+    NoAuthority,
+    /// An allocation was refused.
+    OutOfMemory,
+}
+
+impl From<AllocError> for GrantFault {
+    ghost use Rattle.std.specs.Prelude.{◌≡◌};
+    ghost use Rattle.ifdb_authority.specs.declared.grant.GrantFault.{GrantFault};
+
+    ghost from_gives = { λ _ fault. fault ≡ GrantFault.OutOfMemory };
+
+    fn from(_: AllocError) -> Self {
+        GrantFault::OutOfMemory
+    }
+}
+
+/// That the grant to be taken away doesn't stand.
+#[derive(Clone, Copy, Debug, PartialEq, Eq)]
+pub struct NotGranted;

@@ -6,8 +6,18 @@
 
 mod authority;
 mod grant;
+mod grantors;
+mod holding;
 mod laws;
+mod search;
 
 pub use authority::Authority;
-pub use grant::Grant;
-pub use laws::{changes_touch_one_grant, grants_stand_once, more_grants_hold_more, steps_suffice};
+pub use grant::{Grant, GrantFault, NotGranted};
+pub use ifdb_label::OutOfMemory;
+pub use laws::{
+    changes_touch_one_grant, compounds_give_members, grants_stand_once, more_grants_hold_more,
+    steps_suffice,
+};
+
+#[cfg(test)]
+mod tests;

@@ -1,0 +1,28 @@
+-- Lists of the tags above a tag.
+use Rattle.std.proofs.Common.{◌≡◌, ℕ, Bool, true, false, List, [], ◌∷◌, refl, sym, arith}
+use Rattle.std.specs.List.{list_all}
+use Rattle.std.proofs.lemmas.Bool.Decides.{nat_tests}
+use Rattle.ifdb_label.specs.Tags.{MadeTag, below, AreWellFormed}
+use Rattle.ifdb_label.specs.Ancestors.{has}
+use Rattle.ifdb_label.proofs.TagLaws.{below_le}
+use Rattle.ifdb_authority.specs.Authority.{Delegation, holds}
+use Rattle.ifdb_authority.specs.Search.{AreAbove, IsAbove, HasAbove, IsAnswer}
+
+all_listed : (f : ℕ → Bool) (list : List ℕ) → ((u : ℕ) → has list u ≡ true → f u ≡ true) → list_all f list ≡ true
+all_listed f [] h = refl
+all_listed f (u ∷ list) h = grind (arith, nat_tests, h u, all_listed f list (λ v e. h v (grind (arith, nat_tests))))
+
+pub AreAbove-from_all : (tags : List MadeTag) (t : ℕ) (above : List ℕ) → IsAbove tags t above → AreAbove tags t above
+AreAbove-from_all tags t above all = all_listed (λ u. below tags t u) above (λ u e. grind (arith, nat_tests, all u))
+
+pub HasAbove-from_all : (tags : List MadeTag) (t : ℕ) (above : List ℕ) → AreWellFormed tags → IsAbove tags t above → HasAbove tags t above
+HasAbove-from_all tags t above w all u e = grind (arith, nat_tests, all u, below_le tags w t u e)
+
+same_answer : (a b : Bool) → (a ≡ true → b ≡ true) → (b ≡ true → a ≡ true) → a ≡ b
+same_answer true b f g = sym (f refl)
+same_answer false true f g = g refl
+same_answer false false f g = refl
+
+-- the answer by all tags above is exact
+pub exact_answer : (tags : List MadeTag) (a : Delegation) (p t : ℕ) (above : List ℕ) (held : Bool) → HasAbove tags t above → IsAnswer tags a p t above held → held ≡ holds tags a p t
+exact_answer tags a p t above held has_all answer = same_answer held (holds tags a p t) answer.sound (answer.complete has_all)
