@@ -13,6 +13,7 @@ use Rattle.ifdb_bound.specs.declared.condition.BoundCond.TheOpen.{BoundCond-F}
 use Rattle.ifdb_bound.specs.Folds.{fold_cond}
 use Rattle.ifdb_bound.specs.Expressions.{column_value}
 
+-- the value of an operand
 abbrev pub operand_value : List (List Value) → BoundOperand → Value
 operand_value rows (o.Column c) = column_value rows c
 operand_value rows (o.Literal v) = v
@@ -26,9 +27,11 @@ compares how.AtMost a b = is_le (value_cmp a b)
 compares how.Greater a b = is_lt (value_cmp b a)
 compares how.AtLeast a b = is_le (value_cmp b a)
 
+-- the test that is the value
 abbrev pub itself : Bool → Bool
 itself b = b
 
+-- what a node gives, where each part has given whether it holds
 abbrev pub cond_step : List (List Value) → BoundCond-F Bool → Bool
 cond_step rows (BoundCond-F.Or parts) = list_any itself parts
 cond_step rows (BoundCond-F.And parts) = list_all itself parts

@@ -32,6 +32,7 @@ abbrev pub operate : (ℤ → ℤ → ℤ) → Option Value → Option Value →
 operate f (Some (value.Int a)) (Some (value.Int b)) = in_range (f a b)
 operate f _ _ = None
 
+-- what a node gives, where each part has given its value
 abbrev pub expr_step : List (List Value) → BoundExpr-F (Option Value) → Option Value
 expr_step rows (BoundExpr-F.Column c) = Some (column_value rows c)
 expr_step rows (BoundExpr-F.Literal v) = Some v

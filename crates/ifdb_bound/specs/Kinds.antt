@@ -20,6 +20,7 @@ use Rattle.ifdb_bound.specs.declared.select.OrderKey.{OrderKey}
 use Rattle.ifdb_bound.specs.Folds.{fold_expr, fold_cond}
 use Rattle.ifdb_bound.specs.Conditions.{itself}
 
+-- two kinds are one
 abbrev pub same_kind : ValueKind → ValueKind → Bool
 same_kind kind.Int kind.Int = true
 same_kind kind.Text kind.Text = true
@@ -41,6 +42,7 @@ arithmetic_kind _ _ = None
 abbrev pub column_kind : List (List ValueKind) → BoundColumn → Option ValueKind
 column_kind kinds c = slice_get (slice_index_or kinds c.source []) c.column
 
+-- the kind of a node, where each part has given its kind
 abbrev pub kind_step : List (List ValueKind) → BoundExpr-F (Option ValueKind) → Option ValueKind
 kind_step kinds (BoundExpr-F.Column c) = column_kind kinds c
 kind_step kinds (BoundExpr-F.Literal v) = Some (kind_of v)
@@ -52,10 +54,12 @@ kind_step kinds (BoundExpr-F.Mul a b) = arithmetic_kind a b
 unfoldable pub expr_kind : List (List ValueKind) → BoundExpr → Option ValueKind
 expr_kind kinds = fold_expr (Option ValueKind) (kind_step kinds)
 
+-- the kind of an operand, or nothing where it is a column that isn't there
 abbrev pub operand_kind : List (List ValueKind) → BoundOperand → Option ValueKind
 operand_kind kinds (o.Column c) = column_kind kinds c
 operand_kind kinds (o.Literal v) = Some (kind_of v)
 
+-- whether a node fits, where each part has given whether it does
 abbrev pub fits_step : List (List ValueKind) → BoundCond-F Bool → Bool
 fits_step kinds (BoundCond-F.Or parts) = list_all itself parts
 fits_step kinds (BoundCond-F.And parts) = list_all itself parts

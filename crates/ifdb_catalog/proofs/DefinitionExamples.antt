@@ -1,5 +1,5 @@
 -- Worked examples of CREATE TABLE and CREATE VIEW, by computation.
-use Rattle.std.proofs.Common.{◌≡◌, refl, List, [], ◌∷◌, ℕ, Some, None, Ok, Err}
+use Rattle.std.proofs.Common.{◌≡◌, refl, List, [], ◌∷◌, ℕ, Some, None, Ok, Err, true, false}
 use Rattle.std.specs.Prelude.{codes}
 use Rattle.ifdb_value.specs.declared.value.Compare.TheVariants as how
 use Rattle.ifdb_value.specs.declared.column.Column.{Column}
@@ -17,9 +17,10 @@ use Rattle.ifdb_bound.specs.declared.select.BoundItem.TheVariants as bi
 use Rattle.ifdb_bound.specs.declared.request.Bound.TheVariants as b
 use Rattle.ifdb_bound.specs.declared.request.Change.TheVariants as change
 use Rattle.ifdb_wire.specs.declared.fault.Fault.TheVariants as fault
-use Rattle.ifdb_catalog.specs.Public.{refusal}
+use Rattle.ifdb_catalog.specs.Public.{Public, opening, has_tags, refusal}
+use Rattle.ifdb_catalog.specs.Fits.{state_fits}
 use Rattle.ifdb_catalog.specs.Binding.{bound}
-use Rattle.ifdb_catalog.proofs.Site.{int, bare, dotted, shows, source, query, numbers, texts, at, gives, of_table, bound_query, note, bill, id, body, pence, due_view, w_view, site}
+use Rattle.ifdb_catalog.proofs.Site.{int, bare, dotted, shows, source, query, numbers, texts, at, gives, of_table, bound_query, note, bill, id, body, pence, due_view, w_view, site, asked}
 use Rattle.ifdb_catalog.proofs.Computing.{binding}
 
 -- ---- CREATE TABLE
@@ -190,3 +191,40 @@ owner_holds = refl
 -- guest doesn't hold b
 owner_lacks : refusal site (change.View (record w_view { owner = 1 })) ≡ Some fault.NoAuthority
 owner_lacks = refl
+
+-- ---- the state of the examples, made by requests
+
+abbrev named_tags : Public
+named_tags = asked (asked opening 0 (q.CreateTag (codes "a") false [])) 0 (q.CreateTag (codes "b") false [])
+
+abbrev with_tables : Public
+with_tables =
+    asked (asked named_tags
+    0 (table note (numbers id ∷ texts body ∷ []) (id ∷ []) []))
+    0 (table bill (numbers id ∷ numbers pence ∷ []) (id ∷ []) [])
+
+abbrev with_guest : Public
+with_guest = asked (asked with_tables 0 (q.CreatePrincipal (codes "guest") (codes "g"))) 0 (q.Grant (codes "a") (codes "guest"))
+
+abbrev with_views : Public
+with_views =
+    asked (asked with_guest
+    1 (bills (codes "due")))
+    0 (view (codes "w") (query (shows (bare id) ∷ []) (source note ∷ [])) (codes "b" ∷ []))
+
+site_is_made : with_views ≡ site
+unfolding binding
+site_is_made = refl
+
+-- once the grant is taken away, the owner of `due` holds its tag no more
+owner_held : has_tags site 1 (0 ∷ []) ≡ true
+owner_held = refl
+
+owner_holds_no_more : has_tags (asked site 0 (q.Revoke (codes "a") (codes "guest"))) 1 (0 ∷ []) ≡ false
+unfolding binding
+owner_holds_no_more = refl
+
+-- a state that its requests made fits
+site_fits : state_fits site ≡ true
+unfolding binding
+site_fits = refl

@@ -1,12 +1,20 @@
 -- A reference is resolved exactly where it may mean one column and no other.
-use Rattle.std.proofs.Common.{◌≡◌, ◌↔◌, refl, ap, sym, ◌∙◌, subst, ℕ, zero, suc, ◌+◌, ◌<◌, Bool, true, false, ◌&&◌, ◌||◌, ◌==◌, List, [], ◌∷◌, ◌++◌, length, Some, cond, arith}
+use Rattle.std.proofs.Common.{◌≡◌, ◌↔◌, refl, ap, sym, ◌∙◌, subst, ℕ, zero, suc, ◌+◌, ◌<◌, Bool, true, false, ◌&&◌, ◌||◌, ◌==◌, List, [], ◌∷◌, ◌++◌, length, Option, None, Some, cond, arith}
 use Rattle.std.specs.Prelude.{not, nat_lt, bytes_eq, slice_index_or}
 use Rattle.std.specs.List.{list_all, list_any}
 use Rattle.std.proofs.lemmas.Bool.Decides.{nat_tests}
+use Rattle.std.proofs.lemmas.Bool.{ltb-true}
+use Rattle.std.proofs.lemmas.List.{get_or-map, length-map}
+use Rattle.std.proofs.lemmas.Option.{slice_get-get_or}
+use Rattle.std.specs.Option.{is_some}
+use Rattle.std.specs.Prelude.{slice_get}
+use Rattle.ifdb_value.specs.declared.value.ValueKind.{ValueKind}
+use Rattle.ifdb_value.specs.declared.value.ValueKind.TheVariants as kind
+use Rattle.ifdb_bound.specs.Kinds.{column_kind}
 use Rattle.ifdb_value.specs.declared.column.Column.{Column}
 use Rattle.ifdb_syntax.specs.declared.expression.ColumnRef.{ColumnRef}
 use Rattle.ifdb_bound.specs.declared.expression.BoundColumn.{BoundColumn}
-use Rattle.ifdb_catalog.specs.Scope.{ScopeSource, Scope, no_column, no_source, places_named, may_be_of, meant_from, the_one, column_or, resolve, may_mean}
+use Rattle.ifdb_catalog.specs.Scope.{ScopeSource, Scope, kinds_of, kinds_in, no_column, no_source, places_named, may_be_of, meant_from, the_one, column_or, resolve, column_at, is_column, may_mean}
 use Rattle.ifdb_catalog.specs.Queries.{same_column}
 use Rattle.ifdb_catalog.specs.Laws.{IsTheOne}
 
@@ -213,3 +221,26 @@ resolves_the_one scope r c = (
   is_the_one scope r c (meant_from r 0 scope) (found_are_meant scope r),
   is_found scope r c (meant_from r 0 scope) (found_are_meant scope r) (meant_are_apart r 0 scope),
 )
+
+-- ---- a column that is resolved is there
+
+get_stands : {X : Type 0} (xs : List X) (n : ℕ) (d : X) → nat_lt n (length xs) ≡ true → is_some (slice_get xs n) ≡ true
+get_stands xs n d h = ap is_some (slice_get-get_or xs n d (ltb-true n (length xs) h))
+
+meant_stands : (scope : Scope) (r : ColumnRef) (c : BoundColumn) → may_mean scope r c ≡ true → is_some (column_kind (kinds_in scope) c) ≡ true
+meant_stands scope r c h =
+    let s : ScopeSource = slice_index_or scope c.source no_source in
+    let there : nat_lt c.source (length scope) ≡ true = grind (arith, nat_tests) in
+    let within : nat_lt c.column (length s.columns) ≡ true = grind (arith, nat_tests) in
+    let kinds : slice_index_or (kinds_in scope) c.source [] ≡ kinds_of s.columns =
+    get_or-map (λ (x : ScopeSource). kinds_of x.columns) scope c.source no_source [] (ltb-true c.source (length scope) there) in
+    let many : length (kinds_of s.columns) ≡ length s.columns = length-map s.columns (λ (x : Column). x.kind) in
+    subst (λ (k : List ValueKind). is_some (slice_get k c.column) ≡ true) (sym kinds)
+    (get_stands (kinds_of s.columns) c.column kind.Int (subst (λ (n : ℕ). nat_lt c.column n ≡ true) (sym many) within))
+
+pub known_stands : (scope : Scope) (r : ColumnRef) → is_column scope r ≡ true → is_some (column_kind (kinds_in scope) (column_at scope r)) ≡ true
+known_stands scope r h = by (resolve scope r) h (λ c e. meant_stands scope r c ((resolves_the_one scope r c).0 e).meant) where
+  by : (o : Option BoundColumn) → is_some o ≡ true → ((c : BoundColumn) → o ≡ Some c → is_some (column_kind (kinds_in scope) c) ≡ true)
+      → is_some (column_kind (kinds_in scope) (column_or (record { source = 0; column = 0 }) o)) ≡ true
+  by None k f = grind (arith)
+  by (Some c) k f = f c refl

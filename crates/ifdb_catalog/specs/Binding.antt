@@ -25,9 +25,11 @@ use Rattle.ifdb_catalog.specs.Queries.{place_or, is_relation, is_view, output, s
 use Rattle.ifdb_catalog.specs.Statements.{is_tag, are_tags, tag_at, tags_named, label_named, table_number, schema_named, columns_named, is_column_of, are_listed, row_fits, arranged, is_known_assignment, assigns_key, assignments_fit, bound_assignment}
 use Rattle.ifdb_catalog.specs.Definitions.{tag_kind, names_twice, is_known_foreign, refers_to_view, bound_foreign, foreign_fits, bound_schema, is_from_view, names_fit, bound_view}
 
+-- the name is that of a principal
 abbrev pub is_principal : Public → List ℕ → Bool
 is_principal p name = is_some (principal_named p name)
 
+-- the number of a principal that is known to be one
 abbrev pub principal_at : Public → List ℕ → ℕ
 principal_at p name = place_or (principal_named p name)
 

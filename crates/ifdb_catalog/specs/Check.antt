@@ -9,6 +9,7 @@ pub record Check : Type 0 where
   pub comes : Bool
 
 infixl 5 ◌when◌
+-- a refusal that comes in this case
 abbrev pub ◌when◌ : Fault → Bool → Check
 fault when comes = record { fault = fault; comes = comes }
 

@@ -18,6 +18,7 @@ use Rattle.ifdb_catalog.specs.Statements.{label_named, table_number, is_column_o
 
 -- ---- tags
 
+-- the kind of a tag, by the word COMPOUND
 abbrev pub tag_kind : Bool → TagKind
 tag_kind true = Compound
 tag_kind false = Plain
@@ -32,6 +33,7 @@ names_twice columns key = not (are_distinct (map (λ (c : Column). c.name) colum
 abbrev pub is_known_foreign : Public → List Column → ForeignKey → Bool
 is_known_foreign p columns f = list_all (is_column_of columns) f.columns && is_relation p f.parent
 
+-- the parent of a foreign key is a view
 abbrev pub refers_to_view : Public → ForeignKey → Bool
 refers_to_view p f = is_view p f.parent
 
@@ -42,6 +44,7 @@ same_kinds columns (i ∷ places) others (j ∷ others_places) =
     agree (slice_get (kinds_of columns) i) (slice_get (kinds_of others) j) && same_kinds columns places others others_places
 same_kinds columns _ others _ = false
 
+-- a foreign key with places for its columns and a number for its parent
 abbrev pub bound_foreign : Public → List Column → ForeignKey → Foreign
 bound_foreign p columns f = record { columns = map (place_at columns) f.columns; parent = table_number p f.parent }
 
@@ -49,6 +52,7 @@ bound_foreign p columns f = record { columns = map (place_at columns) f.columns;
 abbrev pub foreign_fits : Public → List Column → Foreign → Bool
 foreign_fits p columns f = let parent = table_at p f.parent in same_kinds columns f.columns parent.columns parent.key
 
+-- the table that CREATE TABLE defines
 abbrev pub bound_schema : Public → List ℕ → List Column → List (List ℕ) → List ForeignKey → Schema
 bound_schema p name columns key foreign = record {
   name = name;
@@ -59,6 +63,7 @@ bound_schema p name columns key foreign = record {
 
 -- ---- views
 
+-- a view stands behind FROM
 abbrev pub is_from_view : Public → Select → Bool
 is_from_view p s = list_any (λ (x : Source). is_view p x.name) s.sources
 
@@ -68,6 +73,7 @@ given [] = []
 given (None ∷ names) = given names
 given (Some n ∷ names) = n ∷ given names
 
+-- there is a name
 abbrev pub is_given : Option (List ℕ) → Bool
 is_given None = false
 is_given (Some n) = true
@@ -76,6 +82,7 @@ is_given (Some n) = true
 abbrev pub names_fit : List (Option (List ℕ)) → Bool
 names_fit names = list_all is_given names && are_distinct (given names)
 
+-- the view that CREATE VIEW defines
 abbrev pub bound_view : Public → ℕ → List ℕ → Scope → Select → List (List ℕ) → ViewDef
 bound_view p asker name scope s tags = record {
   name = name;

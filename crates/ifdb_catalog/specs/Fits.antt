@@ -25,15 +25,19 @@ use Rattle.ifdb_catalog.specs.Definitions.{foreign_fits}
 
 -- ---- numbers
 
+-- the number is that of a principal
 abbrev pub is_principal : Public → ℕ → Bool
 is_principal p n = nat_lt n (length p.principals)
 
+-- the number is that of a tag
 abbrev pub is_tag : Public → ℕ → Bool
 is_tag p t = nat_lt t (length p.tags)
 
+-- the number is that of a table
 abbrev pub is_table : Public → ℕ → Bool
 is_table p t = nat_lt t (length p.tables)
 
+-- the number is that of a table or view
 abbrev pub is_relation : Public → Relation → Bool
 is_relation p (relation.Table t) = is_table p t
 is_relation p (relation.View v) = nat_lt v (length p.views)
@@ -48,21 +52,26 @@ label_fits p label = are_made (length p.tags) label && is_rising label
 abbrev pub source_kinds : Public → List BoundSource → List (List ValueKind)
 source_kinds p sources = map (λ (s : BoundSource). kinds_of (relation_columns p (Some s.relation))) sources
 
+-- the sources of a query stand, and its terms fit their columns
 abbrev pub query_fits : Public → BoundSelect → Bool
 query_fits p s = list_all (λ (x : BoundSource). is_relation p x.relation) s.sources && select_fits (source_kinds p s.sources) s
 
 -- ---- tables and views
 
+-- the parent of a foreign key stands, and its primary key has the same kinds
 abbrev pub foreign_key_fits : Public → List Column → Foreign → Bool
 foreign_key_fits p columns f = is_table p f.parent && foreign_fits p columns f
 
+-- the places of a table's primary key are there, and its foreign keys fit
 abbrev pub schema_fits : Public → Schema → Bool
 schema_fits p t = list_all (λ place. nat_lt place (length t.columns)) t.key && list_all (foreign_key_fits p t.columns) t.foreign
 
+-- it is a table
 abbrev pub is_of_table : Relation → Bool
 is_of_table (relation.Table t) = true
 is_of_table (relation.View v) = false
 
+-- the source is a table
 abbrev pub is_over_table : BoundSource → Bool
 is_over_table s = is_of_table s.relation
 
@@ -76,6 +85,7 @@ view_fits p v =
 
 -- ---- requests
 
+-- what a change names stands, and what it defines fits
 abbrev pub change_fits : Public → Change → Bool
 change_fits p (change.Principal asker name key) = true
 change_fits p (change.Tag asker name kind parents) = are_made (length p.tags) parents && are_compound (tags_of p) parents
@@ -93,6 +103,7 @@ abbrev pub assignments_fit : Schema → List BoundAssignment → Bool
 assignments_fit t assignments =
     list_all (spares_key t) assignments && list_all (assignment_fits t.columns (kinds_of t.columns ∷ [])) assignments
 
+-- what a request names stands, and its trees fit
 abbrev pub bound_fits : Public → Bound → Bool
 bound_fits p (b.Change c) = change_fits p c
 bound_fits p (b.SetLabel label) = label_fits p label

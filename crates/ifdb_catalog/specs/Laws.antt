@@ -1,13 +1,15 @@
 -- What the laws say.
 use Rattle.std.specs.Prelude.{◌≡◌, ◌↔◌, ℕ, true, Ok, Some}
+use Rattle.std.specs.Option.{is_some}
 use Rattle.ifdb_label.specs.Tags.{AreWellFormed}
 use Rattle.ifdb_syntax.specs.declared.request.Request.{Request}
 use Rattle.ifdb_bound.specs.declared.request.Bound.{Bound}
 use Rattle.ifdb_bound.specs.declared.request.Change.{Change}
 use Rattle.ifdb_catalog.specs.Public.{Public, opening, tags_of, changed}
 use Rattle.ifdb_syntax.specs.declared.expression.ColumnRef.{ColumnRef}
+use Rattle.ifdb_bound.specs.Kinds.{column_kind}
 use Rattle.ifdb_bound.specs.declared.expression.BoundColumn.{BoundColumn}
-use Rattle.ifdb_catalog.specs.Scope.{Scope, may_mean, resolve}
+use Rattle.ifdb_catalog.specs.Scope.{Scope, kinds_in, may_mean, resolve, column_at, is_column}
 use Rattle.ifdb_catalog.specs.Binding.{bound}
 use Rattle.ifdb_catalog.specs.Fits.{bound_fits, change_fits, state_fits}
 
@@ -32,3 +34,7 @@ pub record IsTheOne (scope : Scope) (r : ColumnRef) (c : BoundColumn) : Type 0 w
 -- a reference is resolved exactly where it may mean one column and no other
 abbrev pub ResolvesTheOne : Type 0
 ResolvesTheOne = (scope : Scope) (r : ColumnRef) (c : BoundColumn) → (resolve scope r ≡ Some c) ↔ IsTheOne scope r c
+
+-- where a column's name is resolved, the column is there
+abbrev pub KnownColumnsStand : Type 0
+KnownColumnsStand = (scope : Scope) (r : ColumnRef) → is_column scope r ≡ true → is_some (column_kind (kinds_in scope) (column_at scope r)) ≡ true

@@ -59,18 +59,23 @@ has_tags p principal list = holds_all (tags_of p) (delegation_of p) principal li
 
 -- ---- names: principals, tags, and tables with views have one space each
 
+-- the principal of a name
 abbrev pub principal_named : Public → List ℕ → Option ℕ
 principal_named p name = position (λ (x : KnownPrincipal). bytes_eq x.name name) p.principals
 
+-- the tag of a name
 abbrev pub tag_named : Public → List ℕ → Option ℕ
 tag_named p name = position (λ (x : KnownTag). bytes_eq x.name name) p.tags
 
+-- the table of a name
 abbrev pub table_named : Public → List ℕ → Option ℕ
 table_named p name = position (λ (x : Schema). bytes_eq x.name name) p.tables
 
+-- the view of a name
 abbrev pub view_named : Public → List ℕ → Option ℕ
 view_named p name = position (λ (x : ViewDef). bytes_eq x.name name) p.views
 
+-- a table, or else a view
 abbrev pub relation_from : Option ℕ → Option ℕ → Option Relation
 relation_from (Some t) v = Some (relation.Table t)
 relation_from None (Some v) = Some (relation.View v)
@@ -80,9 +85,11 @@ relation_from None None = None
 abbrev pub relation_named : Public → List ℕ → Option Relation
 relation_named p name = relation_from (table_named p name) (view_named p name)
 
+-- what stands at a number that is no table's
 abbrev pub no_table : Schema
 no_table = record { name = []; columns = []; key = []; foreign = [] }
 
+-- what stands at a number that is no view's
 abbrev pub no_view : ViewDef
 no_view = record { name = []; owner = 0; select = record { items = []; sources = []; cond = None; group = []; order = [] }; names = []; declassifying = [] }
 
@@ -94,6 +101,7 @@ table_at p t = slice_index_or p.tables t no_table
 abbrev pub view_at : Public → ℕ → ViewDef
 view_at p v = slice_index_or p.views v no_view
 
+-- what stands at a number that is no principal's
 abbrev pub no_principal : KnownPrincipal
 no_principal = record { name = []; key = [] }
 
@@ -103,6 +111,7 @@ is_key p principal key = bytes_eq (slice_index_or p.principals principal no_prin
 
 -- ---- changes
 
+-- the state with other grants
 abbrev pub with_authority : Public → Delegation → Public
 with_authority p a = record p { grants = a.grants }
 

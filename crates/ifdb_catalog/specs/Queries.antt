@@ -39,13 +39,16 @@ are_distinct (n ∷ names) = (times n names == 0) && are_distinct names
 
 -- ---- sources
 
+-- the name is that of a table or view
 abbrev pub is_relation : Public → List ℕ → Bool
 is_relation p name = is_some (relation_named p name)
 
+-- it is a view
 abbrev pub is_view_of : Option Relation → Bool
 is_view_of (Some (relation.View v)) = true
 is_view_of _ = false
 
+-- the name is that of a view
 abbrev pub is_view : Public → List ℕ → Bool
 is_view p name = is_view_of (relation_named p name)
 
@@ -59,9 +62,11 @@ abbrev pub key_of : Public → Relation → List ℕ
 key_of p (relation.Table t) = (table_at p t).key
 key_of p (relation.View v) = []
 
+-- a table or view as a source
 abbrev pub bound_relation : Public → Relation → BoundSource
 bound_relation p r = record { relation = r; key = key_of p r }
 
+-- a source with a number for its name
 abbrev pub bound_source : Public → Source → BoundSource
 bound_source p s = bound_relation p (relation_or (relation_named p s.name))
 
@@ -81,6 +86,7 @@ all_from i (s ∷ scope) = columns_from i 0 s.columns ++ all_from (i + 1) scope
 abbrev pub all_columns : Scope → List BoundItem
 all_columns scope = map (λ c. bi.Expr (be.Column c)) (all_from 0 scope)
 
+-- the names of all columns of all sources, in order
 abbrev pub all_names : Scope → List (List ℕ)
 all_names scope = flat_map (λ (s : ScopeSource). map (λ (c : Column). c.name) s.columns) scope
 
@@ -101,6 +107,7 @@ abbrev pub source_from : List ℕ → ℕ → Scope → ℕ
 source_from alias n [] = 0
 source_from alias n (s ∷ scope) = if bytes_eq s.alias alias then n else source_from alias (n + 1) scope
 
+-- what an item gives, with places for its columns
 abbrev pub bound_item : Scope → Item → List BoundItem
 bound_item scope i.All = all_columns scope
 bound_item scope (i.Expr e name) = bi.Expr (bound_expr scope e) ∷ []
@@ -110,6 +117,7 @@ bound_item scope (i.Sum c name) = bi.Sum (column_at scope c) ∷ []
 bound_item scope (i.Min c name) = bi.Min (column_at scope c) ∷ []
 bound_item scope (i.Max c name) = bi.Max (column_at scope c) ∷ []
 
+-- the item's own name, or else that of its column
 abbrev pub name_or : Option (List ℕ) → Option ColumnRef → Option (List ℕ)
 name_or (Some name) ref = Some name
 name_or None (Some ref) = Some ref.column
@@ -131,10 +139,12 @@ output scope s = flat_map (output_names scope) s.items
 
 -- ---- GROUP BY and aggregates
 
+-- the item is COUNT(*)
 abbrev pub is_count : Item → Bool
 is_count (i.CountAll name) = true
 is_count _ = false
 
+-- the item is COUNT(*), SUM, MIN or MAX
 abbrev pub is_aggregate : Item → Bool
 is_aggregate (i.CountAll name) = true
 is_aggregate (i.Sum c name) = true
@@ -142,6 +152,7 @@ is_aggregate (i.Min c name) = true
 is_aggregate (i.Max c name) = true
 is_aggregate _ = false
 
+-- two columns are one
 abbrev pub same_column : BoundColumn → BoundColumn → Bool
 same_column a b = (a.source == b.source) && (a.column == b.column)
 
@@ -159,6 +170,7 @@ stands_grouped scope group item = is_aggregate item
 abbrev pub stand_ungrouped : List Item → Bool
 stand_ungrouped items = list_all is_count items || not (list_any is_aggregate items)
 
+-- the items may stand beside one another and beside GROUP BY
 abbrev pub items_stand : Scope → List ColumnRef → List Item → Bool
 items_stand scope [] items = stand_ungrouped items
 items_stand scope (c ∷ group) items = list_all (stands_grouped scope (c ∷ group)) items
@@ -173,11 +185,13 @@ abbrev pub may_count : Public → List Source → Bool
 may_count p (s ∷ []) = is_countable p (relation_named p s.name)
 may_count p _ = false
 
+-- where COUNT(*) stands, the rows can be counted
 abbrev pub counts_stand : Public → Select → Bool
 counts_stand p s = not (list_any is_count s.items) || may_count p s.sources
 
 -- ---- ORDER BY
 
+-- an output name is this one
 abbrev pub is_output : List ℕ → Option (List ℕ) → Bool
 is_output name None = false
 is_output name (Some n) = bytes_eq n name
@@ -192,13 +206,16 @@ abbrev pub order_place : List (Option (List ℕ)) → OrderBy → Option ℕ
 order_place names (by.Name name) = the_one (outputs_named name 0 names)
 order_place names (by.Place n) = if nat_le 1 n && nat_le n (length names) then Some (n - 1) else None
 
+-- what ORDER BY sorts by is an item
 abbrev pub is_known_order : List (Option (List ℕ)) → Order → Bool
 is_known_order names o = is_some (order_place names o.target)
 
+-- the number that was found, or 0
 abbrev pub place_or : Option ℕ → ℕ
 place_or None = 0
 place_or (Some n) = n
 
+-- a key of ORDER BY with the place of its item
 abbrev pub bound_order : List (Option (List ℕ)) → Order → OrderKey
 bound_order names o = record { place = place_or (order_place names o.target); descending = o.descending }
 
@@ -213,6 +230,7 @@ select_is_known p scope s =
     && (list_all (is_column scope) s.group
     && list_all (is_known_order (output scope s)) s.order)))
 
+-- a SELECT with numbers for its names
 abbrev pub bound_select : Public → Scope → Select → BoundSelect
 bound_select p scope s = record {
   items = flat_map (bound_item scope) s.items;

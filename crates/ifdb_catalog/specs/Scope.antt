@@ -17,16 +17,20 @@ use Rattle.ifdb_catalog.specs.Public.{Public, relation_named, table_at, view_at}
 
 -- ---- columns of tables and views
 
+-- what stands at a place that is no column's
 abbrev pub no_column : Column
 no_column = record { name = []; kind = kind.Int }
 
+-- the kinds of columns
 abbrev pub kinds_of : List Column → List ValueKind
 kinds_of columns = map (λ (c : Column). c.kind) columns
 
+-- the kind that was found, or else this one
 abbrev pub kind_or : ValueKind → Option ValueKind → ValueKind
 kind_or k None = k
 kind_or k (Some j) = j
 
+-- columns by their names and kinds
 abbrev pub columns_of : List (List ℕ) → List ValueKind → List Column
 columns_of [] kinds = []
 columns_of (name ∷ names) [] = []
@@ -58,9 +62,11 @@ pub record ScopeSource : Type 0 where
   pub alias : List ℕ
   pub columns : List Column
 
+-- the sources of a statement, in order
 abbrev pub Scope : Type 0
 Scope = List ScopeSource
 
+-- a source behind FROM, with the columns of its table or view
 abbrev pub source_of : Public → Source → ScopeSource
 source_of p s = record { alias = s.alias; columns = relation_columns p (relation_named p s.name) }
 
@@ -109,6 +115,7 @@ the_one (x ∷ y ∷ more) = None
 abbrev pub resolve : Scope → ColumnRef → Option BoundColumn
 resolve scope r = the_one (meant_from r 0 scope)
 
+-- the column that was found, or else this one
 abbrev pub column_or : BoundColumn → Option BoundColumn → BoundColumn
 column_or c None = c
 column_or c (Some d) = d
@@ -123,6 +130,7 @@ is_column scope r = is_some (resolve scope r)
 
 -- ---- which column is meant, said without a search
 
+-- what stands at a place that is no source's
 abbrev pub no_source : ScopeSource
 no_source = record { alias = []; columns = [] }
 

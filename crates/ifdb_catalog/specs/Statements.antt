@@ -19,12 +19,15 @@ use Rattle.ifdb_catalog.specs.Queries.{times, are_distinct, place_or}
 
 -- ---- tags by their names
 
+-- the name is that of a tag
 abbrev pub is_tag : Public → List ℕ → Bool
 is_tag p name = is_some (tag_named p name)
 
+-- each name is that of a tag
 abbrev pub are_tags : Public → List (List ℕ) → Bool
 are_tags p names = list_all (is_tag p) names
 
+-- the number of a tag that is known to be one
 abbrev pub tag_at : Public → List ℕ → ℕ
 tag_at p name = place_or (tag_named p name)
 
@@ -42,6 +45,7 @@ label_named p names = reduce (tags_of p) (tags_named p names)
 abbrev pub table_number : Public → List ℕ → ℕ
 table_number p name = place_or (table_named p name)
 
+-- the table of a name that is known to be one's
 abbrev pub schema_named : Public → List ℕ → Schema
 schema_named p name = table_at p (table_number p name)
 
@@ -49,9 +53,11 @@ schema_named p name = table_at p (table_number p name)
 abbrev pub columns_named : Public → List ℕ → List Column
 columns_named p name = relation_columns p (relation_named p name)
 
+-- the place of the column of a name
 abbrev pub place_named : List Column → List ℕ → Option ℕ
 place_named columns name = position (λ (c : Column). bytes_eq c.name name) columns
 
+-- the name is that of one of the columns
 abbrev pub is_column_of : List Column → List ℕ → Bool
 is_column_of columns name = is_some (place_named columns name)
 
@@ -104,6 +110,7 @@ is_known_assignment columns scope a = is_column_of columns a.column && is_known 
 abbrev pub assigns_key : Schema → Assignment → Bool
 assigns_key t a = list_any (λ place. place == place_at t.columns a.column) t.key
 
+-- an assignment with places for its columns
 abbrev pub bound_assignment : List Column → Scope → Assignment → BoundAssignment
 bound_assignment columns scope a = record { column = place_at columns a.column; expr = bound_expr scope a.expr }
 

@@ -19,6 +19,7 @@ use Rattle.ifdb_catalog.specs.Scope.{Scope, is_column, column_at}
 
 -- ---- expressions
 
+-- whether a node's columns are known, where each part has given whether its are
 abbrev pub known_step : Scope → Expr-F Bool → Bool
 known_step scope (Expr-F.Column c) = is_column scope c
 known_step scope (Expr-F.Literal v) = true
@@ -30,6 +31,7 @@ known_step scope (Expr-F.Mul a b) = a && b
 unfoldable pub is_known : Scope → Expr → Bool
 is_known scope = fold_expr Bool (known_step scope)
 
+-- a node with places for its columns, where each part has them
 abbrev pub expr_step : Scope → Expr-F BoundExpr → BoundExpr
 expr_step scope (Expr-F.Column c) = be.Column (column_at scope c)
 expr_step scope (Expr-F.Literal v) = be.Literal v
@@ -41,6 +43,7 @@ expr_step scope (Expr-F.Mul a b) = be.Mul a b
 unfoldable pub bound_expr : Scope → Expr → BoundExpr
 bound_expr scope = fold_expr BoundExpr (expr_step scope)
 
+-- the column that a node is, if it is one
 abbrev pub ref_step : Expr-F (Option ColumnRef) → Option ColumnRef
 ref_step (Expr-F.Column c) = Some c
 ref_step _ = None
@@ -51,17 +54,21 @@ ref_of = fold_expr (Option ColumnRef) ref_step
 
 -- ---- conditions
 
+-- the operand is a literal, or a column that is known
 abbrev pub is_known_operand : Scope → Operand → Bool
 is_known_operand scope (o.Column c) = is_column scope c
 is_known_operand scope (o.Literal v) = true
 
+-- an operand with a place for its column
 abbrev pub bound_operand : Scope → Operand → BoundOperand
 bound_operand scope (o.Column c) = bo.Column (column_at scope c)
 bound_operand scope (o.Literal v) = bo.Literal v
 
+-- the test that is the value
 abbrev pub itself : Bool → Bool
 itself b = b
 
+-- whether a node's columns are known, where each part has given whether its are
 abbrev pub known_cond_step : Scope → Cond-F Bool → Bool
 known_cond_step scope (Cond-F.Or parts) = list_all itself parts
 known_cond_step scope (Cond-F.And parts) = list_all itself parts
@@ -72,6 +79,7 @@ known_cond_step scope (Cond-F.Compare left how right) = is_known_operand scope l
 unfoldable pub is_known_cond : Scope → Cond → Bool
 is_known_cond scope = fold_cond Bool (known_cond_step scope)
 
+-- a node with places for its columns, where each part has them
 abbrev pub cond_step : Scope → Cond-F BoundCond → BoundCond
 cond_step scope (Cond-F.Or parts) = bc.Or parts
 cond_step scope (Cond-F.And parts) = bc.And parts
@@ -84,10 +92,12 @@ bound_cond scope = fold_cond BoundCond (cond_step scope)
 
 -- ---- behind WHERE, which may be left out
 
+-- each column behind WHERE is known
 abbrev pub where_is_known : Scope → Option Cond → Bool
 where_is_known scope None = true
 where_is_known scope (Some c) = is_known_cond scope c
 
+-- what stands behind WHERE with places for its columns
 abbrev pub bound_where : Scope → Option Cond → Option BoundCond
 bound_where scope None = None
 bound_where scope (Some c) = Some (bound_cond scope c)

@@ -1,9 +1,10 @@
 // Laws of the definitions: each function's contract is one, and it does nothing.
-ghost use Rattle.ifdb_catalog.specs.Laws.{BoundFits, ResolvesTheOne, StatesStayFitting, TagsStayWellFormed};
+ghost use Rattle.ifdb_catalog.specs.Laws.{BoundFits, KnownColumnsStand, ResolvesTheOne, StatesStayFitting, TagsStayWellFormed};
 
-/// A column's name is resolved exactly where it may mean one column of the sources and no other.
+/// A column's name is resolved exactly where it may mean one column of the sources and no other, and that column is there.
 pub fn names_mean_one_column()
-    ensures { ResolvesTheOne }
+    ensures one { ResolvesTheOne }
+    ensures stands { KnownColumnsStand }
 {}
 
 /// What is bound fits the public state that it is bound in: its numbers stand for something, its labels are over made tags, and its

@@ -1,6 +1,7 @@
 -- Worked examples, by computation.
-use Rattle.std.proofs.Common.{◌≡◌, refl, List, ℕ, [], ◌∷◌, ◌++◌, pos, negsuc, take, length, Some, None}
-use Rattle.std.specs.Prelude.{codes, decimal}
+use Rattle.std.proofs.Common.{◌≡◌, refl, ap, List, ℕ, zero, suc, Bool, true, false, cond, [], ◌∷◌, ◌++◌, pos, negsuc, take, length, Some, None, arith}
+use Rattle.std.proofs.lemmas.Bool.Decides.{nat_tests}
+use Rattle.std.specs.Prelude.{codes, decimal, nat_lt}
 use Rattle.std.specs.Fmt.{digits}
 use Rattle.ifdb_value.specs.declared.value.Value.{Value}
 use Rattle.ifdb_value.specs.declared.value.Value.TheVariants as value
@@ -9,7 +10,7 @@ use Rattle.ifdb_wire.specs.declared.fault.Fault.TheVariants as fault
 use Rattle.ifdb_wire.specs.declared.reply.Reply.TheVariants as reply
 use Rattle.ifdb_wire.specs.Fault.{number_of, fault_text}
 use Rattle.ifdb_wire.specs.Text.{row_text, reply_text}
-use Rattle.ifdb_wire.specs.Script.{script_line, skips, opens, asks, strays}
+use Rattle.ifdb_wire.specs.Script.{script_line, short_line, without_return, skips, opens, asks, strays, overlong}
 
 -- ---- refusals
 
@@ -125,3 +126,31 @@ zero_first = refl
 
 number_and_returns : script_line (codes "1\r\r") ≡ strays
 number_and_returns = refl
+
+-- ---- the longest line
+
+-- so many spaces
+spaces : ℕ → List ℕ
+spaces zero = []
+spaces (suc n) = 32 ∷ spaces n
+
+length-spaces : (n : ℕ) → length (spaces n) ≡ n
+unfolding spaces
+length-spaces zero = refl
+length-spaces (suc n) = grind (arith, length-spaces n)
+
+-- of 12 bytes and these spaces
+abbrev shown : ℕ → List ℕ
+shown n = codes "1 SHOW LABEL" ++ spaces n
+
+-- of 65,535 bytes
+longest : script_line (shown 65523) ≡ short_line (without_return (shown 65523))
+longest =
+    let fits : nat_lt 65535 (length (shown 65523)) ≡ false = grind (arith, nat_tests, length-spaces 65523) in
+    ap (λ (b : Bool). cond b overlong (short_line (without_return (shown 65523)))) fits
+
+-- one byte more
+too_long : script_line (shown 65524) ≡ overlong
+too_long =
+    let passes : nat_lt 65535 (length (shown 65524)) ≡ true = grind (arith, nat_tests, length-spaces 65524) in
+    ap (λ (b : Bool). cond b overlong (short_line (without_return (shown 65524)))) passes

@@ -29,6 +29,7 @@ session_number digits =
     else (if slice_index digits 0 == 48 then None
     else digits_number digits))
 
+-- a request of the session that was read, if one was
 abbrev pub asks_of : Option ℕ → List ℕ → ScriptLine
 asks_of None request = strays
 asks_of (Some session) request = asks session request

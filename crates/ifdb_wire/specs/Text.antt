@@ -16,6 +16,7 @@ escaped_byte b =
     else (if b == 13 then 92 ∷ 114 ∷ []
     else b ∷ []))
 
+-- each byte of a text, escaped
 abbrev pub escaped : List ℕ → List ℕ
 escaped text = flat_map escaped_byte text
 
@@ -30,6 +31,7 @@ tabbed [] = []
 tabbed (x ∷ []) = x
 tabbed (x ∷ y ∷ more) = x ++ 9 ∷ tabbed (y ∷ more)
 
+-- the values of a row, with a tab between two of them
 abbrev pub row_text : List Value → List ℕ
 row_text row = tabbed (map value_text row)
 
