@@ -2,21 +2,20 @@
 use Rattle.std.proofs.Common.{◌≡◌, ℕ, Bool, true, false, List, [], ◌∷◌, refl, sym, arith}
 use Rattle.std.specs.List.{list_all}
 use Rattle.std.proofs.lemmas.Bool.Decides.{nat_tests}
-use Rattle.ifdb_label.specs.Tags.{MadeTag, below, AreWellFormed}
-use Rattle.ifdb_label.specs.Ancestors.{has}
-use Rattle.ifdb_label.proofs.TagLaws.{below_le}
+use Rattle.ifdb_label.specs.Tags.{MadeTag, below}
+use Rattle.ifdb_label.specs.Ancestors.{has, HasAncestors}
 use Rattle.ifdb_authority.specs.Authority.{Delegation, holds}
-use Rattle.ifdb_authority.specs.Search.{AreAbove, IsAbove, HasAbove, IsAnswer}
+use Rattle.ifdb_authority.specs.Search.{AreAbove, HasAbove, IsAnswer}
 
 all_listed : (f : ℕ → Bool) (list : List ℕ) → ((u : ℕ) → has list u ≡ true → f u ≡ true) → list_all f list ≡ true
 all_listed f [] h = refl
 all_listed f (u ∷ list) h = grind (arith, nat_tests, h u, all_listed f list (λ v e. h v (grind (arith, nat_tests))))
 
-pub AreAbove-from_all : (tags : List MadeTag) (t : ℕ) (above : List ℕ) → IsAbove tags t above → AreAbove tags t above
-AreAbove-from_all tags t above all = all_listed (λ u. below tags t u) above (λ u e. grind (arith, nat_tests, all u))
+pub ancestors_are_above : (tags : List MadeTag) (t : ℕ) (above : List ℕ) → HasAncestors tags t above → AreAbove tags t above
+ancestors_are_above tags t above all = all_listed (λ u. below tags t u) above (λ u e. grind (arith, nat_tests, all u))
 
-pub HasAbove-from_all : (tags : List MadeTag) (t : ℕ) (above : List ℕ) → AreWellFormed tags → IsAbove tags t above → HasAbove tags t above
-HasAbove-from_all tags t above w all u e = grind (arith, nat_tests, all u, below_le tags w t u e)
+pub ancestors_are_all : (tags : List MadeTag) (t : ℕ) (above : List ℕ) → HasAncestors tags t above → HasAbove tags t above
+ancestors_are_all tags t above all u e = grind (arith, nat_tests, all u)
 
 same_answer : (a b : Bool) → (a ≡ true → b ≡ true) → (b ≡ true → a ≡ true) → a ≡ b
 same_answer true b f g = sym (f refl)

@@ -1,5 +1,5 @@
 -- The search for one who made a tag, back from one who may hold it.
-use Rattle.std.specs.Prelude.{◌≡◌, ℕ, Bool, List, ◌==◌, ◌&&◌, ◌||◌, length, take, IsTrue, nat_lt}
+use Rattle.std.specs.Prelude.{◌≡◌, ℕ, Bool, List, ◌==◌, ◌&&◌, ◌||◌, length, take, IsTrue}
 use Rattle.std.specs.List.{list_any, list_all}
 use Rattle.ifdb_label.specs.Tags.{MadeTag, below}
 use Rattle.ifdb_label.specs.Ancestors.{has}
@@ -31,10 +31,6 @@ pub record IsExtended (old new : List Holding) (passes : Holding → Bool) : Typ
 -- the tag is below each of the list
 abbrev pub AreAbove : List MadeTag → ℕ → List ℕ → Type 0
 AreAbove tags t above = IsTrue (list_all (λ u. below tags t u) above)
-
--- the list has each older tag that the tag is below, and no other
-abbrev pub IsAbove : List MadeTag → ℕ → List ℕ → Type 0
-IsAbove tags t above = (u : ℕ) → has above u ≡ nat_lt u t && below tags t u
 
 -- the list has each tag that the tag is below, itself apart
 abbrev pub HasAbove : List MadeTag → ℕ → List ℕ → Type 0

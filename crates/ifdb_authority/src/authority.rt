@@ -5,7 +5,7 @@ ghost use Rattle.ifdb_authority.specs.Search.{IsExtended, is_grantor};
 
 use crate::grantors::Grantors;
 use crate::holding::Holding;
-use crate::search::{add, is_held, tags_above};
+use crate::search::{add, is_held};
 use crate::{Grant, GrantFault, NotGranted, OutOfMemory};
 use ifdb_label::{Tag, Tags};
 use ifdb_value::Principal;
@@ -79,7 +79,7 @@ impl Authority {
     /// Whether a principal holds a tag: it made it, was granted it by one who holds it, or holds a compound that the tag is in.
     ///
     /// Takes no memory where the principal made the tag. Else in time the grants of the tag that lead back from the principal
-    /// to one who made it; where none does, also the number of older tags, and, for a tag in compounds, the grants of these.
+    /// to one who made it; where none does, and the tag is in compounds, also the grants of these.
     pub fn holds(&self, tags: &Tags, p: Principal, tag: Tag) -> Result<bool, OutOfMemory>
         requires { tag < length tags.now }
         ensures value { IfOk result (λ held. held ≡ holds tags.now self.now p tag) }
@@ -94,11 +94,11 @@ impl Authority {
         if is_held(self, tags, p, tag, &[])? {
             return Ok(true);
         }
-        let above = tags_above(self.alloc, tags, tag)?;
+        let above = tags.ancestors(tag);
         if above.is_empty() {
             return Ok(false);
         }
-        is_held(self, tags, p, tag, &above)
+        is_held(self, tags, p, tag, above)
     }
 
     /// Grants a tag to a principal. A second equal grant changes nothing.

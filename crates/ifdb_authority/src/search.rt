@@ -2,28 +2,13 @@
 ghost use Rattle.std.specs.Prelude.{◌≡◌, ◌<◌, ◌∷◌, [], length, IfOk};
 ghost use Rattle.ifdb_label.specs.Tags.{AreMade, AreWellFormed};
 ghost use Rattle.ifdb_authority.specs.Grantors.{is_same_holding};
-ghost use Rattle.ifdb_authority.specs.Search.{AreAbove, IsAbove, IsAnswer, IsExtended, is_above, is_grantor, leads};
+ghost use Rattle.ifdb_authority.specs.Search.{AreAbove, IsAnswer, IsExtended, is_above, is_grantor, leads};
 
 use crate::holding::Holding;
 use crate::{Authority, OutOfMemory};
 use ifdb_label::{Tag, Tags};
 use ifdb_value::Principal;
 use indexmap::IndexSet;
-use std::alloc::Global;
-
-/// The older tags that a tag is below. In time the number of older tags.
-pub(crate) fn tags_above(alloc: Global, tags: &Tags, tag: Tag) -> Result<Vec<Tag>, OutOfMemory>
-    requires { tag < length tags.now }
-    ensures { IfOk result (λ above. IsAbove tags.now tag above.items) }
-{
-    let mut above = Vec::new(alloc);
-    for older in 0..tag.0 {
-        if tags.below(tag, Tag(older)) {
-            above.push(Tag(older))?;
-        }
-    }
-    Ok(above)
-}
 
 /// Whether a principal holds a tag, as far as grants and the compounds of the list show: exact where the list has all tags
 /// that the tag is below.

@@ -187,8 +187,8 @@ impl Tags {
         tag == other || self.ancestors(tag).contains(&other)
     }
 
-    /// The tags that a tag is below, itself apart; none where it isn't made.
-    fn ancestors(&self, tag: Tag) -> &[Tag]
+    /// The tags that a tag is below, itself apart, rising; none where it isn't made. Takes no memory.
+    pub fn ancestors(&self, tag: Tag) -> &[Tag]
         ensures above { HasAncestors self.now tag result.now }
         ensures well_formed { AreWellFormed self.now }
     {

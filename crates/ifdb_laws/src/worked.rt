@@ -6,7 +6,7 @@ ghost use Rattle.ifdb_laws.specs.server.ReferenceRows.{secret_child_row, broken_
 ghost use Rattle.ifdb_laws.specs.server.ViewRows.{view_row};
 ghost use Rattle.ifdb_laws.specs.server.QueryRows.{range_row, order_row};
 ghost use Rattle.ifdb_laws.specs.server.ClinicRow.{clinic_row};
-ghost use Rattle.ifdb_laws.specs.server.Pairs.{HaveSameLow, AreQuiet, AreHeard, ShowCrossing, first_world, second_world, worlds_heard, came_down, came_down_idle, referred_up, referred_up_to_nothing, referred_down, referred_down_idle};
+ghost use Rattle.ifdb_laws.specs.server.Pairs.{HaveSameLow, AreQuiet, AreHeard, ShowCrossing, first_world, second_world, worlds_heard, came_down, came_down_idle, referred_up, referred_up_to_nothing, referred_down, referred_down_idle, viewed_up, viewed_up_to_nothing};
 
 /// What labels see: compound tags, one key at two labels, a row committed at a lower label than it was written at.
 pub fn label_rows()
@@ -57,5 +57,6 @@ pub fn world_rows()
 pub fn crossing_rows()
     ensures comes_down { ShowCrossing came_down came_down_idle }
     ensures refers_up { ShowCrossing referred_up referred_up_to_nothing }
+    ensures views_up { ShowCrossing viewed_up viewed_up_to_nothing }
     ensures refers_down { ShowCrossing referred_down referred_down_idle }
 {}

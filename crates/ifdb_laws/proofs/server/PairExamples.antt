@@ -7,7 +7,7 @@ use Rattle.ifdb_bound.specs.Expressions.{value_of}
 use Rattle.ifdb_bound.specs.Conditions.{holds}
 use Rattle.ifdb_catalog.proofs.Computing.{binding}
 use Rattle.ifdb_laws.specs.server.Played.{Plays}
-use Rattle.ifdb_laws.specs.server.Pairs.{HaveSameLow, AreQuiet, AreHeard, ShowCrossing, first_world, second_world, worlds_heard, came_down, came_down_idle, referred_up, referred_up_to_nothing, referred_down, referred_down_idle}
+use Rattle.ifdb_laws.specs.server.Pairs.{HaveSameLow, AreQuiet, AreHeard, ShowCrossing, first_world, second_world, worlds_heard, came_down, came_down_idle, referred_up, referred_up_to_nothing, referred_down, referred_down_idle, viewed_up, viewed_up_to_nothing}
 
 pub first_plays : Plays first_world
 unfolding slot_cmp digits value_of holds binding fold
@@ -36,6 +36,10 @@ came_down_crosses = record { first_plays = refl; second_plays = refl; same_low =
 pub referred_up_crosses : ShowCrossing referred_up referred_up_to_nothing
 unfolding slot_cmp digits value_of holds binding fold
 referred_up_crosses = record { first_plays = refl; second_plays = refl; same_low = refl; crosses = refl }
+
+pub viewed_up_crosses : ShowCrossing viewed_up viewed_up_to_nothing
+unfolding slot_cmp digits value_of holds binding fold
+viewed_up_crosses = record { first_plays = refl; second_plays = refl; same_low = refl; crosses = refl }
 
 pub referred_down_crosses : ShowCrossing referred_down referred_down_idle
 unfolding slot_cmp digits value_of holds binding fold

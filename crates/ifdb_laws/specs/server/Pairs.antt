@@ -8,7 +8,7 @@ use Rattle.ifdb_model.specs.server.Crossing.{quiet}
 use Rattle.ifdb_model.specs.server.Script.{steps_of}
 use Rattle.ifdb_model.specs.server.Output.{texts}
 use Rattle.ifdb_laws.specs.server.Played.{Played, opened, says, done, says_one, script_of, told_by, reader_of, Plays}
-use Rattle.ifdb_laws.specs.server.Trees.{int, shows, hello, int_column, create_table, set_label, insert, delete, select}
+use Rattle.ifdb_laws.specs.server.Trees.{Read, int, shows, hello, int_column, create_table, set_label, insert, delete, select_of, select}
 use Rattle.ifdb_laws.specs.server.Setup.{setup, insert_note}
 
 -- the steps of a worked script
@@ -111,6 +111,27 @@ referred_up_to_nothing = setup ++
     (done 1 (codes "CREATE TABLE visit (v INT, note_id INT, PRIMARY KEY (v), FOREIGN KEY (note_id) REFERENCES note)") (create_table (codes "visit") (int_column (codes "v") ∷ int_column (codes "note_id") ∷ []) (codes "v" ∷ []) (record { columns = codes "note_id" ∷ []; parent = codes "note" } ∷ []))
     ∷ done 2 (codes "SET LABEL (a)") (set_label (codes "a" ∷ []))
     ∷ says_one 1 (codes "INSERT INTO visit VALUES (10, 1) DECLASSIFYING (a)") (insert (codes "visit") ((int 10 ∷ int 1 ∷ []) ∷ []) (codes "a" ∷ [])) (codes "ERR 14 NoReference")
+    ∷ [])
+
+-- a view of the rows above
+abbrev pub create_due : Read
+create_due = Ok (request.CreateView (codes "due") (select_of (shows (codes "id") ∷ []) (codes "note" ∷ []) None) (codes "a" ∷ []))
+
+-- The second case again: session 1, at the level, reads a view that declassifies what is above.
+abbrev pub viewed_up : List Played
+viewed_up = setup ++
+    (done 1 (codes "CREATE VIEW due AS SELECT id FROM note WITH DECLASSIFYING (a)") create_due
+    ∷ done 2 (codes "SET LABEL (a)") (set_label (codes "a" ∷ []))
+    ∷ says_one 2 (codes "INSERT INTO note VALUES (1, 's')") (insert_note 1 (codes "s")) (codes "OK 1")
+    ∷ says 1 (codes "SELECT id FROM due") (select (shows (codes "id") ∷ []) (codes "due" ∷ []) None) (codes "ROWS 1 1" ∷ codes "1" ∷ [])
+    ∷ [])
+
+-- there is no row above
+abbrev pub viewed_up_to_nothing : List Played
+viewed_up_to_nothing = setup ++
+    (done 1 (codes "CREATE VIEW due AS SELECT id FROM note WITH DECLASSIFYING (a)") create_due
+    ∷ done 2 (codes "SET LABEL (a)") (set_label (codes "a" ∷ []))
+    ∷ says_one 1 (codes "SELECT id FROM due") (select (shows (codes "id") ∷ []) (codes "due" ∷ []) None) (codes "ROWS 0 1")
     ∷ [])
 
 -- The third case: session 3, above, refers with its authority to a row at the level, which then can't be deleted.

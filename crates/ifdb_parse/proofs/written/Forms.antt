@@ -17,6 +17,7 @@ use Rattle.ifdb_syntax.specs.declared.condition.Cond.TheFolds.{fold-Cond, fold-r
 use Rattle.ifdb_syntax.specs.Conditions.{and_of, or_of}
 use Rattle.ifdb_syntax.specs.Shapes.{same}
 use Rattle.ifdb_syntax.specs.Within.{value_fits, expr_fits_step, expr_fits, operand_fits, cond_fits_step, cond_fits}
+use Rattle.ifdb_parse.proofs.written.Tally.{and_true, and_assoc}
 
 pub expr_fits-Column : (x : ColumnRef) → expr_fits (e.Column x) ≡ true
 unfolding expr_fits
@@ -58,10 +59,6 @@ pub cond_fits-Compare : (a : Operand) (how : Compare) (b : Operand) → cond_fit
 unfolding cond_fits
 cond_fits-Compare a how b = ap (fold-Cond Bool cond_fits_step) (sym (c.rolls-Compare a how b)) ∙ fold-roll-Cond Bool cond_fits_step (Cond-F.Compare a how b)
 
-and_true : (b : Bool) → (b && true) ≡ b
-and_true true = refl
-and_true false = refl
-
 pub cond_fits-and_of : (parts : List Cond) → cond_fits (and_of parts) ≡ list_all cond_fits parts
 cond_fits-and_of [] = cond_fits-And []
 cond_fits-and_of (a ∷ []) = sym (and_true (cond_fits a))
@@ -76,10 +73,6 @@ cond_fits-or_of (a ∷ b ∷ more) = cond_fits-Or (a ∷ b ∷ more)
 pub all-last : {A : Type 0} (f : A → Bool) (xs : List A) (x : A) → list_all f (xs ++ x ∷ []) ≡ (list_all f xs && f x)
 all-last f [] x = and_true (f x)
 all-last f (y ∷ xs) x = ap (λ z. f y && z) (all-last f xs x) ∙ and_assoc (f y) (list_all f xs) (f x)
-  where
-    and_assoc : (a b c : Bool) → (a && (b && c)) ≡ ((a && b) && c)
-    and_assoc true b c = refl
-    and_assoc false b c = refl
 
 pub all-one : {A : Type 0} (f : A → Bool) (x : A) → list_all f (x ∷ []) ≡ f x
 all-one f x = and_true (f x)

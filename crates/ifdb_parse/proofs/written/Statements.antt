@@ -20,12 +20,8 @@ use Rattle.ifdb_parse.specs.declared.limits.Before.TheVariants as before
 use Rattle.ifdb_parse.specs.TreeLimits.{behind}
 use Rattle.ifdb_syntax.specs.Within.{value_fits, condition_fits, item_fits, select_fits, assignment_fits}
 use Rattle.ifdb_parse.specs.Numbers.{order_by_fits, order_fits, select_numbers_fit, numbers_fit}
-use Rattle.ifdb_parse.proofs.written.Tally.{Tallies, any, other, operand, fits_behind, and_assoc, nothing_tallies, then_tallies, or_tallies, repeat_tallies, placed, token_tallies, name_tallies, text_tallies, number_tallies}
+use Rattle.ifdb_parse.proofs.written.Tally.{Tallies, any, other, operand, fits_behind, and_assoc, nothing_tallies, then_tallies, or_tallies, repeat_tallies, placed, token_tallies, name_tallies, text_tallies, number_tallies, and_true}
 use Rattle.ifdb_parse.proofs.written.Values.{parens_tallies, commas_tallies, ref_tallies, literal_tallies, expr_tallies, condition_tallies}
-
-and_true : (b : Bool) → (b && true) ≡ b
-and_true true = refl
-and_true false = refl
 
 -- ---- parts without a number
 

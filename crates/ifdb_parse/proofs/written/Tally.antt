@@ -32,7 +32,7 @@ abbrev pub after : Before → Lexemes → Before
 after last [] = last
 after last (x ∷ s) = after (behind last x) s
 
-and_true : (b : Bool) → (b && true) ≡ b
+pub and_true : (b : Bool) → (b && true) ≡ b
 and_true true = refl
 and_true false = refl
 

@@ -19,12 +19,8 @@ use Rattle.ifdb_parse.specs.declared.limits.Before.{Before}
 use Rattle.ifdb_parse.specs.declared.limits.Before.TheVariants as before
 use Rattle.ifdb_parse.specs.TreeLimits.{behind}
 use Rattle.ifdb_syntax.specs.Within.{value_fits, expr_fits, operand_fits, cond_fits, condition_fits}
-use Rattle.ifdb_parse.proofs.written.Tally.{Tallies, other, operand, sign, fits_behind, all_fit, and_assoc, nothing_tallies, then_tallies, or_tallies, some_tallies, repeat_tallies, token_tallies, name_tallies, text_tallies, number_tallies, negated_tallies}
+use Rattle.ifdb_parse.proofs.written.Tally.{Tallies, other, operand, sign, fits_behind, all_fit, and_assoc, nothing_tallies, then_tallies, or_tallies, some_tallies, repeat_tallies, token_tallies, name_tallies, text_tallies, number_tallies, negated_tallies, and_true}
 use Rattle.ifdb_parse.proofs.written.Forms.{expr_fits-Column, expr_fits-Literal, expr_fits-Add, expr_fits-Sub, expr_fits-Mul, cond_fits-Not, cond_fits-Compare, cond_fits-and_of, cond_fits-or_of, all-last, all-one}
-
-and_true : (b : Bool) → (b && true) ≡ b
-and_true true = refl
-and_true false = refl
 
 -- ---- parentheses
 
