@@ -1,1 +1,4 @@
+mod Digits
+mod Escapes
 mod Examples
+mod RowTexts

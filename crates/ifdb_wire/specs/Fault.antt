@@ -1,5 +1,5 @@
 -- The numbers and texts of refusals.
-use Rattle.std.specs.Prelude.{ℕ, List, ◌++◌, codes, decimal}
+use Rattle.std.specs.Prelude.{ℕ, List, [], ◌++◌, codes, decimal}
 use Rattle.ifdb_wire.specs.declared.fault.Fault.{Fault}
 use Rattle.ifdb_wire.specs.declared.fault.Fault.TheVariants as fault
 
@@ -64,3 +64,8 @@ fault_text fault.NotCompound = codes "ERR 25 NotCompound"
 fault_text fault.NotATable = codes "ERR 26 NotATable"
 fault_text fault.ViewAuthority = codes "ERR 27 ViewAuthority"
 fault_text fault.NoSession = codes "ERR 28 NoSession"
+
+-- what stands behind a fault's number and name: the place of Syntax, and of every other fault nothing
+abbrev pub place_text : Fault → List ℕ
+place_text (fault.Syntax at) = decimal at
+place_text other = []

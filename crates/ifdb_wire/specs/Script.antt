@@ -4,6 +4,8 @@ use Rattle.std.specs.List.{list_all}
 use Rattle.std.specs.Str.{bytes_eq}
 use Rattle.std.specs.Str.Parse.{digits_value}
 use Rattle.std.specs.Char.{is_ascii_digit}
+use Rattle.ifdb_wire.specs.declared.script.StepLine.{StepLine}
+use Rattle.ifdb_wire.specs.declared.script.StepLine.TheVariants as read
 
 -- what a line asks for: nothing, a new session, a request of a session, or none of these; or it is too long
 pub data ScriptLine : Type 0 where
@@ -50,3 +52,10 @@ short_line line =
 -- a line without its newline; its `\r` counts in its length
 abbrev pub script_line : List ℕ → ScriptLine
 script_line line = if nat_lt 65535 (length line) then overlong else short_line (without_return line)
+
+-- what a line that was read asks for
+abbrev pub asked_by : StepLine → ScriptLine
+asked_by read.Skip = skips
+asked_by read.Open = opens
+asked_by (read.Ask session request) = asks session request.now
+asked_by read.Stray = strays

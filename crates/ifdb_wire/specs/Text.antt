@@ -1,5 +1,5 @@
 -- The texts of replies.
-use Rattle.std.specs.Prelude.{ℕ, List, [], ◌∷◌, ◌++◌, ◌==◌, if◌then◌else◌, map, flat_map, length, codes, decimal, Option, Some, None}
+use Rattle.std.specs.Prelude.{ℕ, Bool, ◌||◌, List, [], ◌∷◌, ◌++◌, ◌==◌, if◌then◌else◌, map, flat_map, length, codes, decimal, Option, Some, None}
 use Rattle.std.specs.Fmt.{signed_decimal}
 use Rattle.ifdb_value.specs.declared.value.Value.{Value}
 use Rattle.ifdb_value.specs.declared.value.Value.TheVariants as value
@@ -7,6 +7,10 @@ use Rattle.ifdb_wire.specs.declared.reply.Table.{Table}
 use Rattle.ifdb_wire.specs.declared.reply.Reply.{Reply}
 use Rattle.ifdb_wire.specs.declared.reply.Reply.TheVariants as reply
 use Rattle.ifdb_wire.specs.Fault.{fault_text}
+
+-- a backslash, a tab or a carriage return
+abbrev pub is_escaped : ℕ → Bool
+is_escaped b = (b == 92) || (b == 9) || (b == 13)
 
 -- a backslash (92) is written `\\`, a tab (9) `\t`, a carriage return (13) `\r`, and every other byte stands as it is
 abbrev pub escaped_byte : ℕ → List ℕ
@@ -60,3 +64,12 @@ line session text = line_head session ++ (text ++ 10 ∷ [])
 -- the text of a reply to a session, which is none on a connection
 abbrev pub reply_text : Option ℕ → Reply → List ℕ
 reply_text session reply = flat_map (line session) (reply_lines reply)
+
+-- a reply of any length: every other one has at most 128 bytes
+abbrev pub IsUnbounded : Reply → Type 0
+IsUnbounded reply.Done = ⊥
+IsUnbounded (reply.Count n) = ⊥
+IsUnbounded reply.Opened = ⊥
+IsUnbounded (reply.Label names) = Unit {0}
+IsUnbounded (reply.Rows table) = Unit {0}
+IsUnbounded (reply.Refused fault) = ⊥

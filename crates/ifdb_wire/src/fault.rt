@@ -1,6 +1,6 @@
 // Refusals.
-ghost use Rattle.std.specs.Prelude.{◌≡◌};
-ghost use Rattle.ifdb_wire.specs.Fault.{number_of};
+ghost use Rattle.std.specs.Prelude.{◌≡◌, ◌≤◌, ◌++◌, length};
+ghost use Rattle.ifdb_wire.specs.Fault.{number_of, fault_text, place_text};
 
 use std::alloc::AllocError;
 
@@ -99,6 +99,43 @@ impl Fault {
             Fault::NotATable => 26,
             Fault::ViewAuthority => 27,
             Fault::NoSession => 28,
+        }
+    }
+
+    /// The text of the fault, without the place of Syntax.
+    pub(crate) fn words(&self) -> &'static [u8]
+        ensures text { fault_text self.now ≡ result.now ++ place_text self.now }
+        ensures short { length result.now ≤ 32 }
+    {
+        match self {
+            Fault::Syntax(_) => b"ERR 1 Syntax ",
+            Fault::NotHello => b"ERR 2 NotHello",
+            Fault::HelloTwice => b"ERR 3 HelloTwice",
+            Fault::BadKey => b"ERR 4 BadKey",
+            Fault::Taken => b"ERR 5 Taken",
+            Fault::UnknownName => b"ERR 6 UnknownName",
+            Fault::LabelNotEmpty => b"ERR 7 LabelNotEmpty",
+            Fault::NoAuthority => b"ERR 8 NoAuthority",
+            Fault::InTransaction => b"ERR 9 InTransaction",
+            Fault::NoTransaction => b"ERR 10 NoTransaction",
+            Fault::TypeMismatch => b"ERR 11 TypeMismatch",
+            Fault::WriteLabel => b"ERR 12 WriteLabel",
+            Fault::DuplicateKey => b"ERR 13 DuplicateKey",
+            Fault::NoReference => b"ERR 14 NoReference",
+            Fault::OutOfRange => b"ERR 15 OutOfRange",
+            Fault::CommitLabel => b"ERR 16 CommitLabel",
+            Fault::Conflict => b"ERR 17 Conflict",
+            Fault::BrokenReference => b"ERR 18 BrokenReference",
+            Fault::StillReferenced => b"ERR 19 StillReferenced",
+            Fault::OutOfMemory => b"ERR 20 OutOfMemory",
+            Fault::TooLong => b"ERR 21 TooLong",
+            Fault::Limit => b"ERR 22 Limit",
+            Fault::NotGranted => b"ERR 23 NotGranted",
+            Fault::KeyColumn => b"ERR 24 KeyColumn",
+            Fault::NotCompound => b"ERR 25 NotCompound",
+            Fault::NotATable => b"ERR 26 NotATable",
+            Fault::ViewAuthority => b"ERR 27 ViewAuthority",
+            Fault::NoSession => b"ERR 28 NoSession",
         }
     }
 }

@@ -1,5 +1,7 @@
-// The number of a fault.
-use crate::Fault;
+// What no clause says: that the calls succeed, and texts written by hand.
+use crate::{Fault, Out, Reply, StepLine, Table, step_line};
+use ifdb_value::{Value, ValueRow, ValueRows, Word};
+use std::alloc::Global;
 use std::test::Fail;
 
 #[test]
@@ -7,5 +9,120 @@ fn faults_have_numbers(rt: HostRuntime) -> Result<(), Fail> {
     assert_eq!(rt; Fault::Syntax(7).number(), 1);
     assert_eq!(rt; Fault::TypeMismatch.number(), 11);
     assert_eq!(rt; Fault::NoSession.number(), 28);
+    Ok(())
+}
+
+#[test]
+fn replies_have_their_lines(rt: HostRuntime) -> Result<(), Fail> {
+    let mut out = Out::new(rt.alloc())?;
+    let table = [
+        (None, Reply::Done, "OK\n"),
+        (Some(3), Reply::Opened, "3 OPEN\n"),
+        (None, Reply::Count(40), "OK 40\n"),
+        (
+            Some(u64::MAX),
+            Reply::Count(u64::MAX),
+            "18446744073709551615 OK 18446744073709551615\n",
+        ),
+        (
+            Some(0),
+            Reply::Refused(Fault::TooLong),
+            "0 ERR 21 TooLong\n",
+        ),
+        (
+            Some(12),
+            Reply::Refused(Fault::Syntax(14)),
+            "12 ERR 1 Syntax 14\n",
+        ),
+        (
+            Some(1),
+            Reply::Refused(Fault::StillReferenced),
+            "1 ERR 19 StillReferenced\n",
+        ),
+        (
+            Some(1),
+            Reply::Label(Word::of(rt.alloc(), "")?),
+            "1 LABEL ()\n",
+        ),
+        (
+            None,
+            Reply::Label(Word::of(rt.alloc(), "a,every")?),
+            "LABEL (a,every)\n",
+        ),
+    ];
+    for (session, reply, wanted) in table {
+        out.speak_for(session);
+        assert!(rt; out.bytes().is_empty());
+        assert!(rt; out.put(&reply), "{wanted}");
+        assert_eq!(rt; out.bytes(), wanted.as_bytes());
+        out.clear();
+        assert!(rt; out.bytes().is_empty());
+    }
+    Ok(())
+}
+
+// A row of a number and a text.
+fn row(alloc: Global, number: i64, text: &str) -> Result<ValueRow, Fail> {
+    let mut row = ValueRow::new(alloc);
+    row.push(Value::Int(number))?;
+    row.push(Value::Text(Word::of(alloc, text)?))?;
+    Ok(row)
+}
+
+#[test]
+fn tables_have_a_line_for_each_row(rt: HostRuntime) -> Result<(), Fail> {
+    let mut rows = ValueRows::new(rt.alloc());
+    rows.push(row(rt.alloc(), 39, "it's a\\b")?)?;
+    rows.push(row(rt.alloc(), i64::MIN, "\\\t\r and no more")?)?;
+    rows.push(row(rt.alloc(), -1, "")?)?;
+    let table = [
+        (Some(2), ValueRows::new(rt.alloc()), "2 ROWS 0 2\n"),
+        (
+            Some(2),
+            rows,
+            "2 ROWS 3 2\n2 39\tit's a\\\\b\n2 -9223372036854775808\t\\\\\\t\\r and no more\n2 -1\t\n",
+        ),
+    ];
+    let mut out = Out::new(rt.alloc())?;
+    for (session, rows, wanted) in table {
+        out.speak_for(session);
+        assert!(rt;
+            out.put(&Reply::Rows(Table { columns: 2, rows })),
+            "{wanted}"
+        );
+        assert_eq!(rt; out.bytes(), wanted.as_bytes());
+    }
+    Ok(())
+}
+
+#[test]
+fn lines_are_read(rt: HostRuntime) -> Result<(), Fail> {
+    let table = [
+        ("", StepLine::Skip),
+        ("\r", StepLine::Skip),
+        ("# OPEN", StepLine::Skip),
+        ("OPEN\r", StepLine::Open),
+        ("OPEN ", StepLine::Stray),
+        ("open", StepLine::Stray),
+        ("OPEN\r\r", StepLine::Stray),
+        ("7 BEGIN", StepLine::Ask(7, b"BEGIN")),
+        ("1  SHOW LABEL\r\r", StepLine::Ask(1, b" SHOW LABEL\r")),
+        ("12", StepLine::Ask(12, b"")),
+        ("12 ", StepLine::Ask(12, b"")),
+        (
+            "999999999999999999 X",
+            StepLine::Ask(999_999_999_999_999_999, b"X"),
+        ),
+        ("1000000000000000000 X", StepLine::Stray),
+        ("0 X", StepLine::Stray),
+        ("01 X", StepLine::Stray),
+        ("-1 X", StepLine::Stray),
+        ("1\tX", StepLine::Stray),
+        (" 1 X", StepLine::Stray),
+        ("foo", StepLine::Stray),
+    ];
+    for (line, wanted) in table {
+        assert_eq!(rt; step_line(line.as_bytes()), wanted, "{line}");
+    }
     Ok(())
 }
