@@ -1,4 +1,5 @@
 mod Digits
 mod Escapes
 mod Examples
+mod Numbers
 mod RowTexts

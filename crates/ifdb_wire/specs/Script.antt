@@ -1,5 +1,6 @@
 -- What a line of a script asks for.
-use Rattle.std.specs.Prelude.{ℕ, ◌+◌, ◌-◌, List, [], ◌==◌, nat_lt, if◌then◌else◌, length, take, drop, codes, slice_index, position, Option, Some, None}
+use Rattle.std.specs.Prelude.{ℕ, ◌+◌, ◌-◌, ◌<◌, ◌^◌, ◌==◌, nat_lt, if◌then◌else◌, codes, Option, Some, None}
+use Rattle.std.specs.Prelude.{List, [], length, take, drop, slice_index, position}
 use Rattle.std.specs.List.{list_all}
 use Rattle.std.specs.Str.{bytes_eq}
 use Rattle.std.specs.Str.Parse.{digits_value}
@@ -59,3 +60,14 @@ asked_by read.Skip = skips
 asked_by read.Open = opens
 asked_by (read.Ask session request) = asks session request.now
 asked_by read.Stray = strays
+
+-- a session's number is never 0, and has at most 18 digits
+abbrev pub IsSessionNumber : ℕ → Type 0
+IsSessionNumber n = (0 < n) × (n < 10 ^ 18)
+
+-- a request is of a session that has a number
+abbrev pub IsNumbered : StepLine → Type 0
+IsNumbered read.Skip = Unit {0}
+IsNumbered read.Open = Unit {0}
+IsNumbered (read.Ask session request) = IsSessionNumber session
+IsNumbered read.Stray = Unit {0}

@@ -1,6 +1,8 @@
 // What a line of a script asks for.
-ghost use Rattle.std.specs.Prelude.{◌≡◌, ◌==◌, ◌<◌, ◌≤◌, position, IfSome, length};
-ghost use Rattle.ifdb_wire.specs.Script.{script_line, short_line, split_at, asks_of, without_return, session_number, digits_number, asked_by};
+ghost use Rattle.std.specs.Prelude.{◌≡◌, ◌==◌, ◌<◌, ◌≤◌, ◌^◌, position, IfSome, length};
+ghost use Rattle.std.specs.Option.{ForSome};
+ghost use Rattle.ifdb_wire.specs.Script.{script_line, short_line, split_at, asks_of, without_return, session_number, digits_number};
+ghost use Rattle.ifdb_wire.specs.Script.{asked_by, IsNumbered, IsSessionNumber};
 
 /// A line of a script that isn't too long.
 #[derive(Clone, Copy, Debug, PartialEq, Eq)]
@@ -9,7 +11,7 @@ pub enum StepLine<'a> {
     Skip,
     /// `OPEN`: opens the next session.
     Open,
-    /// A session's number, from 1 to 999,999,999,999,999,999, and its request.
+    /// A session's number, from 1 to 10^18 - 1, and its request.
     Ask(u64, &'a [u8]),
     /// Anything else.
     Stray,
@@ -19,7 +21,8 @@ pub enum StepLine<'a> {
 /// first space.
 pub fn step_line(line: &[u8]) -> StepLine<'_>
     requires { length line.now ≤ 65535 }
-    ensures { asked_by result ≡ script_line line.now }
+    ensures step { asked_by result ≡ script_line line.now }
+    ensures numbered { IsNumbered result }
 {
     short(trimmed(line))
 }
@@ -32,7 +35,8 @@ fn trimmed(line: &[u8]) -> &[u8]
 }
 
 fn short(line: &[u8]) -> StepLine<'_>
-    ensures { asked_by result ≡ short_line line.now }
+    ensures step { asked_by result ≡ short_line line.now }
+    ensures numbered { IsNumbered result }
 {
     if line.is_empty() {
         return StepLine::Skip;
@@ -48,7 +52,8 @@ fn short(line: &[u8]) -> StepLine<'_>
 
 // A number, then nothing or a space and a request.
 fn split(line: &[u8]) -> StepLine<'_>
-    ensures { asked_by result ≡ split_at line.now (position (λ b. b == 32) line.now) }
+    ensures step { asked_by result ≡ split_at line.now (position (λ b. b == 32) line.now) }
+    ensures numbered { IsNumbered result }
 {
     match space_in(line) {
         None => ask(number(line), &line[line.len()..]),
@@ -57,7 +62,9 @@ fn split(line: &[u8]) -> StepLine<'_>
 }
 
 fn ask<'a>(session: Option<u64>, request: &'a [u8]) -> StepLine<'a>
-    ensures { asked_by result ≡ asks_of session request.now }
+    requires { ForSome session IsSessionNumber }
+    ensures step { asked_by result ≡ asks_of session request.now }
+    ensures numbered { IsNumbered result }
 {
     match session {
         None => StepLine::Stray,
@@ -74,7 +81,8 @@ fn space_in(line: &[u8]) -> Option<usize>
 
 // The number that 1 to 18 digits write, the first of them not 0.
 fn number(digits: &[u8]) -> Option<u64>
-    ensures { result ≡ session_number digits.now }
+    ensures value { result ≡ session_number digits.now }
+    ensures range { ForSome result IsSessionNumber }
 {
     if digits.is_empty() {
         return None;
@@ -91,7 +99,8 @@ fn number(digits: &[u8]) -> Option<u64>
 // The value of at most 18 digits.
 fn value(digits: &[u8]) -> Option<u64>
     requires { length digits.now ≤ 18 }
-    ensures { result ≡ digits_number digits.now }
+    ensures value { result ≡ digits_number digits.now }
+    ensures small { IfSome result (λ n. n < 10 ^ 18) }
 {
     let mut value: u64 = 0;
     for digit in digits {

@@ -12,6 +12,13 @@ fn faults_have_numbers(rt: HostRuntime) -> Result<(), Fail> {
     Ok(())
 }
 
+// Longer than the room that a buffer has at first.
+const LONG_LABEL: &str =
+    "atag_0123456789_0123456789_0123456789_01234567,btag_0123456789_0123456789_0123456789_01234567,ctag_0123456789_0123456789_0123456789_01234567";
+
+const LONG_LABEL_LINE: &str =
+    "7 LABEL (atag_0123456789_0123456789_0123456789_01234567,btag_0123456789_0123456789_0123456789_01234567,ctag_0123456789_0123456789_0123456789_01234567)\n";
+
 #[test]
 fn replies_have_their_lines(rt: HostRuntime) -> Result<(), Fail> {
     let mut out = Out::new(rt.alloc())?;
@@ -49,6 +56,11 @@ fn replies_have_their_lines(rt: HostRuntime) -> Result<(), Fail> {
             Reply::Label(Word::of(rt.alloc(), "a,every")?),
             "LABEL (a,every)\n",
         ),
+        (
+            Some(7),
+            Reply::Label(Word::of(rt.alloc(), LONG_LABEL)?),
+            LONG_LABEL_LINE,
+        ),
     ];
     for (session, reply, wanted) in table {
         out.speak_for(session);
@@ -73,14 +85,18 @@ fn row(alloc: Global, number: i64, text: &str) -> Result<ValueRow, Fail> {
 fn tables_have_a_line_for_each_row(rt: HostRuntime) -> Result<(), Fail> {
     let mut rows = ValueRows::new(rt.alloc());
     rows.push(row(rt.alloc(), 39, "it's a\\b")?)?;
-    rows.push(row(rt.alloc(), i64::MIN, "\\\t\r and no more")?)?;
+    rows.push(row(
+        rt.alloc(),
+        i64::MIN,
+        "\\\t\r and no more, in a row so long that the buffer has to take more room",
+    )?)?;
     rows.push(row(rt.alloc(), -1, "")?)?;
     let table = [
         (Some(2), ValueRows::new(rt.alloc()), "2 ROWS 0 2\n"),
         (
             Some(2),
             rows,
-            "2 ROWS 3 2\n2 39\tit's a\\\\b\n2 -9223372036854775808\t\\\\\\t\\r and no more\n2 -1\t\n",
+            "2 ROWS 3 2\n2 39\tit's a\\\\b\n2 -9223372036854775808\t\\\\\\t\\r and no more, in a row so long that the buffer has to take more room\n2 -1\t\n",
         ),
     ];
     let mut out = Out::new(rt.alloc())?;

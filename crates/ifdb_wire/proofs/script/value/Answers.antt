@@ -5,10 +5,10 @@ use Rattle.ifdb_wire.proofs.Digits.{small, power, all_more}
 use Rattle.ifdb_wire.proofs.script.value.Goals as goal
 
 pub overflow_mul-value : goal.overflow_mul-value
-overflow_mul-value c = let s = small c.loop-digit.value c.loop-digit.digit-index c.loop-digit.invariant.small (omega arith) in omega arith
+overflow_mul-value c = let s = small c.loop-digit.value c.loop-digit.digit-index 17 c.loop-digit.invariant.small (omega arith) in omega arith
 
 pub overflow_add-value : goal.overflow_add-value
-overflow_add-value c = let s = small c.loop-digit.value c.loop-digit.digit-index c.loop-digit.invariant.small (omega arith) in omega arith
+overflow_add-value c = let s = small c.loop-digit.value c.loop-digit.digit-index 17 c.loop-digit.invariant.small (omega arith) in omega arith
 
 pub loop-digit-preserved : goal.loop-digit-preserved
 loop-digit-preserved c =
@@ -22,3 +22,6 @@ loop-digit-preserved c =
       digits = all_more _ _ c.loop-digit-test.true c.loop-digit.invariant.digits (sym e.value);
       small = power _ _ _ c.loop-digit.invariant.small small;
     }
+
+pub returns-clause-small : goal.returns-clause-small
+returns-clause-small c = small c.loop-digit.value c.loop-digit.digit-index 18 c.loop-digit.invariant.small (omega arith)
