@@ -1,6 +1,6 @@
 // Who made each tag, and the grants that stand.
-ghost use Rattle.std.specs.Prelude.{◌≡◌, ◌↔◌, ◌<◌, Ok, Err, IfOk, OnOk, OnErr, IsErr, IsTrue, true, false, length};
-ghost use Rattle.ifdb_authority.specs.Authority.{granted, holds, is_owner, no_authority, owned, revoked, stands, grant};
+ghost use Rattle.std.specs.Prelude.{◌≡◌, ◌↔◌, ◌<◌, ℕ, Ok, Err, IfOk, OnOk, OnErr, IsErr, IsTrue, true, false, length};
+ghost use Rattle.ifdb_authority.specs.Authority.{Delegation, granted, holds, is_owner, no_authority, owned, revoked, stands, grant};
 ghost use Rattle.ifdb_authority.specs.Search.{IsExtended, is_grantor};
 
 use crate::grantors::Grantors;
@@ -58,6 +58,13 @@ impl Authority {
     {
         self.owners.push(owner)?;
         Ok(())
+    }
+
+    /// Takes the last `made` back, where the tag was not made after all. Takes no memory.
+    pub fn unmade(&mut self)
+        ensures { (before : Delegation) (owner : ℕ) → self.old ≡ owned before owner → self.new ≡ before }
+    {
+        self.owners.pop();
     }
 
     /// The same owners and grants.

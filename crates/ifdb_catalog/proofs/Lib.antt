@@ -14,3 +14,5 @@ mod NameExamples
 mod DefinitionExamples
 mod QueryExamples
 mod StatementExamples
+mod Lookups
+mod Changes

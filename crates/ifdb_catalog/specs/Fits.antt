@@ -1,6 +1,7 @@
 -- Whether a bound request fits the public state: its numbers stand for something, and its trees fit the columns that they are over.
 use Rattle.std.specs.Prelude.{ℕ, Bool, true, false, ◌&&◌, ◌==◌, not, List, [], ◌∷◌, map, length, nat_lt, Some}
 use Rattle.std.specs.List.{list_all, list_any}
+use Rattle.std.specs.Option.{is_some}
 use Rattle.ifdb_value.specs.declared.value.ValueKind.{ValueKind}
 use Rattle.ifdb_value.specs.declared.column.Column.{Column}
 use Rattle.ifdb_label.specs.Tags.{are_made, are_compound}
@@ -18,7 +19,7 @@ use Rattle.ifdb_bound.specs.declared.select.BoundSelect.{BoundSelect}
 use Rattle.ifdb_bound.specs.declared.select.BoundSource.{BoundSource}
 use Rattle.ifdb_bound.specs.declared.select.Relation.{Relation}
 use Rattle.ifdb_bound.specs.declared.select.Relation.TheVariants as relation
-use Rattle.ifdb_catalog.specs.Public.{Public, tags_of, table_at}
+use Rattle.ifdb_catalog.specs.Public.{Public, tags_of, table_at, principal_named, tag_named, relation_named}
 use Rattle.ifdb_catalog.specs.Scope.{kinds_of, relation_columns}
 use Rattle.ifdb_catalog.specs.Statements.{values_fit, assignment_fits}
 use Rattle.ifdb_catalog.specs.Definitions.{foreign_fits}
@@ -82,6 +83,15 @@ view_fits p v =
     && (list_all is_over_table v.select.sources
     && ((length v.names == length v.select.items)
     && label_fits p v.declassifying))
+
+-- what a change makes has a name that stands for nothing yet in its space
+abbrev pub is_new : Public → Change → Bool
+is_new p (change.Principal asker name key) = not (is_some (principal_named p name))
+is_new p (change.Tag asker name kind parents) = not (is_some (tag_named p name))
+is_new p (change.Table asker schema) = not (is_some (relation_named p schema.name))
+is_new p (change.View view) = not (is_some (relation_named p view.name))
+is_new p (change.Grant asker tag to) = true
+is_new p (change.Revoke asker tag from) = true
 
 -- ---- requests
 

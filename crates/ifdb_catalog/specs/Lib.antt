@@ -8,4 +8,5 @@ pub mod Statements
 pub mod Definitions
 pub mod Binding
 pub mod Fits
+pub mod Kept
 pub mod Laws

@@ -1,9 +1,12 @@
 //! The public state: principals, tags, grants, tables and views; its changes; and what a request's names stand for in it.
 #![tactic(auto)]
 
+mod catalog;
 mod laws;
 
+pub use catalog::Catalog;
 pub use ifdb_bound::Relation;
 pub use laws::{
     bound_requests_fit, names_mean_one_column, states_stay_fitting, tags_stay_well_formed,
 };
+pub use std::alloc::AllocError as OutOfMemory;
