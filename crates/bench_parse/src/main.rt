@@ -11,8 +11,8 @@ use statements::{STATEMENTS, Statement, limit_lines};
 use std::time::Instant;
 use std::{env, io};
 
-/// How long each statement is read again and again, in nanoseconds.
-const SPAN: u64 = 200_000_000;
+/// How often each line is read, to find the least time.
+const CALLS: u32 = 300;
 
 fn main(rt: HostRuntime) -> io::Result<()> {
     let timed = env::args(&rt)?.nth(1).is_some();
@@ -42,39 +42,33 @@ fn show(rt: &HostRuntime, name: &str, line: &[u8]) -> io::Result<()> {
     }
 }
 
-/// Prints how many lines a second the parser reads.
+/// Prints how many lines a second the parser reads, by the least time of many calls.
 fn time(rt: &HostRuntime, name: &str, line: &[u8]) -> io::Result<()> {
-    let mut lines = 0u64;
-    let start = Instant::now(rt)?;
-    let mut spent = 0;
-    while spent < SPAN {
-        for _ in 0..100 {
-            let read = parse(rt.alloc(), line);
-            drop(read);
-        }
-        lines = lines.saturating_add(100);
-        spent = nanoseconds_since(rt, start)?;
+    let mut least = u64::MAX;
+    for _ in 0..CALLS {
+        let start = Instant::now(rt)?;
+        let read = parse(rt.alloc(), line);
+        let time = nanoseconds_since(rt, start)?;
+        drop(read);
+        least = least.min(time);
     }
-    println!(rt; "{name}: {} lines/s", per_second(lines, spent))
+    println!(rt; "{name}: {} lines/s", per_second(least))
 }
 
 /// Prints how many lines a second `sqlite_syntax` reads.
 fn time_sqlite(rt: &HostRuntime, statement: &Statement) -> io::Result<()> {
-    let mut lines = 0u64;
-    let start = Instant::now(rt)?;
-    let mut spent = 0;
-    while spent < SPAN {
-        for _ in 0..100 {
-            let read = sqlite_syntax::parse(rt.alloc(), statement.text);
-            drop(read);
-        }
-        lines = lines.saturating_add(100);
-        spent = nanoseconds_since(rt, start)?;
+    let mut least = u64::MAX;
+    for _ in 0..CALLS {
+        let start = Instant::now(rt)?;
+        let read = sqlite_syntax::parse(rt.alloc(), statement.text);
+        let time = nanoseconds_since(rt, start)?;
+        drop(read);
+        least = least.min(time);
     }
     println!(rt;
         "{} (sqlite_syntax): {} lines/s",
         statement.name,
-        per_second(lines, spent)
+        per_second(least)
     )
 }
 
@@ -87,9 +81,7 @@ fn nanoseconds_since(rt: &HostRuntime, start: Instant) -> io::Result<u64> {
     )
 }
 
-fn per_second(lines: u64, nanoseconds: u64) -> u64 {
-    lines
-        .saturating_mul(1_000_000_000)
-        .checked_div(nanoseconds)
-        .unwrap_or(0)
+/// How often a second what takes so many nanoseconds can be done.
+fn per_second(nanoseconds: u64) -> u64 {
+    1_000_000_000u64.checked_div(nanoseconds).unwrap_or(0)
 }

@@ -68,9 +68,32 @@ fn conditions_are_read(rt: HostRuntime) -> Result<(), Fail> {
 fn faults_are_placed(rt: HostRuntime) -> Result<(), Fail> {
     are_answered(&rt, rt.alloc(), &lines::TOKEN_FAULTS)?;
     are_answered(&rt, rt.alloc(), &lines::FIRST_PLACES)?;
-    are_answered(&rt, rt.alloc(), &lines::MIDDLE_PLACES)?;
     are_answered(&rt, rt.alloc(), &lines::LAST_PLACES)?;
     are_answered(&rt, rt.alloc(), &lines::LIMITS)?;
+    Ok(())
+}
+
+#[test]
+fn faults_of_definitions_are_placed(rt: HostRuntime) -> Result<(), Fail> {
+    are_answered(&rt, rt.alloc(), &lines::OPENING_PLACES)?;
+    are_answered(&rt, rt.alloc(), &lines::DEFINITION_PLACES)?;
+    are_answered(&rt, rt.alloc(), &lines::WORD_PLACES)?;
+    Ok(())
+}
+
+#[test]
+fn faults_of_queries_are_placed(rt: HostRuntime) -> Result<(), Fail> {
+    are_answered(&rt, rt.alloc(), &lines::ITEM_PLACES)?;
+    are_answered(&rt, rt.alloc(), &lines::SOURCE_PLACES)?;
+    are_answered(&rt, rt.alloc(), &lines::CONDITION_PLACES)?;
+    are_answered(&rt, rt.alloc(), &lines::ORDER_PLACES)?;
+    Ok(())
+}
+
+#[test]
+fn faults_of_writes_are_placed(rt: HostRuntime) -> Result<(), Fail> {
+    are_answered(&rt, rt.alloc(), &lines::INSERT_PLACES)?;
+    are_answered(&rt, rt.alloc(), &lines::CHANGE_PLACES)?;
     Ok(())
 }
 

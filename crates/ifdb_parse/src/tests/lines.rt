@@ -272,8 +272,8 @@ pub static FIRST_PLACES: [(&[u8], &str); 13] = [
     (b"IN", "Syntax(0)"),
 ];
 
-/// A token in the middle that goes on with no line.
-pub static MIDDLE_PLACES: [(&[u8], &str); 116] = [
+/// A token in the middle that goes on with no line: who asks, principals and tags.
+pub static OPENING_PLACES: [(&[u8], &str); 14] = [
     (b"HELLO KEY 'x'", "Syntax(6)"),
     (b"HELLO a 'x'", "Syntax(8)"),
     (b"HELLO a KEY b", "Syntax(12)"),
@@ -288,6 +288,10 @@ pub static MIDDLE_PLACES: [(&[u8], &str); 116] = [
     (b"CREATE TAG a IN (b,)", "Syntax(19)"),
     (b"CREATE TAG a IN (b c)", "Syntax(19)"),
     (b"CREATE PRINCIPAL p 'k'", "Syntax(19)"),
+];
+
+/// The same in tables and views.
+pub static DEFINITION_PLACES: [(&[u8], &str); 17] = [
     (b"CREATE TABLE t id INT", "Syntax(15)"),
     (b"CREATE TABLE t ()", "Syntax(16)"),
     (b"CREATE TABLE t (PRIMARY KEY (a))", "Syntax(16)"),
@@ -320,6 +324,10 @@ pub static MIDDLE_PLACES: [(&[u8], &str); 116] = [
         b"CREATE VIEW v AS SELECT * FROM t WITH DECLASSIFYING ()",
         "Syntax(53)",
     ),
+];
+
+/// The same in grants, labels and requests of one word.
+pub static WORD_PLACES: [(&[u8], &str); 11] = [
     (b"GRANT a FROM b", "Syntax(8)"),
     (b"REVOKE a TO b", "Syntax(9)"),
     (b"SET LABEL a", "Syntax(10)"),
@@ -331,6 +339,10 @@ pub static MIDDLE_PLACES: [(&[u8], &str); 116] = [
     (b"BYE BYE", "Syntax(4)"),
     (b"BYE ; ;", "Syntax(6)"),
     (b"COMMIT ; x", "Syntax(9)"),
+];
+
+/// The same in the items of a SELECT.
+pub static ITEM_PLACES: [(&[u8], &str); 22] = [
     (b"SELECT FROM t", "Syntax(7)"),
     (b"SELECT *, a FROM t", "Syntax(8)"),
     (b"SELECT a, * FROM t", "Syntax(10)"),
@@ -353,12 +365,20 @@ pub static MIDDLE_PLACES: [(&[u8], &str); 116] = [
     (b"SELECT a.b.c FROM t", "Syntax(10)"),
     (b"SELECT a.1 FROM t", "Syntax(9)"),
     (b"SELECT a - b -c 1 FROM t", "Syntax(16)"),
+];
+
+/// The same behind FROM.
+pub static SOURCE_PLACES: [(&[u8], &str); 6] = [
     (b"SELECT a FROM 1", "Syntax(14)"),
     (b"SELECT a FROM t AS", "Syntax(18)"),
     (b"SELECT a FROM t AS 1", "Syntax(19)"),
     (b"SELECT a FROM t u v", "Syntax(18)"),
     (b"SELECT a FROM t,", "Syntax(16)"),
     (b"SELECT a FROM t, WHERE a = 1", "Syntax(17)"),
+];
+
+/// The same in conditions.
+pub static CONDITION_PLACES: [(&[u8], &str); 14] = [
     (b"SELECT a FROM t WHERE a", "Syntax(23)"),
     (b"SELECT a FROM t WHERE a = ", "Syntax(26)"),
     (b"SELECT a FROM t WHERE a + 1 = 2", "Syntax(24)"),
@@ -373,6 +393,10 @@ pub static MIDDLE_PLACES: [(&[u8], &str); 116] = [
     (b"SELECT a FROM t WHERE (a = 1", "Syntax(28)"),
     (b"SELECT a FROM t WHERE a = 1)", "Syntax(27)"),
     (b"SELECT a FROM t WHERE a IS NULL", "Syntax(24)"),
+];
+
+/// The same in groups and orders.
+pub static ORDER_PLACES: [(&[u8], &str); 7] = [
     (b"SELECT a FROM t GROUP a", "Syntax(22)"),
     (b"SELECT a FROM t GROUP BY 1", "Syntax(25)"),
     (b"SELECT a FROM t GROUP BY a WHERE a = 1", "Syntax(27)"),
@@ -380,6 +404,10 @@ pub static MIDDLE_PLACES: [(&[u8], &str); 116] = [
     (b"SELECT a FROM t ORDER BY a DESC ASC", "Syntax(32)"),
     (b"SELECT a FROM t ORDER BY -1", "Syntax(25)"),
     (b"SELECT a FROM t ORDER BY a GROUP BY a", "Syntax(27)"),
+];
+
+/// The same in INSERT.
+pub static INSERT_PLACES: [(&[u8], &str); 12] = [
     (b"INSERT t VALUES (1)", "Syntax(7)"),
     (b"INSERT INTO t () VALUES (1)", "Syntax(15)"),
     (b"INSERT INTO t (1)", "Syntax(15)"),
@@ -392,6 +420,10 @@ pub static MIDDLE_PLACES: [(&[u8], &str); 116] = [
     (b"INSERT INTO t VALUES (1,)", "Syntax(24)"),
     (b"INSERT INTO t VALUES (NULL)", "Syntax(22)"),
     (b"INSERT INTO t VALUES (1) DECLASSIFYING a", "Syntax(39)"),
+];
+
+/// The same in UPDATE and DELETE, and requests that aren't any.
+pub static CHANGE_PLACES: [(&[u8], &str); 13] = [
     (b"UPDATE t a = 1", "Syntax(9)"),
     (b"UPDATE t SET a", "Syntax(14)"),
     (b"UPDATE t SET t.a = 1", "Syntax(14)"),
