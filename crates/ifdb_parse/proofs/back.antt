@@ -1,0 +1,11 @@
+pub mod Lighter
+pub mod Prints
+pub mod Exprs
+pub mod Conds
+pub mod Queries
+pub mod Requests
+pub mod Fronts
+pub mod Reads
+pub mod Texts
+pub mod Limits
+pub mod Back

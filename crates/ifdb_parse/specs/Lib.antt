@@ -1,0 +1,9 @@
+pub mod theory
+pub mod rules
+pub mod Lexemes
+pub mod Readable
+pub mod TreeLimits
+pub mod Numbers
+pub mod Parsed
+pub mod Back
+pub mod Laws

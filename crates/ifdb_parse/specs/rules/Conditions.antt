@@ -1,0 +1,77 @@
+-- Conditions.
+use Rattle.std.specs.Prelude.{ℕ, zero, suc, [], ◌∷◌, length, Option}
+use Rattle.ifdb_value.specs.declared.value.Compare.{Compare}
+use Rattle.ifdb_syntax.specs.declared.expression.Operand.{Operand}
+use Rattle.ifdb_syntax.specs.declared.expression.Operand.TheVariants as o
+use Rattle.ifdb_syntax.specs.declared.condition.Cond.{Cond}
+use Rattle.ifdb_syntax.specs.declared.condition.Cond.TheVariants as c
+use Rattle.ifdb_syntax.specs.Words.{NOT, AND, OR, WHERE, OPEN, NAME}
+use Rattle.ifdb_syntax.specs.Conditions.{compare_of, and_of, or_of}
+use Rattle.ifdb_parse.specs.theory.Parser.{Parser, ◌>>=◌, ◌>>◌, pure, take, branch}
+use Rattle.ifdb_parse.specs.rules.Shared.{token, parens, optional, separated}
+use Rattle.ifdb_parse.specs.rules.Expressions.{column_ref, literal}
+
+-- operand = ref | literal
+unfoldable pub operand : Parser Operand
+operand = branch (NAME ∷ []) (do c ← column_ref; pure (o.Column c)) (do v ← literal; pure (o.Literal v))
+
+-- compare = = | <> | < | <= | > | >=
+unfoldable pub compare : Parser Compare
+compare = take compare_of
+
+-- operand compare operand
+unfoldable pub comparison : Parser Cond
+comparison = do
+  left ← operand
+  how ← compare
+  right ← operand
+  pure (c.Compare left how right)
+
+-- NOT before what follows it
+unfoldable pub negation : Parser Cond → Parser Cond
+negation prim = do
+  token NOT
+  x ← prim
+  pure (c.Not x)
+
+-- NOT, at most so many times, before p
+unfoldable pub negated_upto : Parser Cond → ℕ → Parser Cond
+negated_upto p zero = p
+negated_upto p (suc n) = branch (NOT ∷ []) (negation (negated_upto p n)) p
+
+-- NOT any number of times before p: no more than the text is long
+unfoldable pub negated : Parser Cond → Parser Cond
+negated p = λ s. negated_upto p (length s) s
+
+-- ( cond ) | operand compare operand
+unfoldable pub basic : Parser Cond → Parser Cond
+basic cond = branch (OPEN ∷ []) (parens cond) comparison
+
+-- prim = NOT prim | ( cond ) | operand compare operand
+unfoldable pub prim : Parser Cond → Parser Cond
+prim cond = negated (basic cond)
+
+-- conj = prim {AND prim}
+unfoldable pub conj : Parser Cond → Parser Cond
+conj prim = do
+  parts ← separated AND prim
+  pure (and_of parts)
+
+-- cond = conj {OR conj}, of which `cond` below ties the knot
+unfoldable pub disj : Parser Cond → Parser Cond
+disj conj = do
+  parts ← separated OR conj
+  pure (or_of parts)
+
+-- a condition with parentheses so many deep
+unfoldable pub cond_upto : ℕ → Parser Cond
+cond_upto zero = disj (conj (negated comparison))
+cond_upto (suc n) = disj (conj (prim (cond_upto n)))
+
+-- cond = conj {OR conj}: parentheses are no deeper than the text is long
+unfoldable pub cond : Parser Cond
+cond = λ s. cond_upto (length s) s
+
+-- [WHERE cond]
+unfoldable pub condition : Parser (Option Cond)
+condition = optional (WHERE ∷ []) (do token WHERE; cond)
