@@ -5,6 +5,7 @@ pub mod Found
 mod QueriesFit
 mod StatementsFit
 pub mod BoundRequestsFit
+mod BoundChangesAreNew
 pub mod Growth
 pub mod Made
 mod StatesFit
