@@ -1,5 +1,5 @@
 pub mod Computing
-mod Tests
+pub mod Tests
 pub mod Judging
 pub mod Found
 mod QueriesFit
@@ -9,7 +9,7 @@ mod BoundChangesAreNew
 pub mod Growth
 pub mod Made
 mod StatesFit
-mod Resolution
+pub mod Resolution
 mod Site
 mod NameExamples
 mod DefinitionExamples
