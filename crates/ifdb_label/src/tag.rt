@@ -3,6 +3,7 @@ ghost use Rattle.std.specs.Prelude.{◌≡◌, ◌↔◌, ◌++◌, ◌∷◌, �
 ghost use Rattle.ifdb_label.specs.Tags.{AreMade, AreWellFormed, below, kind_of, made_tag, refusal, are_made, are_compound};
 ghost use Rattle.ifdb_label.specs.Ancestors.{HasAbove, HasAncestors};
 
+use crate::OutOfMemory;
 use crate::rising::{insert, insert_all};
 use std::alloc::{AllocError, Global};
 use std::marker::Model;
@@ -82,6 +83,19 @@ impl Entry {
     {
         &self.ancestors
     }
+
+    /// The same tag.
+    fn copy(&self, alloc: Global) -> Result<Entry, AllocError>
+        ensures { IfOk result (λ entry. entry ≡ self.now) }
+    {
+        let parents = Vec::from_slice(alloc, &self.parents)?;
+        let ancestors = Vec::from_slice(alloc, &self.ancestors)?;
+        Ok(Entry {
+            kind: self.kind,
+            parents,
+            ancestors,
+        })
+    }
 }
 
 /// All tags that were made, by number.
@@ -118,6 +132,16 @@ impl Tags {
             alloc,
             entries: Vec::new(alloc),
         }
+    }
+
+    /// The same tags, in memory of `alloc`, from which the copy takes more when tags are added to it.
+    ///
+    /// In time and memory the tags, with the parents and all tags above each.
+    pub fn copy(&self, alloc: Global) -> Result<Tags, OutOfMemory>
+        ensures { IfOk result (λ tags. tags ≡ self.now) }
+    {
+        let entries = copied(alloc, &self.entries)?;
+        Ok(Tags { alloc, entries })
     }
 
     /// How many tags were made.
@@ -237,4 +261,15 @@ impl Tags {
         tags.iter()
             .all(|tag| self.kind(*tag) == Some(TagKind::Compound))
     }
+}
+
+/// The same entries.
+fn copied(alloc: Global, entries: &[Entry]) -> Result<Vec<Entry>, AllocError>
+    ensures { IfOk result (λ copies. copies.items ≡ entries.now) }
+{
+    let mut copies = Vec::new(alloc);
+    for entry in entries {
+        copies.push(entry.copy(alloc)?)?;
+    }
+    Ok(copies)
 }
