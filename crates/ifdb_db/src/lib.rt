@@ -1,7 +1,6 @@
-//! The running machine: sessions with labels, over a list of rows.
+//! The running server: sessions with labels, the public state, and rows that each label sees its own part of.
 #![tactic(auto)]
 
-mod room;
 mod rows;
 
-pub use room::Room;
+pub use std::alloc::AllocError as OutOfMemory;
