@@ -1,1 +1,4 @@
 mod RowLemmas
+mod Selecting
+mod Inserting
+mod Keeping

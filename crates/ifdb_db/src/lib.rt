@@ -1,6 +1,10 @@
 //! The running server: sessions with labels, the public state, and rows that each label sees its own part of.
 #![tactic(auto)]
 
+mod db;
 mod rows;
+mod session;
 
+pub use db::Db;
+pub use session::Session;
 pub use std::alloc::AllocError as OutOfMemory;
