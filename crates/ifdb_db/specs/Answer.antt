@@ -3,15 +3,19 @@ use Rattle.std.specs.Prelude.{◌≡◌, ◌⊎◌, ℕ, List, [], ◌∷◌, Op
 use Rattle.ifdb_value.specs.declared.value.Value.{Value}
 use Rattle.ifdb_label.specs.Tags.{MadeTag}
 use Rattle.ifdb_row.specs.declared.row.Row.{Row}
-use Rattle.ifdb_row.specs.declared.slot.Slot.{Slot}
+use Rattle.ifdb_row.specs.declared.write.Write.{Write}
 use Rattle.ifdb_row.specs.Content.{after}
 use Rattle.ifdb_row.specs.Seen.{clash}
 use Rattle.ifdb_syntax.specs.declared.request.Request.{Request}
 use Rattle.ifdb_wire.specs.declared.fault.Fault.{Fault}
 use Rattle.ifdb_wire.specs.declared.fault.Fault.TheVariants as fault
+use Rattle.ifdb_wire.specs.declared.reply.Table.{Table}
+use Rattle.ifdb_wire.specs.declared.reply.Reply.{Reply}
 use Rattle.ifdb_wire.specs.declared.reply.Reply.TheVariants as reply
-use Rattle.ifdb_catalog.specs.Public.{changed}
+use Rattle.ifdb_wire.specs.Text.{IsUnbounded}
+use Rattle.ifdb_catalog.specs.Public.{tags_of, changed}
 use Rattle.ifdb_catalog.specs.Binding.{bound}
+use Rattle.ifdb_db.specs.Rows.{shown_values}
 use Rattle.ifdb_model.specs.server.Log.{Entry, changes, commits}
 use Rattle.ifdb_model.specs.server.Session.{Session, Seen}
 use Rattle.ifdb_model.specs.server.Writes.{new_write}
@@ -54,11 +58,43 @@ answered x s (Ok r) = answered_by x s s.principal r
 abbrev pub IsRefusal : Outcome → Session → Fault → Type 0
 IsRefusal o s f = (f ≡ fault.OutOfMemory) ⊎ (o ≡ refuses s f)
 
+-- the reply, the session and what all see are those of the outcome
+pub record IsDone (o : Outcome) (t : Session) (x y : Seen) (r : Reply) : Type 0 where
+  pub told : r ≡ o.reply
+  pub session : t ≡ o.session
+  pub seen : y ≡ with_entry x o.added
+
+-- the session is refused, or there was no memory, and all is as before
+pub record IsUndone (o : Outcome) (s t : Session) (x y : Seen) (f : Fault) : Type 0 where
+  pub cause : IsRefusal o s f
+  pub session : t ≡ s
+  pub seen : y ≡ x
+
+-- A session s over what all see, x, came to t and y, and was told this. An error is a refusal, which changes nothing.
+abbrev pub IsAnswered : Outcome → Session → Session → Seen → Seen → Result Reply Fault → Type 0
+IsAnswered o s t x y (Ok r) = IsDone o t x y r
+IsAnswered o s t x y (Err f) = IsUndone o s t x y f
+
+-- a reply of any length comes with no change
+abbrev pub IsStill : Session → Session → Seen → Seen → Result Reply Fault → Type 0
+IsStill s t x y (Ok r) = IsUnbounded r → (y ≡ x) × (t ≡ s)
+IsStill s t x y (Err f) = Unit {0}
+
+-- ---- SELECT of one column
+
+-- the table of the values in the column of a table that a label sees
+abbrev pub shown_table : Seen → ℕ → ℕ → List ℕ → Table
+shown_table x table column label = record { columns = 1; rows = shown_values (tags_of x.public) x.rows table column label }
+
 -- ---- INSERT of one row of one value
 
--- the write of a row of one value
-abbrev pub value_write : ℕ → Value → List ℕ → Rattle.ifdb_row.specs.declared.write.Write.Write
-value_write table value label = new_write (record { table = table; key = value ∷ []; label = label }) (value ∷ []) []
+-- the row
+abbrev pub value_row : ℕ → Value → List ℕ → Row
+value_row table value label = record { slot = record { table = table; key = value ∷ []; label = label }; values = value ∷ []; refs = [] }
+
+-- its write
+abbrev pub value_write : ℕ → Value → List ℕ → Write
+value_write table value label = new_write (value_row table value label).slot (value ∷ []) []
 
 -- refused exactly where the session sees a row of the key
 abbrev pub inserted : List MadeTag → List Row → Session → ℕ → Value → Outcome

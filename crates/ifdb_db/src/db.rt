@@ -2,6 +2,13 @@
 ghost use Rattle.std.specs.Prelude.{◌≡◌, [], IfOk};
 ghost use Rattle.ifdb_catalog.specs.Public.{opening as first_public, tags_of};
 
+mod answer;
+mod binding;
+mod hello;
+mod label;
+mod publish;
+mod statement;
+
 use crate::OutOfMemory;
 use ifdb_catalog::Catalog;
 use ifdb_label::Tags;
