@@ -2,6 +2,7 @@
 #![tactic(auto)]
 
 mod db;
+mod reading;
 mod rows;
 mod session;
 
