@@ -15,12 +15,13 @@ use Rattle.ifdb_bound.specs.declared.schema.Schema.{Schema}
 use Rattle.ifdb_bound.specs.declared.request.Change.{Change}
 use Rattle.ifdb_bound.specs.declared.request.Change.TheVariants as change
 use Rattle.ifdb_catalog.specs.Public.{Public, KnownTag, changed}
-use Rattle.ifdb_model.specs.server.Session.{Session, Txn, Seen, in_txn}
+use Rattle.ifdb_model.specs.server.Session.{Session, Txn, Seen, closed, in_txn}
 use Rattle.ifdb_model.specs.server.Log.{Entry, changes, commits}
 use Rattle.ifdb_db.specs.Rows.{are_rows_made, with_row}
 use Rattle.ifdb_db.specs.Kept.{is_plain_table, IsSound, is_kept}
 use Rattle.ifdb_db.specs.Numbers.{is_plain_change}
 use Rattle.ifdb_db.specs.Answer.{with_entry}
+use Rattle.ifdb_db.proofs.RowLemmas.{all_at}
 
 -- ---- tags that are made stay made
 
@@ -97,3 +98,16 @@ sound_placed p row rows m h = record {
   in_order = rising_place row.slot (Some row) rows (slot_itself row.slot) h.in_order;
   made = all-place (λ (r : Row). are_made (length p.tags) r.slot.label) row.slot (Some row) rows (grind (arith, nat_tests)) h.made;
 }
+
+-- ---- one session of many
+
+pub set_closed : (p : Public) (sessions : List Session) (k : ℕ) (s t : Session) → list_all (is_kept p) sessions ≡ true → k < length sessions → t ≡ get_or sessions k t → s ≡ closed t
+    → list_all (is_kept p) (set sessions k s) ≡ true
+set_closed p sessions k s t h lt e c =
+    let kept : is_kept p t ≡ true = ap (is_kept p) e ∙ all_at (is_kept p) sessions k t h lt in
+    all_set (is_kept p) sessions k s (ap (is_kept p) c ∙ grind (arith, nat_tests)) h
+
+pub set_answered : (x y : Seen) (e : Option Entry) (sessions : List Session) (k : ℕ) (t : Session) → list_all (is_kept x.public) sessions ≡ true → y ≡ with_entry x e → is_kept y.public t ≡ true
+    → list_all (is_kept y.public) (set sessions k t) ≡ true
+set_answered x y e sessions k t h w kt =
+    all_set (is_kept y.public) sessions k t kt (all_kept_more x.public y.public sessions (subst (λ (z : Seen). length x.public.tags ≤ length z.public.tags) (sym w) (tags_grow_by x e)) h)

@@ -1,5 +1,5 @@
 -- A room goes along with each state of the machine that it stands for.
-use Rattle.std.proofs.Common.{◌≡◌, ℕ, zero, suc, ◌-◌, ◌<◌, Bool, true, false, List, [], ◌∷◌, ◌++◌, ◌∙◌, length, get_or, refl, sym, ap, subst, arith, Option, Some, None, cond}
+use Rattle.std.proofs.Common.{◌≡◌, ℕ, zero, suc, ◌-◌, ◌<◌, Bool, true, false, List, [], ◌∷◌, ◌++◌, ◌∙◌, length, get_or, refl, sym, ap, subst, arith, Option, Some, None, cond, inl, inr}
 use Rattle.std.specs.Prelude.{Result, Ok, Err, ◌&&◌, not, nat_lt, nat_le, slice_index_or, slice_set, option_to_list}
 use Rattle.std.specs.List.{list_all}
 use Rattle.std.proofs.Math.ListN.{set}
@@ -11,6 +11,7 @@ use Rattle.ifdb_syntax.specs.declared.request.Request.{Request}
 use Rattle.ifdb_syntax.specs.declared.request.Request.TheVariants as q
 use Rattle.ifdb_wire.specs.declared.fault.Fault.{Fault}
 use Rattle.ifdb_wire.specs.declared.fault.Fault.TheVariants as fault
+use Rattle.ifdb_wire.specs.declared.reply.Reply.{Reply}
 use Rattle.ifdb_catalog.specs.Public.{Public, changed}
 use Rattle.ifdb_bind.specs.Built.{is_built}
 use Rattle.ifdb_model.specs.server.Log.{Entry, changes, commits, public_from, public_of, commits_of, content_of}
@@ -18,7 +19,7 @@ use Rattle.ifdb_model.specs.server.Session.{Txn, Session, new_session, no_sessio
 use Rattle.ifdb_model.specs.server.Step.{Form, greets, publishes, relabels, shows_label, begins, ends, rolls_back, leaves_us, looks, writes, form_of, Outcome, refuses, if_built, ask, ask_read, ask_by, ask_as, ask_new}
 use Rattle.ifdb_model.specs.server.Run.{State, session_of, outcome_of, with_outcome, asks, opens, leaves, next}
 use Rattle.ifdb_db.specs.Kept.{is_kept}
-use Rattle.ifdb_db.specs.Answer.{with_entry, answered, answered_by, answered_as, answered_new}
+use Rattle.ifdb_db.specs.Answer.{with_entry, IsRefusal, answered, answered_by, answered_as, answered_new}
 use Rattle.ifdb_parse.specs.Parsed.{parsed}
 use Rattle.ifdb_db.specs.Reading.{request_or_fault, read_line}
 use Rattle.ifdb_db.specs.Room.{Hall, StandsFor, session_in, outcome_in, with_outcome_in, with_session_in, are_kept}
@@ -224,3 +225,16 @@ pub close_kept : (p : Public) (sessions : List Session) (k : ℕ) → list_all (
 close_kept p [] k h = refl
 close_kept p (s ∷ sessions) zero h = grind (arith, nat_tests)
 close_kept p (s ∷ sessions) (suc k) h = close_kept p sessions k (grind (arith, nat_tests))
+
+pub told_there : (h : Hall) (n : ℕ) (line : List ℕ) (s : Session) (r : Reply) → (session_in h n).is_open ≡ true → s ≡ session_in h n
+    → r ≡ (answered h.seen s (read_line line)).reply → r ≡ (outcome_in h n line).reply
+told_there h n line s r o e t = rw o (t ∙ ap (λ (x : Session). (answered h.seen x (read_line line)).reply) e)
+
+-- the reply of an outcome, and that of a refusal
+pub told_reply : (h : Hall) (st : State) (n : ℕ) (line : List ℕ) (r : Reply) → are_kept h ≡ true → r ≡ (outcome_in h n line).reply → StandsFor h st → r ≡ (outcome_of read_line st n line).reply
+told_reply h st n line r k t w = t ∙ sym (ap (λ (o : Outcome). o.reply) (same_outcome h st n line k w))
+
+-- a refusal that isn't want of memory
+pub refused_so : (o : Outcome) (s : Session) (f : Fault) → (f ≡ fault.OutOfMemory → ⊥) → IsRefusal o s f → o ≡ refuses s f
+refused_so o s f h (inl e) = absurd (h e)
+refused_so o s f h (inr e) = e

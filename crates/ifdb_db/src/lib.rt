@@ -3,9 +3,11 @@
 
 mod db;
 mod reading;
+mod room;
 mod rows;
 mod session;
 
 pub use db::Db;
+pub use room::Room;
 pub use session::Session;
 pub use std::alloc::AllocError as OutOfMemory;
