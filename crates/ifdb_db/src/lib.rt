@@ -1,7 +1,13 @@
-//! The running machine: sessions with labels, over a list of rows.
+//! The running server: sessions with labels, the public state, and rows that each label sees its own part of.
 #![tactic(auto)]
 
+mod db;
+mod reading;
 mod room;
 mod rows;
+mod session;
 
+pub use db::Db;
 pub use room::Room;
+pub use session::Session;
+pub use std::alloc::AllocError as OutOfMemory;

@@ -1,114 +1,102 @@
-// The machine's state, and one step of a session.
-ghost use Rattle.std.specs.Prelude.{◌≡◌, ◌+◌, ◌↔◌, IfOk, IfSome, IsSome, IsTrue, OnErr, OnOk, length};
-ghost use Rattle.ifdb_label.specs.Tags.{AreMade};
-ghost use Rattle.ifdb_label.specs.Label.{reduce};
-ghost use Rattle.ifdb_model.specs.Machine.{ask, asks, insert, is_open, named, next, opening, opens, select, session_of, set_label, told, with_outcome};
-ghost use Rattle.ifdb_model.specs.Reply.{AreRows};
-ghost use Rattle.ifdb_model.specs.Row.{rising};
-ghost use Rattle.ifdb_model.specs.Session.{the_tags};
-ghost use Rattle.ifdb_db.specs.Room.{answered};
-ghost use Rattle.ifdb_db.specs.Rows.{AreRowsMade, inserted};
+// The sessions over what all see.
+ghost use Rattle.std.specs.Prelude.{◌≡◌, ◌↔◌, ◌++◌, ◌∷◌, [], ℕ, true, false, Some, None, IfOk, IfErr, IfSome, IsSome, IsTrue, OnErr, OnOk, length};
+ghost use Rattle.ifdb_wire.specs.declared.reply.Reply.TheVariants as reply;
+ghost use Rattle.ifdb_wire.specs.Text.{reply_text, IsUnbounded};
+ghost use Rattle.ifdb_catalog.specs.Public.{tags_of};
+ghost use Rattle.ifdb_model.specs.server.Session.{closed, in_txn, new_session};
+ghost use Rattle.ifdb_model.specs.server.Run.{State, asks, leaves, next, opening, opens, outcome_of};
+ghost use Rattle.ifdb_db.specs.Answer.{IsRefusal};
+ghost use Rattle.ifdb_db.specs.Reading.{read_line};
+ghost use Rattle.ifdb_db.specs.Room.{StandsFor, are_kept, outcome_in, session_in, was_opened, with_outcome_in, with_session_in};
 
-use crate::rows::{clashes, place, seen_keys};
-use ifdb_label::{Label, OutOfMemory, Tag, TagKind, Tags};
-use ifdb_model::{Fault, Reply, Request, Row, Session, Slot};
-use ifdb_value::{Principal, TableId};
+use crate::OutOfMemory;
+use crate::db::Db;
+use crate::session::Session;
+use ifdb_label::{Label, Tags};
+use ifdb_wire::{Fault, Out, Reply};
 use std::alloc::Global;
 use std::marker::Model;
 
-/// The principal of every session.
-const GUEST: Principal = Principal(0);
-
-/// The table `note`.
-const NOTE: TableId = TableId(0);
-
-/// The sessions and the rows.
+/// The sessions by number from 1, over what all see.
 ///
-/// Contracts see the state of the machine: the rows in the order of their slots, and the sessions by number from 1.
+/// Contracts see a hall, which stands for a state of the machine: what its log leaves, and its sessions.
 #[derive(Drop)]
 pub struct Room {
     alloc: Global,
-    tags: Tags,
-    rows: Vec<Row>,
+    db: Db,
     sessions: Vec<Session>,
 }
 
 impl Model for Room {
-    ghost use Rattle.ifdb_model.specs.Machine.{State};
-    ghost use Rattle.ifdb_db.specs.Room.{IsRoom};
+    ghost use Rattle.std.specs.Prelude.{IsTrue};
+    ghost use Rattle.std.specs.List.{list_all};
+    ghost use Rattle.ifdb_db.specs.Kept.{is_kept};
+    ghost use Rattle.ifdb_db.specs.Room.{Hall};
 
-    ghost Value = { State };
+    ghost Value = { Hall };
 
-    ghost view = { λ r. record { rows = r.rows.items; sessions = r.sessions.items } };
+    ghost use Rattle.std.specs.Coded.{codes};
+    ghost use Rattle.ifdb_bound.specs.contracts.condition.BoundCond as cond;
+    ghost use Rattle.ifdb_bound.specs.contracts.expression.BoundExpr as expr;
 
-    ghost invariant = { λ r. IsRoom r.tags r.rows.items r.sessions.items };
+    ghost coded = { Prim.hlevel (codes, cond.the_row.coded, expr.the_row.coded) };
+
+    ghost view = { λ r. record { seen = r.db; sessions = r.sessions.items } };
+
+    ghost invariant = { λ r. IsTrue (list_all (is_kept r.db.public) r.sessions.items) };
 }
 
 impl Room {
-    /// The opening: no rows, and no sessions.
-    pub fn opening(alloc: Global) -> Result<Self, OutOfMemory>
-        ensures { IfOk result (λ room. room ≡ opening) }
+    /// The opening: the public state before the first change, no rows, and no sessions.
+    pub fn opening(alloc: Global) -> Result<Room, OutOfMemory>
+        ensures { IfOk result (λ room. StandsFor room opening) }
     {
         Ok(Room {
             alloc,
-            tags: plain_tags(alloc)?,
-            rows: Vec::new(alloc),
+            db: Db::opening(alloc)?,
             sessions: Vec::new(alloc),
         })
     }
 
-    /// Opens the next session, and gives its number. An `Err` changes nothing.
-    pub fn open(&mut self) -> Result<u64, OutOfMemory>
-        ensures number { IfOk result (λ n. n ≡ length self.old.sessions + 1) }
-        ensures ok { OnOk result (self.new ≡ next self.old opens) }
-        ensures err { OnErr result (self.new ≡ self.old) }
+    /// Opens the next session, and says so to a session of the number `shown`. False is want of memory, which changes nothing and is told to session 0.
+    #[tactic(auto, using(crate::proofs::RoomLaws::one_more))]
+    pub fn open(&mut self, shown: u64, out: &mut Out) -> bool
+        ensures opened { result ≡ true → (st : State) → StandsFor self.old st → StandsFor self.new (next read_line st opens) }
+        ensures told { result ≡ true → out.new.text ≡ reply_text (Some shown) Reply.Opened }
+        ensures refused { result ≡ false → self.new ≡ self.old }
+        ensures memory { result ≡ false → out.new.text ≡ reply_text (Some 0) (Reply.Refused Fault.OutOfMemory) }
     {
-        self.sessions.push(Session {
-            principal: GUEST,
-            label: Label::empty(self.alloc),
-        })?;
-        Ok(self.sessions())
-    }
-
-    /// Does a request of a session, and gives the reply. An `Err` changes nothing.
-    pub fn ask(&mut self, n: u64, text: &[u8]) -> Result<Reply, OutOfMemory>
-        ensures told { IfOk result (λ reply. reply ≡ (told self.old (asks n text.now)).reply) }
-        ensures ok { OnOk result (self.new ≡ next self.old (asks n text.now)) }
-        ensures rows { IfOk result (λ reply. AreRows reply → self.new ≡ self.old) }
-        ensures err { OnErr result (self.new ≡ self.old) }
-    {
-        if !self.is_open(n) {
-            return Ok(Reply::Refused(Fault::NoSession));
+        if self.add_session().is_err() {
+            say(out, 0, &Reply::Refused(Fault::OutOfMemory));
+            return false;
         }
-        self.answer(n, Request::read(text))
+        say(out, shown, &Reply::Opened);
+        true
     }
 
-    /// Does a request of an open session.
-    #[tactic(auto, using(crate::proofs::RoomLemmas::made_set))]
-    fn answer(&mut self, n: u64, request: Request) -> Result<Reply, OutOfMemory>
-        requires { IsTrue (is_open self.old n) }
-        ensures told { IfOk result (λ reply. reply ≡ (answered self.old n request).reply) }
-        ensures ok { OnOk result (self.new ≡ with_outcome self.old n (answered self.old n request)) }
-        ensures rows { IfOk result (λ reply. AreRows reply → self.new ≡ self.old) }
-        ensures err { OnErr result (self.new ≡ self.old) }
+    /// Asks a line for a session, and tells the reply to a session of the number `shown`. False is want of memory, which changes nothing.
+    pub fn ask(&mut self, n: u64, shown: u64, line: &[u8], out: &mut Out) -> bool
+        ensures asked { result ≡ true → (st : State) → StandsFor self.old st → StandsFor self.new (next read_line st (asks n line.now)) }
+        ensures told { result ≡ true → (st : State) → StandsFor self.old st → out.new.text ≡ reply_text (Some shown) (outcome_of read_line st n line.now).reply }
+        ensures refused { result ≡ false → self.new ≡ self.old }
+        ensures memory { result ≡ false → out.new.text ≡ reply_text (Some shown) (Reply.Refused Fault.OutOfMemory) }
     {
-        let at = (n - 1) as usize;
-        match request {
-            Request::SetLabel { a, b } => {
-                let label = named(self.alloc, &self.tags, a, b)?;
-                Ok(set_label(&self.tags, &mut self.sessions[at], label))
+        match self.reply(n, line) {
+            Ok(reply) => say(out, shown, &reply),
+            Err(_) => {
+                say(out, shown, &Reply::Refused(Fault::OutOfMemory));
+                false
             }
-            Request::Insert(key) => {
-                insert(
-                    self.alloc,
-                    &self.tags,
-                    &mut self.rows,
-                    &self.sessions[at],
-                    key,
-                )
-            }
-            Request::Select => select(self.alloc, &self.tags, &self.rows, &self.sessions[at]),
-            Request::Other => Ok(Reply::Refused(Fault::Syntax(0))),
+        }
+    }
+
+    /// Drops a session without BYE. Takes no memory.
+    #[tactic(auto, using(crate::proofs::RoomLaws::one_leaves, crate::proofs::RoomLaws::none_leaves))]
+    pub fn leave(&mut self, n: u64)
+        ensures { (st : State) → StandsFor self.old st → StandsFor self.new (next read_line st (leaves n)) }
+    {
+        if self.is_open(n) {
+            self.close(n);
         }
     }
 
@@ -119,108 +107,142 @@ impl Room {
         self.sessions.len() as u64
     }
 
-    /// Whether a session was opened.
+    /// Whether a session is open.
     pub fn is_open(&self, n: u64) -> bool
-        ensures { result ≡ is_open self.now n }
+        ensures { result ≡ (session_in self.now n).is_open }
+    {
+        if !self.was_opened(n) {
+            return false;
+        }
+        self.sessions[(n - 1) as usize].is_open()
+    }
+
+    /// Whether a session has a transaction. None has: BEGIN isn't built yet.
+    #[tactic(auto, using(crate::proofs::RoomLaws::outside_txn))]
+    pub fn in_transaction(&self, n: u64) -> bool
+        ensures { result ≡ in_txn (session_in self.now n).txn }
+    {
+        let _ = n;
+        self.keeps_sessions();
+        false
+    }
+
+    /// The label of a session, which it keeps once it is closed; `None` exactly where it was never opened.
+    pub fn label(&self, n: u64) -> Option<&Label>
+        ensures opened { IsSome result ↔ IsTrue (was_opened self.now n) }
+        ensures label { IfSome result (λ label. label.now ≡ (session_in self.now n).label) }
+    {
+        if !self.was_opened(n) {
+            return None;
+        }
+        Some(self.sessions[(n - 1) as usize].label())
+    }
+
+    /// All tags.
+    pub fn tags(&self) -> &Tags
+        ensures { result.now ≡ tags_of self.now.seen.public }
+    {
+        self.db.tags()
+    }
+
+    /// Whether a session was opened.
+    fn was_opened(&self, n: u64) -> bool
+        ensures { result ≡ was_opened self.now n }
     {
         0 < n && n <= self.sessions()
     }
 
-    /// The label of a session, or `None` where it was never opened.
-    pub fn label(&self, n: u64) -> Option<&Label>
-        ensures open { IsSome result ↔ IsTrue (is_open self.now n) }
-        ensures label { IfSome result (λ label. label.now ≡ (session_of self.now n).label) }
+    /// The next session.
+    #[tactic(auto, using(crate::proofs::Keeping::all_push))]
+    fn add_session(&mut self) -> Result<(), OutOfMemory>
+        ensures ok { OnOk result (self.new ≡ record self.old { sessions = self.old.sessions ++ new_session ∷ [] }) }
+        ensures err { OnErr result (self.new ≡ self.old) }
+    {
+        let session = Session::new(self.alloc);
+        self.sessions.push(session)?;
+        Ok(())
+    }
+
+    /// Closes an open session.
+    #[tactic(auto, using(crate::proofs::RoomLaws::at_open, crate::proofs::Keeping::set_closed))]
+    fn close(&mut self, n: u64)
+        requires { IsTrue (session_in self.old n).is_open }
+        ensures { self.new ≡ with_session_in self.old n (closed (session_in self.old n)) }
+    {
+        self.sessions[(n - 1) as usize].close();
+    }
+
+    /// The reply to a line of a session. An `Err` changes nothing.
+    fn reply(&mut self, n: u64, line: &[u8]) -> Result<Reply, OutOfMemory>
+        ensures asked { OnOk result ((st : State) → StandsFor self.old st → StandsFor self.new (next read_line st (asks n line.now))) }
+        ensures told { IfOk result (λ r. (st : State) → StandsFor self.old st → r ≡ (outcome_of read_line st n line.now).reply) }
+        ensures still { IfOk result (λ r. IsUnbounded r → self.new ≡ self.old) }
+        ensures err { OnErr result (self.new ≡ self.old) }
+    {
+        self.keeps_sessions();
+        match self.answer(n, line) {
+            Ok(reply) => Ok(reply),
+            Err(fault) => {
+                let reply = refusal_of(fault)?;
+                Ok(reply)
+            }
+        }
+    }
+
+    /// Each session's label is of made tags, and none has a transaction. Does nothing.
+    fn keeps_sessions(&self)
+        ensures { IsTrue (are_kept self.now) }
+    {
+        let _ = &self.alloc;
+    }
+
+    /// What a line of a session comes to. An error changes nothing, and want of memory is one.
+    fn answer(&mut self, n: u64, line: &[u8]) -> Result<Reply, Fault>
+        ensures asked { OnOk result (self.new ≡ with_outcome_in self.old n (outcome_in self.old n line.now)) }
+        ensures open { OnOk result (IsTrue (session_in self.old n).is_open) }
+        ensures told { IfOk result (λ reply. reply ≡ (outcome_in self.old n line.now).reply) }
+        ensures still { IfOk result (λ reply. IsUnbounded reply → self.new ≡ self.old) }
+        ensures refused { IfErr result (IsRefusal (outcome_in self.old n line.now) (session_in self.old n)) }
+        ensures err { OnErr result (self.new ≡ self.old) }
     {
         if !self.is_open(n) {
-            return None;
+            return Err(Fault::NoSession);
         }
-        Some(&self.sessions[(n - 1) as usize].label)
+        self.answer_open(n, line)
+    }
+
+    /// What a line of an open session comes to.
+    #[tactic(auto, using(crate::proofs::RoomLaws::at_open, crate::proofs::Keeping::set_answered))]
+    fn answer_open(&mut self, n: u64, line: &[u8]) -> Result<Reply, Fault>
+        requires { IsTrue (session_in self.old n).is_open }
+        ensures asked { OnOk result (self.new ≡ with_outcome_in self.old n (outcome_in self.old n line.now)) }
+        ensures told { IfOk result (λ reply. reply ≡ (outcome_in self.old n line.now).reply) }
+        ensures still { IfOk result (λ reply. IsUnbounded reply → self.new ≡ self.old) }
+        ensures refused { IfErr result (IsRefusal (outcome_in self.old n line.now) (session_in self.old n)) }
+        ensures err { OnErr result (self.new ≡ self.old) }
+    {
+        let reply = self.db.ask(&mut self.sessions[(n - 1) as usize], line)?;
+        Ok(reply)
     }
 }
 
-/// The tags of the opening.
-fn plain_tags(alloc: Global) -> Result<Tags, OutOfMemory>
-    ensures { IfOk result (λ tags. tags ≡ the_tags) }
+/// Tells a reply to a session. False is want of memory, which only Label and Rows can meet.
+fn say(out: &mut Out, session: u64, reply: &Reply) -> bool
+    ensures told { result ≡ true → out.new.text ≡ reply_text (Some session) reply.now }
+    ensures memory { result ≡ false → out.new.text ≡ reply_text (Some session) (Reply.Refused Fault.OutOfMemory) }
+    ensures unbounded { result ≡ false → IsUnbounded reply.now }
 {
-    let mut tags = Tags::new(alloc);
-    tags.add(TagKind::Plain, &[]).map_err(|_| OutOfMemory)?;
-    tags.add(TagKind::Plain, &[]).map_err(|_| OutOfMemory)?;
-    Ok(tags)
+    out.speak_for(Some(session));
+    out.put(reply)
 }
 
-/// The label that SET LABEL names.
-fn named(alloc: Global, tags: &Tags, a: bool, b: bool) -> Result<Label, OutOfMemory>
-    requires { tags.now ≡ the_tags }
-    ensures value { IfOk result (λ label. label ≡ reduce the_tags (named a b)) }
-    ensures made { IfOk result (λ label. AreMade 2 label) }
+/// The reply that refuses, unless there was no memory.
+fn refusal_of(fault: Fault) -> Result<Reply, OutOfMemory>
+    ensures told { IfOk result (λ r. r ≡ reply.Refused fault) }
+    ensures cause { IfOk result (λ _. fault ≡ Fault.OutOfMemory → ⊥) }
 {
-    match (a, b) {
-        (false, false) => Label::reduce(alloc, tags, &[]),
-        (true, false) => Label::reduce(alloc, tags, &[Tag(0)]),
-        (false, true) => Label::reduce(alloc, tags, &[Tag(1)]),
-        (true, true) => Label::reduce(alloc, tags, &[Tag(0), Tag(1)]),
+    match fault {
+        Fault::OutOfMemory => Err(OutOfMemory),
+        _ => Ok(Reply::Refused(fault)),
     }
 }
-
-/// SET LABEL: no principal holds a tag, so the old label must flow to the new one.
-fn set_label(tags: &Tags, session: &mut Session, label: Label) -> Reply
-    requires tags { tags.now ≡ the_tags }
-    requires old_made { AreMade 2 session.old.label }
-    requires new_made { AreMade 2 label }
-    ensures told { result ≡ (set_label session.old label).reply }
-    ensures session { session.new ≡ (set_label session.old label).session }
-    ensures still_made { AreMade 2 session.new.label }
-    ensures rows { ¬ AreRows result }
-{
-    if !session.label.flows(tags, &label) {
-        return Reply::Refused(Fault::NoAuthority);
-    }
-    session.label = label;
-    Reply::Done
-}
-
-/// INSERT: a row at the session's label.
-fn insert(
-    alloc: Global,
-    tags: &Tags,
-    rows: &mut Vec<Row>,
-    session: &Session,
-    key: u64,
-) -> Result<Reply, OutOfMemory>
-    requires tags { tags.now ≡ the_tags }
-    requires rising { IsTrue (rising rows.old.items) }
-    requires rows_made { AreRowsMade 2 rows.old.items }
-    requires label_made { AreMade 2 session.now.label }
-    ensures told { IfOk result (λ reply. reply ≡ (insert rows.old.items session.now key).reply) }
-    ensures ok { OnOk result (rows.new.items ≡ inserted rows.old.items session.now key) }
-    ensures still_rising { IsTrue (rising rows.new.items) }
-    ensures still_made { AreRowsMade 2 rows.new.items }
-    ensures rows { IfOk result (λ reply. ¬ AreRows reply) }
-    ensures err { OnErr result (rows.new.items ≡ rows.old.items) }
-{
-    if clashes(tags, rows, NOTE, key, &session.label) {
-        return Ok(Reply::Refused(Fault::DuplicateKey));
-    }
-    let label = session.label.copy(alloc)?;
-    let slot = Slot {
-        table: NOTE,
-        key,
-        label,
-    };
-    place(rows, Row { slot })?;
-    Ok(Reply::Count(1))
-}
-
-/// SELECT: the keys of the rows that the session sees.
-fn select(alloc: Global, tags: &Tags, rows: &[Row], session: &Session) -> Result<Reply, OutOfMemory>
-    requires tags { tags.now ≡ the_tags }
-    requires rows_made { AreRowsMade 2 rows.now }
-    requires label_made { AreMade 2 session.now.label }
-    ensures { IfOk result (λ reply. reply ≡ (select rows.now session.now).reply) }
-{
-    let keys = seen_keys(alloc, tags, rows, NOTE, &session.label)?;
-    Ok(Reply::Rows(keys))
-}
-
-#[cfg(test)]
-mod tests;
