@@ -6,6 +6,7 @@
 #![tactic(auto)]
 
 mod condition;
+mod copy;
 mod expression;
 mod request;
 mod schema;
@@ -20,3 +21,4 @@ pub use select::{
     Aggregate, Aggregates, BoundItem, BoundItems, BoundSelect, BoundSource, BoundSources, OrderKey,
     OrderKeys, Relation,
 };
+pub use std::alloc::AllocError as OutOfMemory;

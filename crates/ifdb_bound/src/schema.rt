@@ -1,7 +1,12 @@
 // Tables and views as they are defined.
+ghost use Rattle.std.specs.Prelude.{◌≡◌, IfOk};
+
+use crate::OutOfMemory;
+use crate::copy::{copied, copied_plain};
 use crate::select::BoundSelect;
 use ifdb_label::{Label, Tag};
-use ifdb_value::{Columns, Name, Names, Principal, Sequence, TableId};
+use ifdb_value::{Column, Columns, Name, Names, Principal, Sequence, TableId};
+use std::alloc::Global;
 
 /// Places of columns in their table, from 0, in order.
 pub type Places = Sequence<usize>;
@@ -47,4 +52,69 @@ pub struct ViewDef {
     pub names: Names,
     /// The tags that its rows no longer bear.
     pub declassifying: Label,
+}
+
+impl Foreign {
+    /// The same foreign key.
+    pub fn copy(&self, alloc: Global) -> Result<Foreign, OutOfMemory>
+        ensures { IfOk result (λ foreign. foreign ≡ self.now) }
+    {
+        let columns = copied_plain(alloc, &self.columns)?;
+        Ok(Foreign {
+            columns,
+            parent: self.parent,
+        })
+    }
+}
+
+impl Schema {
+    /// The same table. Costs its size, in time and in memory.
+    pub fn copy(&self, alloc: Global) -> Result<Schema, OutOfMemory>
+        ensures { IfOk result (λ schema. schema ≡ self.now) }
+    {
+        let name = self.name.copy(alloc)?;
+        let columns = copied(alloc, &self.columns, |column: &Column| {
+            copied_column(alloc, column)
+        })?;
+        let key = copied_plain(alloc, &self.key)?;
+        let foreign = copied(alloc, &self.foreign, |foreign: &Foreign| {
+            foreign.copy(alloc)
+        })?;
+        Ok(Schema {
+            name,
+            columns,
+            key,
+            foreign,
+        })
+    }
+}
+
+impl ViewDef {
+    /// The same view. Costs its size, in time and in memory.
+    pub fn copy(&self, alloc: Global) -> Result<ViewDef, OutOfMemory>
+        ensures { IfOk result (λ view. view ≡ self.now) }
+    {
+        let name = self.name.copy(alloc)?;
+        let select = self.select.copy(alloc)?;
+        let names = copied(alloc, &self.names, |name: &Name| name.copy(alloc))?;
+        let declassifying = self.declassifying.copy(alloc)?;
+        Ok(ViewDef {
+            name,
+            owner: self.owner,
+            select,
+            names,
+            declassifying,
+        })
+    }
+}
+
+/// The same column.
+fn copied_column(alloc: Global, column: &Column) -> Result<Column, OutOfMemory>
+    ensures { IfOk result (λ copy. copy ≡ column.now) }
+{
+    let name = column.name.copy(alloc)?;
+    Ok(Column {
+        name,
+        kind: column.kind,
+    })
 }

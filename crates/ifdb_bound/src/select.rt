@@ -1,8 +1,13 @@
 // SELECT with numbers for names.
+ghost use Rattle.std.specs.Prelude.{◌≡◌, IfOk};
+
+use crate::OutOfMemory;
 use crate::condition::BoundCond;
+use crate::copy::{copied, copied_plain};
 use crate::expression::{BoundColumn, BoundColumns, BoundExpr};
 use crate::schema::Places;
 use ifdb_value::{Sequence, TableId, ViewId};
+use std::alloc::Global;
 
 /// What stands behind FROM: a table or a view.
 #[derive(Clone, Copy, Debug, PartialEq, Eq)]
@@ -87,3 +92,64 @@ pub type Aggregates = Sequence<Aggregate>;
 
 /// Keys of ORDER BY, the first of which counts most.
 pub type OrderKeys = Sequence<OrderKey>;
+
+impl BoundSource {
+    /// The same source.
+    pub fn copy(&self, alloc: Global) -> Result<BoundSource, OutOfMemory>
+        ensures { IfOk result (λ source. source ≡ self.now) }
+    {
+        let key = copied_plain(alloc, &self.key)?;
+        Ok(BoundSource {
+            relation: self.relation,
+            key,
+        })
+    }
+}
+
+impl BoundItem {
+    /// The same item. Costs its size, in time and in memory.
+    pub fn copy(&self, alloc: Global) -> Result<BoundItem, OutOfMemory>
+        ensures { IfOk result (λ item. item ≡ self.now) }
+    {
+        match self {
+            BoundItem::Expr(expr) => Ok(BoundItem::Expr(expr.copy(alloc)?)),
+            BoundItem::LabelOf(source) => Ok(BoundItem::LabelOf(*source)),
+            BoundItem::CountAll => Ok(BoundItem::CountAll),
+            BoundItem::Sum(column) => Ok(BoundItem::Sum(*column)),
+            BoundItem::Min(column) => Ok(BoundItem::Min(*column)),
+            BoundItem::Max(column) => Ok(BoundItem::Max(*column)),
+        }
+    }
+}
+
+impl BoundSelect {
+    /// The same query. Costs its size, in time and in memory.
+    pub fn copy(&self, alloc: Global) -> Result<BoundSelect, OutOfMemory>
+        ensures { IfOk result (λ select. select ≡ self.now) }
+    {
+        let items = copied(alloc, &self.items, |item: &BoundItem| item.copy(alloc))?;
+        let sources = copied(alloc, &self.sources, |source: &BoundSource| {
+            source.copy(alloc)
+        })?;
+        let cond = copied_where(alloc, &self.cond)?;
+        let group = copied_plain(alloc, &self.group)?;
+        let order = copied_plain(alloc, &self.order)?;
+        Ok(BoundSelect {
+            items,
+            sources,
+            cond,
+            group,
+            order,
+        })
+    }
+}
+
+/// The same condition behind WHERE, or none.
+fn copied_where(alloc: Global, cond: &Option<BoundCond>) -> Result<Option<BoundCond>, OutOfMemory>
+    ensures { IfOk result (λ copy. copy ≡ cond.now) }
+{
+    match cond {
+        Some(cond) => Ok(Some(cond.copy(alloc)?)),
+        None => Ok(None),
+    }
+}
