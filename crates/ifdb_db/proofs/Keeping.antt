@@ -1,9 +1,8 @@
 -- What stays true of sessions, tables and rows as entries are added.
-use Rattle.std.proofs.Common.{◌≡◌, ℕ, zero, suc, ◌+◌, ◌<◌, ◌≤◌, Bool, true, false, List, [], ◌∷◌, ◌++◌, ◌∙◌, length, get_or, refl, sym, ap, subst, arith, Option, Some, None}
-use Rattle.std.specs.Prelude.{not, ◌&&◌, nat_lt, map}
+use Rattle.std.proofs.Common.{◌≡◌, ℕ, zero, suc, ◌<◌, ◌≤◌, Bool, true, List, [], ◌∷◌, ◌++◌, ◌∙◌, length, get_or, refl, sym, ap, subst, arith, Option, Some, None}
+use Rattle.std.specs.Prelude.{not, nat_lt}
 use Rattle.std.specs.List.{list_all}
 use Rattle.std.proofs.Math.ListN.{set}
-use Rattle.std.proofs.lemmas.Bool.{ltb-true}
 use Rattle.std.proofs.lemmas.Bool.Decides.{nat_tests}
 use Rattle.std.proofs.lemmas.Grind.{common_steps}
 use Rattle.ifdb_label.specs.Tags.{are_made}
@@ -11,10 +10,9 @@ use Rattle.ifdb_row.specs.declared.row.Row.{Row}
 use Rattle.ifdb_row.proofs.Lists.{all_from}
 use Rattle.ifdb_row.proofs.SlotOrder.{slot_itself}
 use Rattle.ifdb_row.proofs.ContentLaws.{all-place, rising_place}
-use Rattle.ifdb_bound.specs.declared.schema.Schema.{Schema}
 use Rattle.ifdb_bound.specs.declared.request.Change.{Change}
 use Rattle.ifdb_bound.specs.declared.request.Change.TheVariants as change
-use Rattle.ifdb_catalog.specs.Public.{Public, KnownTag, changed}
+use Rattle.ifdb_catalog.specs.Public.{Public, changed}
 use Rattle.ifdb_model.specs.server.Session.{Session, Txn, Seen, closed, in_txn}
 use Rattle.ifdb_model.specs.server.Log.{Entry, changes, commits}
 use Rattle.ifdb_db.specs.Rows.{are_rows_made, with_row}

@@ -1,5 +1,5 @@
 -- What a room holds, and the state of the machine that it stands for.
-use Rattle.std.specs.Prelude.{◌≡◌, ℕ, ◌-◌, ◌&&◌, Bool, List, nat_lt, nat_le, length, slice_index_or, slice_set, None, if◌then◌else◌, IsTrue}
+use Rattle.std.specs.Prelude.{◌≡◌, ℕ, ◌-◌, ◌&&◌, Bool, List, nat_lt, nat_le, length, slice_index_or, slice_set, None, if◌then◌else◌}
 use Rattle.std.specs.List.{list_all}
 use Rattle.ifdb_wire.specs.declared.fault.Fault.TheVariants as fault
 use Rattle.ifdb_model.specs.server.Session.{Session, no_session, Seen, seen_in}

@@ -1,5 +1,4 @@
 use Rattle.std.proofs.Common.{sym, subst, ap, ◌∙◌}
-use Rattle.ifdb_wire.specs.declared.reply.Reply.{Reply}
 use Rattle.ifdb_model.specs.server.Step.{Outcome}
 use Rattle.ifdb_model.specs.server.Run.{next, asks}
 use Rattle.ifdb_db.specs.Reading.{read_line}
