@@ -10,5 +10,6 @@ pub mod Frozen
 pub mod Clinic
 pub mod PairExamples
 pub mod two_worlds
+pub mod Bridge
 pub mod ReadBack
 pub mod Stamps

@@ -11,5 +11,6 @@ pub mod StepLaws
 pub mod ClinicRow
 pub mod Pairs
 pub mod TwoWorlds
+pub mod Scripts
 pub mod OneSide
 pub mod Bytes

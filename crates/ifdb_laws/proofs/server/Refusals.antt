@@ -4,7 +4,8 @@ use Rattle.std.proofs.lemmas.Bool.{false≢true}
 use Rattle.std.proofs.lemmas.List.{append-nil, set-get_or}
 use Rattle.ifdb_label.specs.Label.{strip}
 use Rattle.ifdb_row.specs.Content.{after}
-use Rattle.ifdb_row.specs.Verdict.{leaves}
+use Rattle.ifdb_row.specs.declared.write.Write.{Write}
+use Rattle.ifdb_row.specs.Verdict.{Verdict, commit_label, conflict, broken_reference, still_referenced, go, leaves}
 use Rattle.ifdb_bound.specs.Query.{label_names}
 use Rattle.ifdb_bound.specs.declared.request.Bound.{Bound}
 use Rattle.ifdb_bound.specs.declared.request.Bound.TheVariants as bound
@@ -20,8 +21,9 @@ use Rattle.ifdb_catalog.specs.Binding.{bound as bound_request}
 use Rattle.ifdb_model.specs.server.Log.{Entry, commits, public_of}
 use Rattle.ifdb_model.specs.server.Session.{Txn, Session, no_session, closed, in_txn, Seen, seen}
 use Rattle.ifdb_model.specs.server.Writes.{Written, writes_of, is_delete}
-use Rattle.ifdb_model.specs.server.Step.{Outcome, tells, refuses, adds, greeted, relabelled, set_label, publish_it, publish_bound, is_empty, publish, look_reply, land_in, land, write_bound, begin, rollback, verdict_fault, committed, judged, commit, Form, greets, publishes, relabels, shows_label, begins, ends, rolls_back, leaves_us, looks, writes, form_of, ask_as, ask_new, ask_by, ask_read, ask}
-use Rattle.ifdb_model.specs.server.Run.{State, session_of, with_outcome}
+use Rattle.ifdb_model.specs.server.Step.{Reader, Outcome, tells, refuses, adds, greeted, relabelled, set_label, publish_it, publish_bound, is_empty, publish, look_reply, land_in, land, write_bound, begin, rollback, verdict_fault, committed, judged, commit, Form, greets, publishes, relabels, shows_label, begins, ends, rolls_back, leaves_us, looks, writes, form_of, ask_as, ask_new, ask_by, ask_read, ask}
+use Rattle.ifdb_model.specs.server.Run.{State, session_of, asks, outcome_of, with_outcome, next}
+use Rattle.ifdb_model.specs.server.Output.{is_memory, reads_memory}
 use Rattle.ifdb_laws.specs.server.StepLaws.{is_ending, is_commit, RefusalsChangeNothing, RefusedCommitsEnd, RefusedStepsChangeNothing}
 
 abbrev is_refused : Reply → Bool
@@ -142,7 +144,7 @@ refusals_lem read log s line f h e = read_keeps s log (read line) h f e
 
 -- ---- COMMIT
 
-committed_ends : (s : Session) (ws : List Rattle.ifdb_row.specs.declared.write.Write.Write) (o : Option Fault) → Keeps (record s { txn = None }) (committed s ws o)
+committed_ends : (s : Session) (ws : List Write) (o : Option Fault) → Keeps (record s { txn = None }) (committed s ws o)
 committed_ends s ws None = other (record s { txn = None }) (committed s ws None) refl
 committed_ends s ws (Some f) = told (record s { txn = None }) (reply.Refused f)
 
@@ -193,3 +195,46 @@ refused_steps_lem read st n line f h e = by (session_of st n).is_open refl where
       ap (λ b. (cond b (ask read st.log (session_of st n) line) (refuses (session_of st n) fault.NoSession)).reply) (sym o) ∙ e in
       ap (with_outcome st n) (refusals_lem read st.log (session_of st n) line f h r) ∙ unchanged st n f o
   by false o = refl
+
+-- ---- a reply that reads error 20
+
+-- the fault is want of memory
+fault_is : (f : Fault) → is_memory f ≡ true → f ≡ fault.OutOfMemory
+fault_is fault.OutOfMemory h = refl
+fault_is _ h = absurd (false≢true h)
+
+pub memory_is : (r : Reply) → reads_memory r ≡ true → r ≡ reply.Refused fault.OutOfMemory
+memory_is (reply.Refused f) h = ap reply.Refused (fault_is f h)
+memory_is _ h = absurd (false≢true h)
+
+verdict_reads : (s : Session) (ws : List Write) (v : Verdict) → reads_memory (committed s ws (verdict_fault v)).reply ≡ false
+verdict_reads s ws commit_label = refl
+verdict_reads s ws conflict = refl
+verdict_reads s ws broken_reference = refl
+verdict_reads s ws still_referenced = refl
+verdict_reads s ws go = refl
+
+commit_reads : (log : List Entry) (s : Session) (o : Option Txn) → reads_memory (commit log s o).reply ≡ false
+commit_reads log s None = refl
+commit_reads log s (Some x) = verdict_reads s x.own (judged log s x)
+
+ending_reads : (log : List Entry) (s : Session) (q : Result Request Fault) → is_commit q ≡ true → reads_memory (ask_read log s q).reply ≡ false
+ending_reads log s (Err f) h = absurd (false≢true h)
+ending_reads log s (Ok r) h = by s.principal where
+  by : (o : Option ℕ) → reads_memory (ask_by log s o r).reply ≡ false
+  by None = ap (λ f. reads_memory (ask_new log s f).reply) (ending_is (form_of r) h)
+  by (Some asker) = ap (λ f. reads_memory (ask_as log s (seen log s) asker r f).reply) (ending_is (form_of r) h) ∙ commit_reads log s s.txn
+
+commit_step_reads : (read : Reader) (st : State) (n : ℕ) (line : List ℕ) → is_commit (read line) ≡ true → reads_memory (outcome_of read st n line).reply ≡ false
+commit_step_reads read st n line h = by (session_of st n).is_open where
+  by : (b : Bool) → reads_memory (cond b (ask read st.log (session_of st n) line) (refuses (session_of st n) fault.NoSession)).reply ≡ false
+  by true = ending_reads st.log (session_of st n) (read line) h
+  by false = refl
+
+-- it changes nothing, whatever the line is
+pub memory_changes_nothing : (read : Reader) (st : State) (n : ℕ) (line : List ℕ) → reads_memory (outcome_of read st n line).reply ≡ true
+    → next read st (asks n line) ≡ st
+memory_changes_nothing read st n line h = by (is_commit (read line)) refl where
+  by : (b : Bool) → is_commit (read line) ≡ b → next read st (asks n line) ≡ st
+  by false e = refused_steps_lem read st n line fault.OutOfMemory e (memory_is (outcome_of read st n line).reply h)
+  by true e = absurd (false≢true (sym (commit_step_reads read st n line e) ∙ h))

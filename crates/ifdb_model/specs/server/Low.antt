@@ -1,6 +1,6 @@
 -- What lies inside a level: the steps that are asked there, what they are told, and the part of a state. A level is any
 -- list of tags; it need be no label, and its tags need not be made.
-use Rattle.std.specs.Prelude.{ℕ, Bool, true, List, [], ◌∷◌, ◌++◌, map, length, take, flat_map, Option, Some, None, if◌then◌else◌}
+use Rattle.std.specs.Prelude.{ℕ, Bool, true, List, [], ◌∷◌, ◌++◌, map, length, take, drop, flat_map, Option, Some, None, if◌then◌else◌}
 use Rattle.ifdb_label.specs.Tags.{MadeTag}
 use Rattle.ifdb_label.specs.Label.{flows}
 use Rattle.ifdb_row.specs.declared.slot.Slot.{Slot}
@@ -76,3 +76,9 @@ low read level st (x ∷ steps) = (if asked level st x then x ∷ [] else []) ++
 abbrev pub heard : Reader → List ℕ → State → List Step → List Told
 heard read level st [] = []
 heard read level st (x ∷ steps) = (if asked level st x then told read st x else []) ++ heard read level (next read st x) steps
+
+-- of what some steps were told, one behind the other, what those asked inside were told: as many replies as each step has
+abbrev pub picked : Reader → List ℕ → State → List Step → List Told → List Told
+picked read level st [] all = []
+picked read level st (x ∷ steps) all =
+    (if asked level st x then take (length (told read st x)) all else []) ++ picked read level (next read st x) steps (drop (length (told read st x)) all)

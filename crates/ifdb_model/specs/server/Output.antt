@@ -45,9 +45,13 @@ refused_at (flag ∷ flags) (leaves n ∷ steps) = leaves n ∷ refused_at (flag
 abbrev pub told_of : Reader → List ℕ → List Bool → List Told
 told_of read bytes flags = replies read opening (refused_at flags (steps_of bytes))
 
+-- the text of what is told
+abbrev pub text_of : Told → List ℕ
+text_of t = reply_text (Some t.number) t.reply
+
 -- the texts of all that is told, one behind the other
 abbrev pub texts : List Told → List ℕ
-texts all = flat_map (λ (t : Told). reply_text (Some t.number) t.reply) all
+texts all = flat_map text_of all
 
 -- what a script's run writes, with these steps refused
 abbrev pub output : Reader → List ℕ → List Bool → List ℕ

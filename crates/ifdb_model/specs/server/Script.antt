@@ -13,6 +13,10 @@ line_step (script.asks n request) = asks n request ∷ []
 line_step script.strays = stray ∷ []
 line_step script.overlong = long ∷ []
 
+-- the step of a line, if it is one
+abbrev pub line_steps : List ℕ → List Step
+line_steps line = line_step (script_line line)
+
 -- the steps of a script
 abbrev pub steps_of : List ℕ → List Step
-steps_of bytes = flat_map (λ line. line_step (script_line line)) (lines_of bytes)
+steps_of bytes = flat_map line_steps (lines_of bytes)
