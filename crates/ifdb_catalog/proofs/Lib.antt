@@ -1,14 +1,15 @@
 pub mod Computing
-mod Tests
+pub mod Tests
 pub mod Judging
 pub mod Found
 mod QueriesFit
 mod StatementsFit
 pub mod BoundRequestsFit
+mod BoundChangesAreNew
 pub mod Growth
 pub mod Made
 mod StatesFit
-mod Resolution
+pub mod Resolution
 mod Site
 mod NameExamples
 mod DefinitionExamples

@@ -4,6 +4,7 @@ use Rattle.std.specs.Option.{is_some}
 use Rattle.ifdb_label.specs.Tags.{AreWellFormed}
 use Rattle.ifdb_syntax.specs.declared.request.Request.{Request}
 use Rattle.ifdb_bound.specs.declared.request.Bound.{Bound}
+use Rattle.ifdb_bound.specs.declared.request.Bound.TheVariants as b
 use Rattle.ifdb_bound.specs.declared.request.Change.{Change}
 use Rattle.ifdb_catalog.specs.Public.{Public, opening, tags_of, changed}
 use Rattle.ifdb_syntax.specs.declared.expression.ColumnRef.{ColumnRef}
@@ -11,11 +12,15 @@ use Rattle.ifdb_bound.specs.Kinds.{column_kind}
 use Rattle.ifdb_bound.specs.declared.expression.BoundColumn.{BoundColumn}
 use Rattle.ifdb_catalog.specs.Scope.{Scope, kinds_in, may_mean, resolve, column_at, is_column}
 use Rattle.ifdb_catalog.specs.Binding.{bound}
-use Rattle.ifdb_catalog.specs.Fits.{bound_fits, change_fits, state_fits}
+use Rattle.ifdb_catalog.specs.Fits.{bound_fits, change_fits, is_new, state_fits}
 
 -- what is bound fits the public state that it is bound in
 abbrev pub BoundFits : Type 0
 BoundFits = (p : Public) (asker : ℕ) (request : Request) (x : Bound) → bound p asker request ≡ Ok x → bound_fits p x ≡ true
+
+-- what a bound change makes has a name that stands for nothing yet
+abbrev pub BoundIsNew : Type 0
+BoundIsNew = (p : Public) (asker : ℕ) (request : Request) (c : Change) → bound p asker request ≡ Ok (b.Change c) → is_new p c ≡ true
 
 -- a change that fits leaves each tag's parents older than the tag
 abbrev pub TagsStayWellFormed : Type 0
