@@ -1,2 +1,8 @@
 mod RowLemmas
-mod RoomLemmas
+mod Selecting
+mod Inserting
+mod Keeping
+mod Greeting
+mod Bindings
+mod Naming
+mod Answering

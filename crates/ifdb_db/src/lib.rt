@@ -1,7 +1,10 @@
-//! The running machine: sessions with labels, over a list of rows.
+//! The running server: sessions with labels, the public state, and rows that each label sees its own part of.
 #![tactic(auto)]
 
-mod room;
+mod db;
 mod rows;
+mod session;
 
-pub use room::Room;
+pub use db::Db;
+pub use session::Session;
+pub use std::alloc::AllocError as OutOfMemory;
