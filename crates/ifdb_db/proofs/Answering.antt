@@ -1,7 +1,6 @@
 -- What requests of each form come to, by what they are bound to.
-use Rattle.std.proofs.Common.{◌≡◌, ℕ, Bool, true, false, List, [], ◌∷◌, ◌∙◌, length, get_or, refl, sym, ap, subst, arith, Option, Some, None, inl, inr, ◌<◌}
-use Rattle.std.specs.Prelude.{◌⊎◌, ◌&&◌, not, Result, Ok, Err}
-use Rattle.std.specs.List.{list_all}
+use Rattle.std.proofs.Common.{◌≡◌, ℕ, true, false, List, [], ◌∷◌, ◌∙◌, length, refl, sym, ap, subst, arith, Some, None, inl, inr, ◌<◌}
+use Rattle.std.specs.Prelude.{◌⊎◌, Result, Ok, Err}
 use Rattle.std.proofs.lemmas.Bool.Decides.{nat_tests}
 use Rattle.ifdb_value.specs.declared.value.Value.{Value}
 use Rattle.ifdb_label.specs.Label.{strip}

@@ -1,6 +1,6 @@
 -- What requests of the forms that are answered so far are bound to.
-use Rattle.std.proofs.Common.{◌≡◌, ℕ, zero, suc, ◌+◌, ◌<◌, Bool, true, false, List, [], ◌∷◌, ◌∙◌, length, refl, sym, ap, subst, arith, Option, Some, None, cond}
-use Rattle.std.specs.Prelude.{◌==◌, ◌&&◌, Result, Ok, Err, bytes_eq, nat_lt, map}
+use Rattle.std.proofs.Common.{◌≡◌, ℕ, ◌+◌, ◌<◌, Bool, true, false, List, [], ◌∷◌, ◌∙◌, length, refl, sym, ap, subst, arith, Option, Some, None, cond}
+use Rattle.std.specs.Prelude.{◌==◌, Ok, bytes_eq, map}
 use Rattle.std.specs.List.{list_all}
 use Rattle.std.proofs.lemmas.Bool.Decides.{nat_tests}
 use Rattle.ifdb_value.specs.declared.value.Value.{Value}
@@ -18,7 +18,6 @@ use Rattle.ifdb_bound.specs.declared.request.Bound.{Bound}
 use Rattle.ifdb_bound.specs.declared.request.Bound.TheVariants as b
 use Rattle.ifdb_bound.specs.declared.request.Change.{Change}
 use Rattle.ifdb_label.specs.Tags.{are_made}
-use Rattle.ifdb_wire.specs.declared.fault.Fault.{Fault}
 use Rattle.ifdb_catalog.specs.Public.{Public, table_named, view_named, relation_from, relation_named}
 use Rattle.ifdb_catalog.specs.Scope.{places_named, the_one, relation_columns}
 use Rattle.ifdb_catalog.specs.Queries.{bound_relation}
@@ -29,11 +28,11 @@ use Rattle.ifdb_catalog.specs.Fits.{change_fits, is_table}
 use Rattle.ifdb_catalog.proofs.Judging.{accepted}
 use Rattle.ifdb_catalog.proofs.BoundRequestsFit.{bound_is_fitting}
 use Rattle.ifdb_bind.specs.Built.{is_number_table, is_number_row, is_number_insert, bare_item, bare_source, is_bare_select, is_built}
-use Rattle.ifdb_bind.specs.Bare.{bare_select, bound_bare}
+use Rattle.ifdb_bind.specs.Bare.{bound_bare}
 use Rattle.ifdb_bind.proofs.Selects.{column_read, select_at, bare_is_bound, written_out}
 use Rattle.ifdb_model.specs.server.Step.{Form, publishes, relabels, looks, writes, form_of}
 use Rattle.ifdb_db.specs.Kept.{is_plain_table}
-use Rattle.ifdb_db.specs.Numbers.{is_plain_change, is_change, is_label, is_select, is_insert, column_of, one_column, one_value, is_of_form, IsOneColumn}
+use Rattle.ifdb_db.specs.Numbers.{is_plain_change, is_change, is_label, is_select, is_insert, column_of, one_value, is_of_form, IsOneColumn}
 
 plain_table : (p : Public) (name : List ℕ) (columns : List Column) (key : List (List ℕ)) (foreign : List ForeignKey)
     → is_number_table columns key foreign ≡ true → is_plain_table (bound_schema p name columns key foreign) ≡ true

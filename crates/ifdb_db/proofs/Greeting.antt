@@ -1,6 +1,6 @@
 -- HELLO.
-use Rattle.std.proofs.Common.{◌≡◌, ℕ, zero, suc, ◌<◌, Bool, true, false, List, [], ◌∷◌, ◌∙◌, length, refl, sym, ap, arith, Option, Some, None}
-use Rattle.std.specs.Prelude.{position, nat_lt, ◌&&◌, not, bytes_eq}
+use Rattle.std.proofs.Common.{◌≡◌, ℕ, ◌<◌, true, false, List, length, refl, arith, Some, None}
+use Rattle.std.specs.Prelude.{◌&&◌, bytes_eq}
 use Rattle.std.proofs.lemmas.Bool.Decides.{nat_tests}
 use Rattle.std.proofs.lemmas.List.Quantifiers.{position-Some}
 use Rattle.ifdb_wire.specs.declared.fault.Fault.TheVariants.{BadKey}

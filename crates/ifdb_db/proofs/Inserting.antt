@@ -1,25 +1,19 @@
 -- What the INSERT of one row of one value comes to.
-use Rattle.std.proofs.Common.{◌≡◌, ℕ, Bool, true, false, List, [], ◌∷◌, ◌∙◌, refl, sym, ap, arith, Option, Some, None, cond}
-use Rattle.std.specs.Prelude.{Result, Ok, Err, ◌==◌, ◌&&◌}
+use Rattle.std.proofs.Common.{◌≡◌, ℕ, Bool, true, false, List, [], ◌∷◌, ◌∙◌, refl, ap, arith, None, cond}
+use Rattle.std.specs.Prelude.{Ok, Err}
 use Rattle.std.proofs.lemmas.Bool.Decides.{nat_tests}
 use Rattle.ifdb_value.specs.declared.value.Value.{Value}
-use Rattle.ifdb_label.specs.Tags.{MadeTag}
 use Rattle.ifdb_row.specs.declared.row.Row.{Row}
-use Rattle.ifdb_row.specs.declared.slot.Slot.{Slot}
-use Rattle.ifdb_row.specs.declared.write.Write.{Write}
-use Rattle.ifdb_row.specs.Writes.{put}
 use Rattle.ifdb_row.specs.Seen.{clash}
 use Rattle.ifdb_bound.specs.declared.schema.Foreign.{Foreign}
 use Rattle.ifdb_bound.specs.declared.schema.Schema.{Schema}
-use Rattle.ifdb_bound.specs.declared.request.Bound.TheVariants as b
-use Rattle.ifdb_wire.specs.declared.fault.Fault.{Fault}
 use Rattle.ifdb_wire.specs.declared.fault.Fault.TheVariants as fault
 use Rattle.ifdb_wire.specs.declared.reply.Reply.TheVariants as reply
 use Rattle.ifdb_catalog.specs.Public.{Public, tags_of, table_at}
 use Rattle.ifdb_model.specs.server.Log.{commits}
-use Rattle.ifdb_model.specs.server.Session.{Session, Txn}
-use Rattle.ifdb_model.specs.server.Writes.{Written, Scene, values_at, bound_parents, new_write, new_slot, inserted as inserted_row, insert_one, counted, scene_of, writes_of}
-use Rattle.ifdb_model.specs.server.Step.{Outcome, refuses, adds, land, write_bound}
+use Rattle.ifdb_model.specs.server.Session.{Session}
+use Rattle.ifdb_model.specs.server.Writes.{Scene, values_at, bound_parents, inserted as inserted_row, insert_one, counted, scene_of}
+use Rattle.ifdb_model.specs.server.Step.{refuses, adds, land, write_bound}
 use Rattle.ifdb_db.specs.Kept.{is_first, has_none, is_plain_table}
 use Rattle.ifdb_db.specs.Numbers.{one_value}
 use Rattle.ifdb_db.specs.Answer.{value_write, inserted}

@@ -1,9 +1,8 @@
 -- What stays true of sessions, tables and rows as entries are added.
-use Rattle.std.proofs.Common.{◌≡◌, ℕ, zero, suc, ◌+◌, ◌<◌, ◌≤◌, Bool, true, false, List, [], ◌∷◌, ◌++◌, ◌∙◌, length, get_or, refl, sym, ap, subst, arith, Option, Some, None}
-use Rattle.std.specs.Prelude.{not, ◌&&◌, nat_lt, map}
+use Rattle.std.proofs.Common.{◌≡◌, ℕ, zero, suc, ◌<◌, ◌≤◌, Bool, true, List, [], ◌∷◌, ◌++◌, ◌∙◌, length, get_or, refl, sym, ap, subst, arith, Option, Some, None}
+use Rattle.std.specs.Prelude.{not, nat_lt}
 use Rattle.std.specs.List.{list_all}
 use Rattle.std.proofs.Math.ListN.{set}
-use Rattle.std.proofs.lemmas.Bool.{ltb-true}
 use Rattle.std.proofs.lemmas.Bool.Decides.{nat_tests}
 use Rattle.std.proofs.lemmas.Grind.{common_steps}
 use Rattle.ifdb_label.specs.Tags.{are_made}
@@ -11,16 +10,16 @@ use Rattle.ifdb_row.specs.declared.row.Row.{Row}
 use Rattle.ifdb_row.proofs.Lists.{all_from}
 use Rattle.ifdb_row.proofs.SlotOrder.{slot_itself}
 use Rattle.ifdb_row.proofs.ContentLaws.{all-place, rising_place}
-use Rattle.ifdb_bound.specs.declared.schema.Schema.{Schema}
 use Rattle.ifdb_bound.specs.declared.request.Change.{Change}
 use Rattle.ifdb_bound.specs.declared.request.Change.TheVariants as change
-use Rattle.ifdb_catalog.specs.Public.{Public, KnownTag, changed}
-use Rattle.ifdb_model.specs.server.Session.{Session, Txn, Seen, in_txn}
+use Rattle.ifdb_catalog.specs.Public.{Public, changed}
+use Rattle.ifdb_model.specs.server.Session.{Session, Txn, Seen, closed, in_txn}
 use Rattle.ifdb_model.specs.server.Log.{Entry, changes, commits}
 use Rattle.ifdb_db.specs.Rows.{are_rows_made, with_row}
 use Rattle.ifdb_db.specs.Kept.{is_plain_table, IsSound, is_kept}
 use Rattle.ifdb_db.specs.Numbers.{is_plain_change}
 use Rattle.ifdb_db.specs.Answer.{with_entry}
+use Rattle.ifdb_db.proofs.RowLemmas.{all_at}
 
 -- ---- tags that are made stay made
 
@@ -97,3 +96,16 @@ sound_placed p row rows m h = record {
   in_order = rising_place row.slot (Some row) rows (slot_itself row.slot) h.in_order;
   made = all-place (λ (r : Row). are_made (length p.tags) r.slot.label) row.slot (Some row) rows (grind (arith, nat_tests)) h.made;
 }
+
+-- ---- one session of many
+
+pub set_closed : (p : Public) (sessions : List Session) (k : ℕ) (s t : Session) → list_all (is_kept p) sessions ≡ true → k < length sessions → t ≡ get_or sessions k t → s ≡ closed t
+    → list_all (is_kept p) (set sessions k s) ≡ true
+set_closed p sessions k s t h lt e c =
+    let kept : is_kept p t ≡ true = ap (is_kept p) e ∙ all_at (is_kept p) sessions k t h lt in
+    all_set (is_kept p) sessions k s (ap (is_kept p) c ∙ grind (arith, nat_tests)) h
+
+pub set_answered : (x y : Seen) (e : Option Entry) (sessions : List Session) (k : ℕ) (t : Session) → list_all (is_kept x.public) sessions ≡ true → y ≡ with_entry x e → is_kept y.public t ≡ true
+    → list_all (is_kept y.public) (set sessions k t) ≡ true
+set_answered x y e sessions k t h w kt =
+    all_set (is_kept y.public) sessions k t kt (all_kept_more x.public y.public sessions (subst (λ (z : Seen). length x.public.tags ≤ length z.public.tags) (sym w) (tags_grow_by x e)) h)

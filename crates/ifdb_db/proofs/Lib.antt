@@ -6,3 +6,4 @@ mod Greeting
 mod Bindings
 mod Naming
 mod Answering
+mod RoomLaws

@@ -1,6 +1,6 @@
 -- Places in rising rows, and the rows of a key.
-use Rattle.std.proofs.Common.{◌≡◌, ℕ, zero, suc, ◌-◌, ◌<◌, ◌≤◌, Bool, true, false, List, [], ◌∷◌, ◌∙◌, length, get_or, take, drop, refl, sym, ap, subst, arith, Ordering, Some}
-use Rattle.std.specs.Prelude.{filter, not, insert, ◌&&◌, ◌==◌}
+use Rattle.std.proofs.Common.{◌≡◌, ℕ, zero, suc, ◌-◌, ◌<◌, ◌≤◌, Bool, true, false, List, [], ◌∷◌, ◌∙◌, length, get_or, take, drop, refl, sym, ap, subst, arith, Ordering}
+use Rattle.std.specs.Prelude.{filter, not, insert, ◌&&◌}
 use Rattle.std.specs.List.{list_all, list_any}
 use Rattle.std.specs.List.Sorted.{IsPartitionedBy, IsPartitionPoint}
 use Rattle.std.specs.declared.cmp.Ordering.TheVariants.{Less, Equal, Greater}

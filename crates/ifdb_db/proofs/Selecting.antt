@@ -1,26 +1,23 @@
 -- What the SELECT of one column of one table comes to.
-use Rattle.std.proofs.Common.{◌≡◌, ℕ, Bool, true, false, List, [], ◌∷◌, ◌∙◌, refl, sym, ap, arith, Option, Some, None}
-use Rattle.std.specs.Prelude.{map, filter, flat_map, option_map, ◌&&◌, ◌==◌}
-use Rattle.std.proofs.lemmas.Bool.Decides.{nat_tests}
+use Rattle.std.proofs.Common.{◌≡◌, ℕ, Bool, true, false, List, [], ◌∷◌, ◌∙◌, refl, ap, Some, None}
+use Rattle.std.specs.Prelude.{map, filter, flat_map, option_map, ◌==◌}
 use Rattle.ifdb_value.specs.declared.value.Value.{Value}
 use Rattle.ifdb_label.specs.Tags.{MadeTag}
 use Rattle.ifdb_label.specs.Label.{flows}
 use Rattle.ifdb_row.specs.declared.row.Row.{Row}
-use Rattle.ifdb_row.specs.Seen.{see}
 use Rattle.ifdb_bound.specs.declared.expression.BoundExpr.TheVariants as expr
 use Rattle.ifdb_bound.specs.declared.select.BoundItem.{BoundItem}
 use Rattle.ifdb_bound.specs.declared.select.BoundItem.TheVariants as item
-use Rattle.ifdb_bound.specs.declared.select.OrderKey.{OrderKey}
-use Rattle.ifdb_bound.specs.Expressions.{value_at, column_value, value_of}
+use Rattle.ifdb_bound.specs.Expressions.{value_at}
 use Rattle.ifdb_bound.specs.Conditions.{passes}
-use Rattle.ifdb_bound.specs.Query.{SourceRow, Combination, values_of, combinations, matching, all_some, answer_row, answer_groups, item_value, sorted_by, with_row, select}
+use Rattle.ifdb_bound.specs.Query.{SourceRow, Combination, values_of, all_some, answer_row, sorted_by, with_row, select}
 use Rattle.ifdb_bound.proofs.Meanings.{value_of-Column}
-use Rattle.ifdb_expr.specs.View.{source_row, of_table, table_rows}
-use Rattle.ifdb_expr.specs.Query.{query, answered}
+use Rattle.ifdb_expr.specs.View.{table_rows}
+use Rattle.ifdb_expr.specs.Query.{answered}
 use Rattle.ifdb_wire.specs.declared.reply.Reply.TheVariants as reply
 use Rattle.ifdb_catalog.specs.Public.{Public, tags_of}
 use Rattle.ifdb_model.specs.server.Query.{setting_of, table_reply, select_reply}
-use Rattle.ifdb_db.specs.Rows.{is_shown, shown_values}
+use Rattle.ifdb_db.specs.Rows.{shown_values}
 use Rattle.ifdb_db.specs.Numbers.{column_of, one_column}
 
 -- ---- the order

@@ -1,6 +1,9 @@
 // The public state with the rows.
-ghost use Rattle.std.specs.Prelude.{◌≡◌, [], IfOk};
+ghost use Rattle.std.specs.Prelude.{◌≡◌, [], IfOk, IsTrue};
 ghost use Rattle.ifdb_catalog.specs.Public.{opening as first_public, tags_of};
+ghost use Rattle.ifdb_db.specs.Kept.{is_kept};
+ghost use Rattle.ifdb_db.specs.Answer.{answered, IsAnswered, IsStill};
+ghost use Rattle.ifdb_db.specs.Reading.{read_line};
 
 mod answer;
 mod binding;
@@ -10,9 +13,12 @@ mod publish;
 mod statement;
 
 use crate::OutOfMemory;
+use crate::reading::read_line;
+use crate::session::Session;
 use ifdb_catalog::Catalog;
 use ifdb_label::Tags;
 use ifdb_row::Row;
+use ifdb_wire::{Fault, Reply};
 use std::alloc::Global;
 use std::marker::Model;
 
@@ -52,6 +58,17 @@ impl Db {
             catalog: Catalog::opening(alloc)?,
             rows: Vec::new(alloc),
         })
+    }
+
+    /// Answers a line of a session. An error is a refusal, which changes nothing; `OutOfMemory` is want of memory.
+    pub fn ask(&mut self, session: &mut Session, line: &[u8]) -> Result<Reply, Fault>
+        requires { IsTrue (is_kept self.old.public session.old) }
+        ensures answered { IsAnswered (answered self.old session.old (read_line line.now)) session.old session.new self.old self.new result }
+        ensures kept { IsTrue (is_kept self.new.public session.new) }
+        ensures still { IsStill session.old session.new self.old self.new result }
+    {
+        let request = read_line(self.alloc, line)?;
+        self.answer(session, request)
     }
 
     /// All tags.

@@ -2,9 +2,12 @@
 #![tactic(auto)]
 
 mod db;
+mod reading;
+mod room;
 mod rows;
 mod session;
 
 pub use db::Db;
+pub use room::Room;
 pub use session::Session;
 pub use std::alloc::AllocError as OutOfMemory;

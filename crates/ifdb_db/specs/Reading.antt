@@ -1,0 +1,25 @@
+-- How a line is read.
+use Rattle.std.specs.Prelude.{Result, Ok, Err}
+use Rattle.ifdb_syntax.specs.declared.request.Request.{Request}
+use Rattle.ifdb_parse.specs.declared.fault.ParseFault.{ParseFault}
+use Rattle.ifdb_parse.specs.declared.fault.ParseFault.TheVariants as read
+use Rattle.ifdb_parse.specs.Parsed.{parsed}
+use Rattle.ifdb_wire.specs.declared.fault.Fault.{Fault}
+use Rattle.ifdb_wire.specs.declared.fault.Fault.TheVariants as fault
+use Rattle.ifdb_bind.specs.Built.{is_built}
+use Rattle.ifdb_model.specs.server.Step.{Reader, built_reader}
+
+-- the refusal of a line with a fault
+abbrev pub line_fault : ParseFault → Fault
+line_fault (read.Syntax at) = fault.Syntax at
+line_fault read.Limit = fault.Limit
+line_fault read.OutOfMemory = fault.OutOfMemory
+
+-- a line's request, or the refusal of its fault
+abbrev pub request_or_fault : Result Request ParseFault → Result Request Fault
+request_or_fault (Ok r) = Ok r
+request_or_fault (Err f) = Err (line_fault f)
+
+-- by the grammar, with the faults of a line in their order; a request of a form that isn't built yet is no request
+abbrev pub read_line : Reader
+read_line = built_reader is_built (λ line. request_or_fault (parsed line))

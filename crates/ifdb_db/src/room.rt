@@ -1,0 +1,248 @@
+// The sessions over what all see.
+ghost use Rattle.std.specs.Prelude.{◌≡◌, ◌↔◌, ◌++◌, ◌∷◌, [], ℕ, true, false, Some, None, IfOk, IfErr, IfSome, IsSome, IsTrue, OnErr, OnOk, length};
+ghost use Rattle.ifdb_wire.specs.declared.reply.Reply.TheVariants as reply;
+ghost use Rattle.ifdb_wire.specs.Text.{reply_text, IsUnbounded};
+ghost use Rattle.ifdb_catalog.specs.Public.{tags_of};
+ghost use Rattle.ifdb_model.specs.server.Session.{closed, in_txn, new_session};
+ghost use Rattle.ifdb_model.specs.server.Run.{State, asks, leaves, next, opening, opens, outcome_of};
+ghost use Rattle.ifdb_db.specs.Answer.{IsRefusal};
+ghost use Rattle.ifdb_db.specs.Reading.{read_line};
+ghost use Rattle.ifdb_db.specs.Room.{StandsFor, are_kept, outcome_in, session_in, was_opened, with_outcome_in, with_session_in};
+
+use crate::OutOfMemory;
+use crate::db::Db;
+use crate::session::Session;
+use ifdb_label::{Label, Tags};
+use ifdb_wire::{Fault, Out, Reply};
+use std::alloc::Global;
+use std::marker::Model;
+
+/// The sessions by number from 1, over what all see.
+///
+/// Contracts see a hall, which stands for a state of the machine: what its log leaves, and its sessions.
+#[derive(Drop)]
+pub struct Room {
+    alloc: Global,
+    db: Db,
+    sessions: Vec<Session>,
+}
+
+impl Model for Room {
+    ghost use Rattle.std.specs.Prelude.{IsTrue};
+    ghost use Rattle.std.specs.List.{list_all};
+    ghost use Rattle.ifdb_db.specs.Kept.{is_kept};
+    ghost use Rattle.ifdb_db.specs.Room.{Hall};
+
+    ghost Value = { Hall };
+
+    ghost use Rattle.std.specs.Coded.{codes};
+    ghost use Rattle.ifdb_bound.specs.contracts.condition.BoundCond as cond;
+    ghost use Rattle.ifdb_bound.specs.contracts.expression.BoundExpr as expr;
+
+    ghost coded = { Prim.hlevel (codes, cond.the_row.coded, expr.the_row.coded) };
+
+    ghost view = { λ r. record { seen = r.db; sessions = r.sessions.items } };
+
+    ghost invariant = { λ r. IsTrue (list_all (is_kept r.db.public) r.sessions.items) };
+}
+
+impl Room {
+    /// The opening: the public state before the first change, no rows, and no sessions.
+    pub fn opening(alloc: Global) -> Result<Room, OutOfMemory>
+        ensures { IfOk result (λ room. StandsFor room opening) }
+    {
+        Ok(Room {
+            alloc,
+            db: Db::opening(alloc)?,
+            sessions: Vec::new(alloc),
+        })
+    }
+
+    /// Opens the next session, and says so to a session of the number `shown`. False is want of memory, which changes nothing and is told to session 0.
+    #[tactic(auto, using(crate::proofs::RoomLaws::one_more))]
+    pub fn open(&mut self, shown: u64, out: &mut Out) -> bool
+        ensures opened { result ≡ true → (st : State) → StandsFor self.old st → StandsFor self.new (next read_line st opens) }
+        ensures told { result ≡ true → out.new.text ≡ reply_text (Some shown) Reply.Opened }
+        ensures refused { result ≡ false → self.new ≡ self.old }
+        ensures memory { result ≡ false → out.new.text ≡ reply_text (Some 0) (Reply.Refused Fault.OutOfMemory) }
+    {
+        if self.add_session().is_err() {
+            say(out, 0, &Reply::Refused(Fault::OutOfMemory));
+            return false;
+        }
+        say(out, shown, &Reply::Opened);
+        true
+    }
+
+    /// Asks a line for a session, and tells the reply to a session of the number `shown`. False is want of memory, which changes nothing.
+    pub fn ask(&mut self, n: u64, shown: u64, line: &[u8], out: &mut Out) -> bool
+        ensures asked { result ≡ true → (st : State) → StandsFor self.old st → StandsFor self.new (next read_line st (asks n line.now)) }
+        ensures told { result ≡ true → (st : State) → StandsFor self.old st → out.new.text ≡ reply_text (Some shown) (outcome_of read_line st n line.now).reply }
+        ensures refused { result ≡ false → self.new ≡ self.old }
+        ensures memory { result ≡ false → out.new.text ≡ reply_text (Some shown) (Reply.Refused Fault.OutOfMemory) }
+    {
+        match self.reply(n, line) {
+            Ok(reply) => say(out, shown, &reply),
+            Err(_) => {
+                say(out, shown, &Reply::Refused(Fault::OutOfMemory));
+                false
+            }
+        }
+    }
+
+    /// Drops a session without BYE. Takes no memory.
+    #[tactic(auto, using(crate::proofs::RoomLaws::one_leaves, crate::proofs::RoomLaws::none_leaves))]
+    pub fn leave(&mut self, n: u64)
+        ensures { (st : State) → StandsFor self.old st → StandsFor self.new (next read_line st (leaves n)) }
+    {
+        if self.is_open(n) {
+            self.close(n);
+        }
+    }
+
+    /// How many sessions were opened.
+    pub fn sessions(&self) -> u64
+        ensures { result ≡ length self.now.sessions }
+    {
+        self.sessions.len() as u64
+    }
+
+    /// Whether a session is open.
+    pub fn is_open(&self, n: u64) -> bool
+        ensures { result ≡ (session_in self.now n).is_open }
+    {
+        if !self.was_opened(n) {
+            return false;
+        }
+        self.sessions[(n - 1) as usize].is_open()
+    }
+
+    /// Whether a session has a transaction. None has: BEGIN isn't built yet.
+    #[tactic(auto, using(crate::proofs::RoomLaws::outside_txn))]
+    pub fn in_transaction(&self, n: u64) -> bool
+        ensures { result ≡ in_txn (session_in self.now n).txn }
+    {
+        let _ = n;
+        self.keeps_sessions();
+        false
+    }
+
+    /// The label of a session, which it keeps once it is closed; `None` exactly where it was never opened.
+    pub fn label(&self, n: u64) -> Option<&Label>
+        ensures opened { IsSome result ↔ IsTrue (was_opened self.now n) }
+        ensures label { IfSome result (λ label. label.now ≡ (session_in self.now n).label) }
+    {
+        if !self.was_opened(n) {
+            return None;
+        }
+        Some(self.sessions[(n - 1) as usize].label())
+    }
+
+    /// All tags.
+    pub fn tags(&self) -> &Tags
+        ensures { result.now ≡ tags_of self.now.seen.public }
+    {
+        self.db.tags()
+    }
+
+    /// Whether a session was opened.
+    fn was_opened(&self, n: u64) -> bool
+        ensures { result ≡ was_opened self.now n }
+    {
+        0 < n && n <= self.sessions()
+    }
+
+    /// The next session.
+    #[tactic(auto, using(crate::proofs::Keeping::all_push))]
+    fn add_session(&mut self) -> Result<(), OutOfMemory>
+        ensures ok { OnOk result (self.new ≡ record self.old { sessions = self.old.sessions ++ new_session ∷ [] }) }
+        ensures err { OnErr result (self.new ≡ self.old) }
+    {
+        let session = Session::new(self.alloc);
+        self.sessions.push(session)?;
+        Ok(())
+    }
+
+    /// Closes an open session.
+    #[tactic(auto, using(crate::proofs::RoomLaws::at_open, crate::proofs::Keeping::set_closed))]
+    fn close(&mut self, n: u64)
+        requires { IsTrue (session_in self.old n).is_open }
+        ensures { self.new ≡ with_session_in self.old n (closed (session_in self.old n)) }
+    {
+        self.sessions[(n - 1) as usize].close();
+    }
+
+    /// The reply to a line of a session. An `Err` changes nothing.
+    fn reply(&mut self, n: u64, line: &[u8]) -> Result<Reply, OutOfMemory>
+        ensures asked { OnOk result ((st : State) → StandsFor self.old st → StandsFor self.new (next read_line st (asks n line.now))) }
+        ensures told { IfOk result (λ r. (st : State) → StandsFor self.old st → r ≡ (outcome_of read_line st n line.now).reply) }
+        ensures still { IfOk result (λ r. IsUnbounded r → self.new ≡ self.old) }
+        ensures err { OnErr result (self.new ≡ self.old) }
+    {
+        self.keeps_sessions();
+        match self.answer(n, line) {
+            Ok(reply) => Ok(reply),
+            Err(fault) => {
+                let reply = refusal_of(fault)?;
+                Ok(reply)
+            }
+        }
+    }
+
+    /// Each session's label is of made tags, and none has a transaction. Does nothing.
+    fn keeps_sessions(&self)
+        ensures { IsTrue (are_kept self.now) }
+    {
+        let _ = &self.alloc;
+    }
+
+    /// What a line of a session comes to. An error changes nothing, and want of memory is one.
+    fn answer(&mut self, n: u64, line: &[u8]) -> Result<Reply, Fault>
+        ensures asked { OnOk result (self.new ≡ with_outcome_in self.old n (outcome_in self.old n line.now)) }
+        ensures open { OnOk result (IsTrue (session_in self.old n).is_open) }
+        ensures told { IfOk result (λ reply. reply ≡ (outcome_in self.old n line.now).reply) }
+        ensures still { IfOk result (λ reply. IsUnbounded reply → self.new ≡ self.old) }
+        ensures refused { IfErr result (IsRefusal (outcome_in self.old n line.now) (session_in self.old n)) }
+        ensures err { OnErr result (self.new ≡ self.old) }
+    {
+        if !self.is_open(n) {
+            return Err(Fault::NoSession);
+        }
+        self.answer_open(n, line)
+    }
+
+    /// What a line of an open session comes to.
+    #[tactic(auto, using(crate::proofs::RoomLaws::at_open, crate::proofs::Keeping::set_answered))]
+    fn answer_open(&mut self, n: u64, line: &[u8]) -> Result<Reply, Fault>
+        requires { IsTrue (session_in self.old n).is_open }
+        ensures asked { OnOk result (self.new ≡ with_outcome_in self.old n (outcome_in self.old n line.now)) }
+        ensures told { IfOk result (λ reply. reply ≡ (outcome_in self.old n line.now).reply) }
+        ensures still { IfOk result (λ reply. IsUnbounded reply → self.new ≡ self.old) }
+        ensures refused { IfErr result (IsRefusal (outcome_in self.old n line.now) (session_in self.old n)) }
+        ensures err { OnErr result (self.new ≡ self.old) }
+    {
+        let reply = self.db.ask(&mut self.sessions[(n - 1) as usize], line)?;
+        Ok(reply)
+    }
+}
+
+/// Tells a reply to a session. False is want of memory, which only Label and Rows can meet.
+fn say(out: &mut Out, session: u64, reply: &Reply) -> bool
+    ensures told { result ≡ true → out.new.text ≡ reply_text (Some session) reply.now }
+    ensures memory { result ≡ false → out.new.text ≡ reply_text (Some session) (Reply.Refused Fault.OutOfMemory) }
+    ensures unbounded { result ≡ false → IsUnbounded reply.now }
+{
+    out.speak_for(Some(session));
+    out.put(reply)
+}
+
+/// The reply that refuses, unless there was no memory.
+fn refusal_of(fault: Fault) -> Result<Reply, OutOfMemory>
+    ensures told { IfOk result (λ r. r ≡ reply.Refused fault) }
+    ensures cause { IfOk result (λ _. fault ≡ Fault.OutOfMemory → ⊥) }
+{
+    match fault {
+        Fault::OutOfMemory => Err(OutOfMemory),
+        _ => Ok(Reply::Refused(fault)),
+    }
+}
