@@ -5,9 +5,9 @@
 //! tag that doesn't flow to the level; and where it is asked outside and binds a row to a parent inside. These are the
 //! uses of authority across the level. The laws hold for every reading of lines, so whatever forms of requests are built.
 
-ghost use Rattle.ifdb_laws.specs.server.TwoWorlds.{OutsideStep, InsideStep, AloneIsHeard, AloneEndsAlike, TwoWorlds};
-ghost use Rattle.ifdb_laws.specs.server.OneSide.{QuietRunsAreOneSided, InsideSinceTheStart};
-ghost use Rattle.ifdb_laws.specs.server.Scripts.{TwoScripts};
+ghost use Rattle.ifdb_laws.specs.TwoWorlds.{OutsideStep, InsideStep, AloneIsHeard, AloneEndsAlike, TwoWorlds};
+ghost use Rattle.ifdb_laws.specs.OneSide.{QuietRunsAreOneSided, InsideSinceTheStart};
+ghost use Rattle.ifdb_laws.specs.Scripts.{TwoScripts};
 
 /// In a run, a step that is asked outside a level, and doesn't cross it, leaves what is inside as it is.
 pub fn outside_step()

@@ -1,4 +1,4 @@
-use Rattle.ifdb_laws.proofs.server.Bridge.{heard_alike_scripts}
+use Rattle.ifdb_laws.proofs.Bridge.{heard_alike_scripts}
 use Rattle.ifdb_laws.proofs.worlds.two_scripts.Goals as goal
 
 pub returns : goal.returns
