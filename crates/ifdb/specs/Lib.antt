@@ -1,5 +1,3 @@
 pub mod NoSite
-pub mod Run
 pub mod Status
-pub mod Steps
 pub mod Words

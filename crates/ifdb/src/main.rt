@@ -3,11 +3,9 @@
 
 mod adapters;
 mod no_site;
-mod script;
 #[cfg(test)]
 mod tests;
 mod top;
-mod wire;
 
 use adapters::{Reading, Writing};
 use no_site::NoSite;

@@ -2,12 +2,12 @@
 ghost use Rattle.std.specs.Prelude.{◌≡◌, ◌≢◌, ◌↔◌, ◌+◌, ◌^◌, ◌≤◌, IsTrue, OnOk, OnErr};
 ghost use Rattle.std.specs.Io.KnownBytes.{Appends};
 ghost use Rattle.ifdb_io.specs.Causes.{Rose, HasCause, WritesShort};
-ghost use Rattle.ifdb.specs.Run.{RanWhole, RanFront, RanCut, CutsDontMatter, KeepsLevels};
+ghost use Rattle.ifdb_script.specs.Run.{RanWhole, RanFront, RanCut, CutsDontMatter, KeepsLevels};
 ghost use Rattle.ifdb.specs.Status.{EndsWell, IsUsage};
 ghost use Rattle.ifdb.specs.Words.{IsRun, usage_line};
 
-use crate::script::{ScriptEnd, run_script};
 use ifdb_io::{Failed, Sink, Site, Source, write_all};
+use ifdb_script::{ScriptEnd, run_script};
 use std::alloc::AllocGlobal;
 
 /// How the program ended. The exit status is the variant's place, from 0.
@@ -37,7 +37,7 @@ const USAGE: &str =
 
 /// Does what the words say, over this input, output and site. The words lack the program's name. So far the one word
 /// `run` is understood, which runs the input as a script.
-#[tactic(auto, using(crate::proofs::RunLaws::cuts_dont_matter))]
+#[tactic(auto, using(ifdb_script::proofs::RunLaws::cuts_dont_matter))]
 pub fn top<T: AllocGlobal, R: Source, W: Sink, S: Site>(
     rt: &T,
     words: &[String],

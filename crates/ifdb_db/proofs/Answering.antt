@@ -16,9 +16,9 @@ use Rattle.ifdb_wire.specs.declared.fault.Fault.TheVariants as fault
 use Rattle.ifdb_wire.specs.declared.reply.Reply.{Reply}
 use Rattle.ifdb_wire.specs.declared.reply.Reply.TheVariants as reply
 use Rattle.ifdb_catalog.specs.Public.{Public, tags_of, has_tags, table_at, no_table, refusal}
-use Rattle.ifdb_model.specs.server.Log.{changes, commits}
-use Rattle.ifdb_model.specs.server.Session.{Session, Seen, in_txn}
-use Rattle.ifdb_model.specs.server.Step.{Outcome, tells, refuses, adds, is_empty, form_of, publish, set_label, look, write_bound}
+use Rattle.ifdb_model.specs.Log.{changes, commits}
+use Rattle.ifdb_model.specs.Session.{Session, Seen, in_txn}
+use Rattle.ifdb_model.specs.Step.{Outcome, tells, refuses, adds, is_empty, form_of, publish, set_label, look, write_bound}
 use Rattle.ifdb_db.specs.Rows.{shown_values, with_row}
 use Rattle.ifdb_db.specs.Kept.{IsSound, is_plain_table, is_kept}
 use Rattle.ifdb_db.specs.Numbers.{one_column, one_value}

@@ -30,7 +30,7 @@ use Rattle.ifdb_catalog.proofs.BoundRequestsFit.{bound_is_fitting}
 use Rattle.ifdb_bind.specs.Built.{is_number_table, is_number_row, is_number_insert, bare_item, bare_source, is_bare_select, is_built}
 use Rattle.ifdb_bind.specs.Bare.{bound_bare}
 use Rattle.ifdb_bind.proofs.Selects.{column_read, select_at, bare_is_bound, written_out}
-use Rattle.ifdb_model.specs.server.Step.{Form, publishes, relabels, looks, writes, form_of}
+use Rattle.ifdb_model.specs.Step.{Form, publishes, relabels, looks, writes, form_of}
 use Rattle.ifdb_db.specs.Kept.{is_plain_table}
 use Rattle.ifdb_db.specs.Numbers.{is_plain_change, is_change, is_label, is_select, is_insert, column_of, one_value, is_of_form, IsOneColumn}
 

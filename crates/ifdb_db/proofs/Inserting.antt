@@ -10,10 +10,10 @@ use Rattle.ifdb_bound.specs.declared.schema.Schema.{Schema}
 use Rattle.ifdb_wire.specs.declared.fault.Fault.TheVariants as fault
 use Rattle.ifdb_wire.specs.declared.reply.Reply.TheVariants as reply
 use Rattle.ifdb_catalog.specs.Public.{Public, tags_of, table_at}
-use Rattle.ifdb_model.specs.server.Log.{commits}
-use Rattle.ifdb_model.specs.server.Session.{Session}
-use Rattle.ifdb_model.specs.server.Writes.{Scene, values_at, bound_parents, inserted as inserted_row, insert_one, counted, scene_of}
-use Rattle.ifdb_model.specs.server.Step.{refuses, adds, land, write_bound}
+use Rattle.ifdb_model.specs.Log.{commits}
+use Rattle.ifdb_model.specs.Session.{Session}
+use Rattle.ifdb_model.specs.Writes.{Scene, values_at, bound_parents, inserted as inserted_row, insert_one, counted, scene_of}
+use Rattle.ifdb_model.specs.Step.{refuses, adds, land, write_bound}
 use Rattle.ifdb_db.specs.Kept.{is_first, has_none, is_plain_table}
 use Rattle.ifdb_db.specs.Numbers.{one_value}
 use Rattle.ifdb_db.specs.Answer.{value_write, inserted}

@@ -13,8 +13,8 @@ use Rattle.ifdb_row.proofs.ContentLaws.{all-place, rising_place}
 use Rattle.ifdb_bound.specs.declared.request.Change.{Change}
 use Rattle.ifdb_bound.specs.declared.request.Change.TheVariants as change
 use Rattle.ifdb_catalog.specs.Public.{Public, changed}
-use Rattle.ifdb_model.specs.server.Session.{Session, Txn, Seen, closed, in_txn}
-use Rattle.ifdb_model.specs.server.Log.{Entry, changes, commits}
+use Rattle.ifdb_model.specs.Session.{Session, Txn, Seen, closed, in_txn}
+use Rattle.ifdb_model.specs.Log.{Entry, changes, commits}
 use Rattle.ifdb_db.specs.Rows.{are_rows_made, with_row}
 use Rattle.ifdb_db.specs.Kept.{is_plain_table, IsSound, is_kept}
 use Rattle.ifdb_db.specs.Numbers.{is_plain_change}

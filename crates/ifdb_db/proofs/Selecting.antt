@@ -16,7 +16,7 @@ use Rattle.ifdb_expr.specs.View.{table_rows}
 use Rattle.ifdb_expr.specs.Query.{answered}
 use Rattle.ifdb_wire.specs.declared.reply.Reply.TheVariants as reply
 use Rattle.ifdb_catalog.specs.Public.{Public, tags_of}
-use Rattle.ifdb_model.specs.server.Query.{setting_of, table_reply, select_reply}
+use Rattle.ifdb_model.specs.Query.{setting_of, table_reply, select_reply}
 use Rattle.ifdb_db.specs.Rows.{shown_values}
 use Rattle.ifdb_db.specs.Numbers.{column_of, one_column}
 

@@ -16,10 +16,10 @@ use Rattle.ifdb_wire.specs.Text.{IsUnbounded}
 use Rattle.ifdb_catalog.specs.Public.{tags_of, changed}
 use Rattle.ifdb_catalog.specs.Binding.{bound}
 use Rattle.ifdb_db.specs.Rows.{shown_values}
-use Rattle.ifdb_model.specs.server.Log.{Entry, changes, commits}
-use Rattle.ifdb_model.specs.server.Session.{Session, Seen}
-use Rattle.ifdb_model.specs.server.Writes.{new_write}
-use Rattle.ifdb_model.specs.server.Step.{Outcome, refuses, adds, Form, greets, publishes, relabels, shows_label, leaves_us, looks, writes, form_of, hello, bye, publish, set_label, show_label, look, write_bound}
+use Rattle.ifdb_model.specs.Log.{Entry, changes, commits}
+use Rattle.ifdb_model.specs.Session.{Session, Seen}
+use Rattle.ifdb_model.specs.Writes.{new_write}
+use Rattle.ifdb_model.specs.Step.{Outcome, refuses, adds, Form, greets, publishes, relabels, shows_label, leaves_us, looks, writes, form_of, hello, bye, publish, set_label, show_label, look, write_bound}
 
 -- what all see once an entry is added, if one is
 abbrev pub with_entry : Seen → Option Entry → Seen

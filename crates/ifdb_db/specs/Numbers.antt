@@ -12,7 +12,7 @@ use Rattle.ifdb_bound.specs.declared.request.Bound.TheVariants as b
 use Rattle.ifdb_bound.specs.declared.request.Change.{Change}
 use Rattle.ifdb_bound.specs.declared.request.Change.TheVariants as change
 use Rattle.ifdb_bind.specs.Built.{is_number_row}
-use Rattle.ifdb_model.specs.server.Step.{Form, publishes, relabels, looks, writes}
+use Rattle.ifdb_model.specs.Step.{Form, publishes, relabels, looks, writes}
 use Rattle.ifdb_db.specs.Kept.{is_plain_table}
 
 -- the change makes no view, and no table that isn't plain

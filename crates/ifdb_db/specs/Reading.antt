@@ -7,7 +7,7 @@ use Rattle.ifdb_parse.specs.Parsed.{parsed}
 use Rattle.ifdb_wire.specs.declared.fault.Fault.{Fault}
 use Rattle.ifdb_wire.specs.declared.fault.Fault.TheVariants as fault
 use Rattle.ifdb_bind.specs.Built.{is_built}
-use Rattle.ifdb_model.specs.server.Step.{Reader, built_reader}
+use Rattle.ifdb_model.specs.Step.{Reader, built_reader}
 
 -- the refusal of a line with a fault
 abbrev pub line_fault : ParseFault → Fault

@@ -2,9 +2,9 @@
 use Rattle.std.specs.Prelude.{◌≡◌, ℕ, ◌-◌, ◌&&◌, Bool, List, nat_lt, nat_le, length, slice_index_or, slice_set, None, if◌then◌else◌}
 use Rattle.std.specs.List.{list_all}
 use Rattle.ifdb_wire.specs.declared.fault.Fault.TheVariants as fault
-use Rattle.ifdb_model.specs.server.Session.{Session, no_session, Seen, seen_in}
-use Rattle.ifdb_model.specs.server.Step.{Outcome, refuses}
-use Rattle.ifdb_model.specs.server.Run.{State}
+use Rattle.ifdb_model.specs.Session.{Session, no_session, Seen, seen_in}
+use Rattle.ifdb_model.specs.Step.{Outcome, refuses}
+use Rattle.ifdb_model.specs.Run.{State}
 use Rattle.ifdb_db.specs.Kept.{is_kept}
 use Rattle.ifdb_db.specs.Answer.{with_entry, answered}
 use Rattle.ifdb_db.specs.Reading.{read_line}

@@ -31,7 +31,7 @@ pub struct Db {
 }
 
 impl Model for Db {
-    ghost use Rattle.ifdb_model.specs.server.Session.{Seen};
+    ghost use Rattle.ifdb_model.specs.Session.{Seen};
     ghost use Rattle.ifdb_db.specs.Kept.{IsSound};
 
     ghost Value = { Seen };

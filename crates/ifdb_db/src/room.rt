@@ -3,8 +3,8 @@ ghost use Rattle.std.specs.Prelude.{◌≡◌, ◌↔◌, ◌++◌, ◌∷◌, [
 ghost use Rattle.ifdb_wire.specs.declared.reply.Reply.TheVariants as reply;
 ghost use Rattle.ifdb_wire.specs.Text.{reply_text, IsUnbounded};
 ghost use Rattle.ifdb_catalog.specs.Public.{tags_of};
-ghost use Rattle.ifdb_model.specs.server.Session.{closed, in_txn, new_session};
-ghost use Rattle.ifdb_model.specs.server.Run.{State, asks, leaves, next, opening, opens, outcome_of};
+ghost use Rattle.ifdb_model.specs.Session.{closed, in_txn, new_session};
+ghost use Rattle.ifdb_model.specs.Run.{State, asks, leaves, next, opening, opens, outcome_of};
 ghost use Rattle.ifdb_db.specs.Answer.{IsRefusal};
 ghost use Rattle.ifdb_db.specs.Reading.{read_line};
 ghost use Rattle.ifdb_db.specs.Room.{StandsFor, are_kept, outcome_in, session_in, was_opened, with_outcome_in, with_session_in};

@@ -1,6 +1,6 @@
 // Sessions.
 ghost use Rattle.std.specs.Prelude.{◌≡◌, Some};
-ghost use Rattle.ifdb_model.specs.server.Session.{closed, new_session};
+ghost use Rattle.ifdb_model.specs.Session.{closed, new_session};
 
 use ifdb_label::Label;
 use ifdb_value::Principal;
@@ -19,7 +19,7 @@ pub struct Session {
 
 impl Model for Session {
     ghost use Rattle.std.specs.Prelude.{None};
-    ghost use Rattle.ifdb_model.specs.server.Session.{Session as Known};
+    ghost use Rattle.ifdb_model.specs.Session.{Session as Known};
 
     ghost Value = { Known };
 

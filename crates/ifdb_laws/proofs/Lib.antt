@@ -1,8 +1,15 @@
-mod Labels
-mod Asks
-mod Sessions
-mod Steps
-mod Runs
-mod Crossings
+pub mod Shapes
+pub mod Examples
+pub mod Statements
+pub mod Sided
+pub mod Logs
+pub mod Alike
+pub mod rows
+pub mod Refusals
+pub mod Frozen
+pub mod Clinic
+pub mod PairExamples
+pub mod two_worlds
 pub mod Bridge
-pub mod server
+pub mod ReadBack
+pub mod Stamps

@@ -1,5 +1,5 @@
 // Laws of single lines of the whole server: each function's contract is one, and it does nothing.
-ghost use Rattle.ifdb_laws.specs.server.StepLaws.{CommitsAreJudged, StampsAreAbove, TransactionsAreFrozen, RefusalsChangeNothing, RefusedCommitsEnd, RefusedStepsChangeNothing};
+ghost use Rattle.ifdb_laws.specs.StepLaws.{CommitsAreJudged, StampsAreAbove, TransactionsAreFrozen, RefusalsChangeNothing, RefusedCommitsEnd, RefusedStepsChangeNothing};
 
 /// In a transaction each line but COMMIT is answered by what was before its BEGIN, its own writes and its session alone.
 pub fn transactions_are_frozen()

@@ -1,12 +1,12 @@
 // Worked scripts of the whole server: each function's contract says what some scripts write, and it does nothing.
-ghost use Rattle.ifdb_laws.specs.server.Played.{Plays};
-ghost use Rattle.ifdb_laws.specs.server.LabelRows.{compound_row, polyinstantiation_row, lowering_row};
-ghost use Rattle.ifdb_laws.specs.server.CommitRows.{commit_label_row, first_committer_row, snapshot_row};
-ghost use Rattle.ifdb_laws.specs.server.ReferenceRows.{secret_child_row, broken_reference_row};
-ghost use Rattle.ifdb_laws.specs.server.ViewRows.{view_row};
-ghost use Rattle.ifdb_laws.specs.server.QueryRows.{range_row, order_row};
-ghost use Rattle.ifdb_laws.specs.server.ClinicRow.{clinic_row};
-ghost use Rattle.ifdb_laws.specs.server.Pairs.{HaveSameLow, AreQuiet, AreHeard, ShowCrossing, first_world, second_world, worlds_heard, came_down, came_down_idle, referred_up, referred_up_to_nothing, referred_down, referred_down_idle, viewed_up, viewed_up_to_nothing};
+ghost use Rattle.ifdb_laws.specs.Played.{Plays};
+ghost use Rattle.ifdb_laws.specs.LabelRows.{compound_row, polyinstantiation_row, lowering_row};
+ghost use Rattle.ifdb_laws.specs.CommitRows.{commit_label_row, first_committer_row, snapshot_row};
+ghost use Rattle.ifdb_laws.specs.ReferenceRows.{secret_child_row, broken_reference_row};
+ghost use Rattle.ifdb_laws.specs.ViewRows.{view_row};
+ghost use Rattle.ifdb_laws.specs.QueryRows.{range_row, order_row};
+ghost use Rattle.ifdb_laws.specs.ClinicRow.{clinic_row};
+ghost use Rattle.ifdb_laws.specs.Pairs.{HaveSameLow, AreQuiet, AreHeard, ShowCrossing, first_world, second_world, worlds_heard, came_down, came_down_idle, referred_up, referred_up_to_nothing, referred_down, referred_down_idle, viewed_up, viewed_up_to_nothing};
 
 /// What labels see: compound tags, one key at two labels, a row committed at a lower label than it was written at.
 pub fn label_rows()

@@ -5,8 +5,9 @@
 //! tag that doesn't flow to the level; and where it is asked outside and binds a row to a parent inside. These are the
 //! uses of authority across the level. The laws hold for every reading of lines, so whatever forms of requests are built.
 
-ghost use Rattle.ifdb_laws.specs.server.TwoWorlds.{OutsideStep, InsideStep, AloneIsHeard, AloneEndsAlike, TwoWorlds};
-ghost use Rattle.ifdb_laws.specs.server.OneSide.{QuietRunsAreOneSided, InsideSinceTheStart};
+ghost use Rattle.ifdb_laws.specs.TwoWorlds.{OutsideStep, InsideStep, AloneIsHeard, AloneEndsAlike, TwoWorlds};
+ghost use Rattle.ifdb_laws.specs.OneSide.{QuietRunsAreOneSided, InsideSinceTheStart};
+ghost use Rattle.ifdb_laws.specs.Scripts.{TwoScripts};
 
 /// In a run, a step that is asked outside a level, and doesn't cross it, leaves what is inside as it is.
 pub fn outside_step()
@@ -29,6 +30,12 @@ pub fn inside_alone()
 /// are refused for want of memory may stand in both.
 pub fn two_worlds()
     ensures { TwoWorlds }
+{}
+
+/// A script that was told all without want of memory gives those inside a level the bytes that each other script has them
+/// hear that agrees with it below the level, neither with a step that crosses it.
+pub fn two_scripts()
+    ensures { TwoScripts }
 {}
 
 /// In a run without a crossing each session, each commit, and each row with its bound parents stays on one side of the level.

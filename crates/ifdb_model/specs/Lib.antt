@@ -1,10 +1,10 @@
-pub mod Row
+pub mod Log
 pub mod Session
-pub mod Request
-pub mod Machine
-pub mod Reply
-pub mod Script
-pub mod Output
+pub mod Writes
+pub mod Query
+pub mod Step
+pub mod Run
 pub mod Low
 pub mod Crossing
-pub mod server
+pub mod Script
+pub mod Output

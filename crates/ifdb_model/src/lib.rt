@@ -1,15 +1,3 @@
-//! The machine that a script runs on, as definitions: its rows, sessions, requests, steps and replies. The folder
-//! `specs/` has what they mean; the code here has their types and reads a line of a script.
+//! The whole server, as definitions: its log, its sessions, what a line of a session comes to, runs, and what a script's
+//! run writes. The folder `specs/` has them; no code stands here.
 #![tactic(auto)]
-
-mod line;
-mod reply;
-mod request;
-mod row;
-mod session;
-
-pub use line::{StepLine, step_line};
-pub use reply::{Fault, Keys, Reply};
-pub use request::Request;
-pub use row::{Row, Slot};
-pub use session::Session;

@@ -1,5 +1,5 @@
 mod Digits
 mod Escapes
 mod Examples
-mod Numbers
+pub mod Numbers
 mod RowTexts

@@ -1,7 +1,7 @@
 // What a session is answered.
 ghost use Rattle.std.specs.Prelude.{◌≡◌, IsTrue};
 ghost use Rattle.ifdb_bind.specs.Built.{is_built};
-ghost use Rattle.ifdb_model.specs.server.Step.{form_of, publishes, relabels, looks, writes, hello, bye, show_label};
+ghost use Rattle.ifdb_model.specs.Step.{form_of, publishes, relabels, looks, writes, hello, bye, show_label};
 ghost use Rattle.ifdb_db.specs.Kept.{is_kept};
 ghost use Rattle.ifdb_db.specs.Answer.{answered_as, answered_by, answered_new, IsAnswered, IsStill};
 

@@ -8,7 +8,7 @@ ghost use Rattle.ifdb_wire.specs.declared.fault.Fault.TheVariants.{OutOfMemory a
 ghost use Rattle.ifdb_catalog.specs.Binding.{bound};
 ghost use Rattle.ifdb_catalog.specs.Fits.{change_fits, is_new};
 ghost use Rattle.ifdb_bind.specs.Built.{is_built, is_number_row};
-ghost use Rattle.ifdb_model.specs.server.Step.{form_of, publishes, relabels, looks, writes};
+ghost use Rattle.ifdb_model.specs.Step.{form_of, publishes, relabels, looks, writes};
 ghost use Rattle.ifdb_db.specs.Numbers.{column_of, is_change, is_insert, is_label, is_plain_change, is_select, one_column, one_value, table_with, IsOneColumn};
 
 use ifdb_bind::bind;

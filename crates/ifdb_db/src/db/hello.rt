@@ -1,8 +1,8 @@
 // HELLO.
 ghost use Rattle.std.specs.Prelude.{◌≡◌, IfOk, IfErr, Some};
 ghost use Rattle.ifdb_wire.specs.declared.reply.Reply.TheVariants.{Done};
-ghost use Rattle.ifdb_model.specs.server.Session.{Session};
-ghost use Rattle.ifdb_model.specs.server.Step.{hello, refuses, tells};
+ghost use Rattle.ifdb_model.specs.Session.{Session};
+ghost use Rattle.ifdb_model.specs.Step.{hello, refuses, tells};
 
 use super::Db;
 use ifdb_value::{Name, Principal, Word};

@@ -8,7 +8,7 @@ ghost use Rattle.ifdb_bound.specs.Query.{label_names};
 ghost use Rattle.ifdb_wire.specs.declared.reply.Reply.TheVariants.{Done};
 ghost use Rattle.ifdb_catalog.specs.Public.{has_tags, tag_names, tags_of};
 ghost use Rattle.ifdb_catalog.specs.Binding.{bound};
-ghost use Rattle.ifdb_model.specs.server.Step.{relabels, form_of, set_label, show_label, tells};
+ghost use Rattle.ifdb_model.specs.Step.{relabels, form_of, set_label, show_label, tells};
 ghost use Rattle.ifdb_bind.specs.Built.{is_built};
 ghost use Rattle.ifdb_db.specs.Kept.{is_kept};
 ghost use Rattle.ifdb_db.specs.Answer.{IsRefusal};

@@ -4,7 +4,7 @@ ghost use Rattle.ifdb_label.specs.Tags.{AreMade};
 ghost use Rattle.ifdb_wire.specs.declared.reply.Reply.TheVariants.{Count, Rows};
 ghost use Rattle.ifdb_catalog.specs.Public.{tags_of};
 ghost use Rattle.ifdb_catalog.specs.Binding.{bound};
-ghost use Rattle.ifdb_model.specs.server.Step.{looks, writes, form_of, look, write_bound, tells};
+ghost use Rattle.ifdb_model.specs.Step.{looks, writes, form_of, look, write_bound, tells};
 ghost use Rattle.ifdb_bind.specs.Built.{is_built};
 ghost use Rattle.ifdb_row.specs.Seen.{clash};
 ghost use Rattle.ifdb_db.specs.Rows.{with_row};

@@ -1,4 +1,4 @@
-use Rattle.ifdb.proofs.RunLaws.{keeps_levels}
+use Rattle.ifdb_script.proofs.RunLaws.{keeps_levels}
 use Rattle.ifdb.proofs.top.top.Goals as goal
 
 pub returns-in-Err-clause-two_worlds : goal.returns-in-Err-clause-two_worlds

@@ -1,4 +1,4 @@
-use Rattle.ifdb_laws.proofs.server.ReadBack.{replies_read_back as replies_lem, refusals_read_back}
+use Rattle.ifdb_laws.proofs.ReadBack.{replies_read_back as replies_lem, refusals_read_back}
 use Rattle.ifdb_laws.proofs.byte_laws.replies_read_back.Goals as goal
 
 pub returns-clause-replies : goal.returns-clause-replies

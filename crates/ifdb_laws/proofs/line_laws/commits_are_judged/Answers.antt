@@ -1,4 +1,4 @@
-use Rattle.ifdb_laws.proofs.server.Stamps.{judged_lem, stamps_lem}
+use Rattle.ifdb_laws.proofs.Stamps.{judged_lem, stamps_lem}
 use Rattle.ifdb_laws.proofs.line_laws.commits_are_judged.Goals as goal
 
 pub returns-clause-verdict : goal.returns-clause-verdict

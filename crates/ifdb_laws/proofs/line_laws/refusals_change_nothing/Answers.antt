@@ -1,4 +1,4 @@
-use Rattle.ifdb_laws.proofs.server.Refusals.{refusals_lem, refused_steps_lem, refused_commits_lem}
+use Rattle.ifdb_laws.proofs.Refusals.{refusals_lem, refused_steps_lem, refused_commits_lem}
 use Rattle.ifdb_laws.proofs.line_laws.refusals_change_nothing.Goals as goal
 
 pub returns-clause-lines : goal.returns-clause-lines

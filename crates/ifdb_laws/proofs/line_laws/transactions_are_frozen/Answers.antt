@@ -1,4 +1,4 @@
-use Rattle.ifdb_laws.proofs.server.Frozen.{frozen_lem}
+use Rattle.ifdb_laws.proofs.Frozen.{frozen_lem}
 use Rattle.ifdb_laws.proofs.line_laws.transactions_are_frozen.Goals as goal
 
 pub returns : goal.returns

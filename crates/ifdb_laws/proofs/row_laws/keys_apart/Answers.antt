@@ -1,4 +1,4 @@
-use Rattle.ifdb_laws.proofs.server.rows.Apart.{keys_apart_lem}
+use Rattle.ifdb_laws.proofs.rows.Apart.{keys_apart_lem}
 use Rattle.ifdb_laws.proofs.row_laws.keys_apart.Goals as goal
 
 pub returns : goal.returns

@@ -1,4 +1,4 @@
-use Rattle.ifdb_laws.proofs.server.rows.Runs.{parents_live_lem}
+use Rattle.ifdb_laws.proofs.rows.Runs.{parents_live_lem}
 use Rattle.ifdb_laws.proofs.row_laws.parents_live.Goals as goal
 
 pub returns : goal.returns

@@ -1,4 +1,4 @@
-use Rattle.ifdb_laws.proofs.server.Clinic.{clinic_row_plays}
+use Rattle.ifdb_laws.proofs.Clinic.{clinic_row_plays}
 use Rattle.ifdb_laws.proofs.worked.clinic_rows.Goals as goal
 
 pub returns : goal.returns

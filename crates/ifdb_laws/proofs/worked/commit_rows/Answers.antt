@@ -1,4 +1,4 @@
-use Rattle.ifdb_laws.proofs.server.Examples.{commit_label_row_plays, first_committer_row_plays, snapshot_row_plays}
+use Rattle.ifdb_laws.proofs.Examples.{commit_label_row_plays, first_committer_row_plays, snapshot_row_plays}
 use Rattle.ifdb_laws.proofs.worked.commit_rows.Goals as goal
 
 pub returns-clause-commit_label : goal.returns-clause-commit_label

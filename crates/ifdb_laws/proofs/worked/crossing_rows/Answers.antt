@@ -1,4 +1,4 @@
-use Rattle.ifdb_laws.proofs.server.PairExamples.{came_down_crosses, referred_up_crosses, viewed_up_crosses, referred_down_crosses}
+use Rattle.ifdb_laws.proofs.PairExamples.{came_down_crosses, referred_up_crosses, viewed_up_crosses, referred_down_crosses}
 use Rattle.ifdb_laws.proofs.worked.crossing_rows.Goals as goal
 
 pub returns-clause-comes_down : goal.returns-clause-comes_down

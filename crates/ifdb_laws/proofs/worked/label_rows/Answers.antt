@@ -1,4 +1,4 @@
-use Rattle.ifdb_laws.proofs.server.Examples.{compound_row_plays, polyinstantiation_row_plays, lowering_row_plays}
+use Rattle.ifdb_laws.proofs.Examples.{compound_row_plays, polyinstantiation_row_plays, lowering_row_plays}
 use Rattle.ifdb_laws.proofs.worked.label_rows.Goals as goal
 
 pub returns-clause-compound : goal.returns-clause-compound

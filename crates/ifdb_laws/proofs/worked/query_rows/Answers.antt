@@ -1,4 +1,4 @@
-use Rattle.ifdb_laws.proofs.server.Examples.{range_row_plays, order_row_plays}
+use Rattle.ifdb_laws.proofs.Examples.{range_row_plays, order_row_plays}
 use Rattle.ifdb_laws.proofs.worked.query_rows.Goals as goal
 
 pub returns-clause-range : goal.returns-clause-range

@@ -1,4 +1,4 @@
-use Rattle.ifdb_laws.proofs.server.Examples.{secret_child_row_plays, broken_reference_row_plays}
+use Rattle.ifdb_laws.proofs.Examples.{secret_child_row_plays, broken_reference_row_plays}
 use Rattle.ifdb_laws.proofs.worked.reference_rows.Goals as goal
 
 pub returns-clause-secret_child : goal.returns-clause-secret_child

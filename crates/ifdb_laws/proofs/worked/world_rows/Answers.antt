@@ -1,4 +1,4 @@
-use Rattle.ifdb_laws.proofs.server.PairExamples.{first_plays, second_plays, worlds_low, worlds_quiet, worlds_alike}
+use Rattle.ifdb_laws.proofs.PairExamples.{first_plays, second_plays, worlds_low, worlds_quiet, worlds_alike}
 use Rattle.ifdb_laws.proofs.worked.world_rows.Goals as goal
 
 pub returns-clause-first : goal.returns-clause-first

@@ -1,4 +1,4 @@
-use Rattle.ifdb_laws.proofs.server.two_worlds.Runs.{alone_is_heard, alone_ends_alike}
+use Rattle.ifdb_laws.proofs.two_worlds.Runs.{alone_is_heard, alone_ends_alike}
 use Rattle.ifdb_laws.proofs.worlds.inside_alone.Goals as goal
 
 pub returns-clause-heard : goal.returns-clause-heard

@@ -1,4 +1,4 @@
-use Rattle.ifdb_laws.proofs.server.two_worlds.OneSide.{quiet_runs_are_one_sided, inside_since_the_start}
+use Rattle.ifdb_laws.proofs.two_worlds.OneSide.{quiet_runs_are_one_sided, inside_since_the_start}
 use Rattle.ifdb_laws.proofs.worlds.one_side.Goals as goal
 
 pub returns-clause-states : goal.returns-clause-states

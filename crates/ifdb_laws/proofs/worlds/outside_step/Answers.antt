@@ -1,4 +1,4 @@
-use Rattle.ifdb_laws.proofs.server.two_worlds.Runs.{outside_leaves_part}
+use Rattle.ifdb_laws.proofs.two_worlds.Runs.{outside_leaves_part}
 use Rattle.ifdb_laws.proofs.worlds.outside_step.Goals as goal
 
 pub returns : goal.returns

@@ -1,4 +1,4 @@
-use Rattle.ifdb_laws.proofs.server.two_worlds.Runs.{heard_alike}
+use Rattle.ifdb_laws.proofs.two_worlds.Runs.{heard_alike}
 use Rattle.ifdb_laws.proofs.worlds.two_worlds.Goals as goal
 
 pub returns : goal.returns

@@ -1,6 +1,6 @@
 use Rattle.std.proofs.Common.{sym, subst, ap, ◌∙◌}
-use Rattle.ifdb_model.specs.server.Step.{Outcome}
-use Rattle.ifdb_model.specs.server.Run.{next, asks}
+use Rattle.ifdb_model.specs.Step.{Outcome}
+use Rattle.ifdb_model.specs.Run.{next, asks}
 use Rattle.ifdb_db.specs.Reading.{read_line}
 use Rattle.ifdb_db.specs.Room.{Hall, StandsFor}
 use Rattle.ifdb_db.proofs.RoomLaws.{follows, stays, told_reply, refused_so}

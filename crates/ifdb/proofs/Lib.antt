@@ -1,4 +1,0 @@
-mod ScriptLines
-mod Flags
-mod Progress
-mod RunLaws

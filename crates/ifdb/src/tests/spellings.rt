@@ -1,0 +1,142 @@
+// Odd lines, with their replies as the grammar and the forms that are built give them.
+use super::*;
+
+const BEGINNING: &[u8] =
+    b"OPEN\n1 HELLO admin KEY 'admin'\n1 CREATE TABLE note (id INT, PRIMARY KEY (id))\n";
+
+const BEGUN: &[u8] = b"1 OPEN\n1 OK\n1 OK\n";
+
+// What is written for a line behind the beginning.
+fn answer(rt: &HostRuntime, line: &[u8]) -> Result<Ran, Fail> {
+    let mut script = both(rt.alloc(), BEGINNING, line)?;
+    script.push(b'\n')?;
+    run(rt, &script, 65_536)
+}
+
+#[test]
+fn lines_have_their_sessions(rt: HostRuntime) -> Result<(), Fail> {
+    let table = [
+        (b"1".as_slice(), "1 ERR 1 Syntax 0\n"),
+        (b"1 ".as_slice(), "1 ERR 1 Syntax 0\n"),
+        (b"1\r".as_slice(), "1 ERR 1 Syntax 0\n"),
+        (b"1\r\r".as_slice(), "0 ERR 1 Syntax 0\n"),
+        (b"1   ".as_slice(), "1 ERR 1 Syntax 2\n"),
+        (b"01 SHOW LABEL".as_slice(), "0 ERR 1 Syntax 0\n"),
+        (b"0 SHOW LABEL".as_slice(), "0 ERR 1 Syntax 0\n"),
+        (b" 1 SHOW LABEL".as_slice(), "0 ERR 1 Syntax 0\n"),
+        (b"1\tSHOW LABEL".as_slice(), "0 ERR 1 Syntax 0\n"),
+        (b"2 SHOW LABEL".as_slice(), "2 ERR 28 NoSession\n"),
+        (b"2 SELECT '".as_slice(), "2 ERR 28 NoSession\n"),
+        (
+            b"999999999999999999 BYE".as_slice(),
+            "999999999999999999 ERR 28 NoSession\n",
+        ),
+        (b"1000000000000000000 BYE".as_slice(), "0 ERR 1 Syntax 0\n"),
+        (b"OPEN\r".as_slice(), "2 OPEN\n"),
+        (b"OPEN\r\r".as_slice(), "0 ERR 1 Syntax 0\n"),
+        (b"OPEN ".as_slice(), "0 ERR 1 Syntax 0\n"),
+        (b"open".as_slice(), "0 ERR 1 Syntax 0\n"),
+        (b"\xff".as_slice(), "0 ERR 1 Syntax 0\n"),
+        (b"\r".as_slice(), ""),
+        (b"#1 SHOW LABEL".as_slice(), ""),
+    ];
+    for (line, reply) in table {
+        let wanted = both(rt.alloc(), BEGUN, reply.as_bytes())?;
+        let ran = answer(&rt, line)?;
+        assert_eq!(rt; ran.status, Status::Done);
+        assert_eq!(rt; ran.written.as_slice(), wanted.as_slice(), "{reply}");
+    }
+    Ok(())
+}
+
+#[test]
+fn requests_are_read_in_every_spelling(rt: HostRuntime) -> Result<(), Fail> {
+    let table = [
+        (b"1 show label;".as_slice(), "1 LABEL ()\n"),
+        (b"1  SHOW LABEL".as_slice(), "1 LABEL ()\n"),
+        (b"1 \tShow\t \tLABEL ; ".as_slice(), "1 LABEL ()\n"),
+        (b"1 SHOW LABEL\r".as_slice(), "1 LABEL ()\n"),
+        (b"1 SHOW LABEL\r\r".as_slice(), "1 LABEL ()\n"),
+        (b"1 SHOW LABEL\r\r\r".as_slice(), "1 ERR 1 Syntax 10\n"),
+        (b"1 INSERT into NOTE values(007);".as_slice(), "1 OK 1\n"),
+        (b"1 INSERT INTO note VALUES ( - 5 )".as_slice(), "1 OK 1\n"),
+        (
+            b"1 INSERT INTO note VALUES (-9223372036854775808)".as_slice(),
+            "1 OK 1\n",
+        ),
+        (
+            b"1 INSERT INTO note VALUES (9223372036854775808)".as_slice(),
+            "1 ERR 22 Limit\n",
+        ),
+        (
+            b"1 CREATE TABLE t (Id INTEGER, PRIMARY KEY (iD))".as_slice(),
+            "1 OK\n",
+        ),
+        (b"1 SELECT ID FROM Note;".as_slice(), "1 ROWS 0 1\n"),
+        (
+            b"1 hello Admin KEY 'admin'".as_slice(),
+            "1 ERR 3 HelloTwice\n",
+        ),
+        (b"1 bye".as_slice(), "1 OK\n"),
+    ];
+    for (line, reply) in table {
+        let wanted = both(rt.alloc(), BEGUN, reply.as_bytes())?;
+        let ran = answer(&rt, line)?;
+        assert_eq!(rt; ran.status, Status::Done);
+        assert_eq!(rt; ran.written.as_slice(), wanted.as_slice(), "{reply}");
+    }
+    Ok(())
+}
+
+#[test]
+fn what_is_no_request_is_refused_at_its_place(rt: HostRuntime) -> Result<(), Fail> {
+    let table = [
+        (b"1 SHOW".as_slice(), "1 ERR 1 Syntax 4\n"),
+        (b"1 SHOW LABEL x".as_slice(), "1 ERR 1 Syntax 11\n"),
+        (b"1 SHOW LABEL ;;".as_slice(), "1 ERR 1 Syntax 12\n"),
+        (b"1 SHOW LABEL \xff".as_slice(), "1 ERR 1 Syntax 11\n"),
+        (b"1 HELLO admin KEY 'x".as_slice(), "1 ERR 1 Syntax 16\n"),
+        (b"1 BEGIN".as_slice(), "1 ERR 1 Syntax 0\n"),
+        (b"1 SELECT * FROM note".as_slice(), "1 ERR 1 Syntax 0\n"),
+        (
+            b"1 SELECT note.id FROM note".as_slice(),
+            "1 ERR 1 Syntax 0\n",
+        ),
+        (
+            b"1 SELECT id FROM note WHERE id = 1".as_slice(),
+            "1 ERR 1 Syntax 0\n",
+        ),
+        (
+            b"1 INSERT INTO note VALUES (1), (2)".as_slice(),
+            "1 ERR 1 Syntax 0\n",
+        ),
+        (
+            b"1 INSERT INTO note VALUES ('x')".as_slice(),
+            "1 ERR 1 Syntax 0\n",
+        ),
+        (
+            b"1 CREATE TABLE t (id TEXT, PRIMARY KEY (id))".as_slice(),
+            "1 ERR 1 Syntax 0\n",
+        ),
+        (
+            b"1 DELETE FROM note WHERE id = 9223372036854775809".as_slice(),
+            "1 ERR 22 Limit\n",
+        ),
+    ];
+    for (line, reply) in table {
+        let wanted = both(rt.alloc(), BEGUN, reply.as_bytes())?;
+        let ran = answer(&rt, line)?;
+        assert_eq!(rt; ran.status, Status::Done);
+        assert_eq!(rt; ran.written.as_slice(), wanted.as_slice(), "{reply}");
+    }
+    Ok(())
+}
+
+#[test]
+fn forms_come_before_sessions_without_a_principal(rt: HostRuntime) -> Result<(), Fail> {
+    let ran = run(&rt, b"OPEN\n1 BEGIN\n1 SHOW LABEL\n1 BYE\n1 BYE\n", 64)?;
+    assert_eq!(rt; ran.status, Status::Done);
+    let replies = b"1 OPEN\n1 ERR 1 Syntax 0\n1 ERR 2 NotHello\n1 OK\n1 ERR 28 NoSession\n";
+    assert_eq!(rt; ran.written.as_slice(), replies.as_slice());
+    Ok(())
+}

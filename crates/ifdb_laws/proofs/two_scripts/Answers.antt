@@ -1,5 +1,0 @@
-use Rattle.ifdb_laws.proofs.Bridge.{heard_alike_scripts}
-use Rattle.ifdb_laws.proofs.two_scripts.Goals as goal
-
-pub returns : goal.returns
-returns c = heard_alike_scripts

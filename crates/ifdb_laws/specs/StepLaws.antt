@@ -1,0 +1,53 @@
+-- What the laws of single lines say, for every reading of lines.
+use Rattle.std.specs.Prelude.{◌≡◌, ℕ, ◌<◌, Bool, true, false, List, take, Some, None, Result, Ok, Err}
+use Rattle.ifdb_syntax.specs.declared.request.Request.{Request}
+use Rattle.ifdb_wire.specs.declared.fault.Fault.{Fault}
+use Rattle.ifdb_wire.specs.declared.reply.Reply.TheVariants as reply
+use Rattle.ifdb_row.specs.declared.slot.Slot.{Slot}
+use Rattle.ifdb_row.specs.Verdict.{written_by, verdict, last_stamp}
+use Rattle.ifdb_model.specs.Log.{Entry, all_tags, content_of, commits_since}
+use Rattle.ifdb_model.specs.Session.{Txn, Session}
+use Rattle.ifdb_model.specs.Step.{Reader, Form, ends, form_of, refuses, judged, ask}
+use Rattle.ifdb_model.specs.Run.{State, asks, outcome_of, next}
+
+-- the form is COMMIT
+abbrev pub is_ending : Form → Bool
+is_ending ends = true
+is_ending _ = false
+
+-- the line is read as COMMIT
+abbrev pub is_commit : Result Request Fault → Bool
+is_commit (Err f) = false
+is_commit (Ok r) = is_ending (form_of r)
+
+-- In a transaction each line but COMMIT is answered by the changes before its BEGIN, its own writes and its session alone:
+-- alike over any two logs that begin with these changes.
+abbrev pub TransactionsAreFrozen : Type 0
+TransactionsAreFrozen = (read : Reader) (log other : List Entry) (s : Session) (asker : ℕ) (x : Txn) (line : List ℕ)
+    → s.principal ≡ Some asker → s.txn ≡ Some x → take x.begin log ≡ take x.begin other → is_commit (read line) ≡ false
+    → ask read log s line ≡ ask read other s line
+
+-- a refused line, but for COMMIT, leaves its session as it was and adds nothing
+abbrev pub RefusalsChangeNothing : Type 0
+RefusalsChangeNothing = (read : Reader) (log : List Entry) (s : Session) (line : List ℕ) (f : Fault)
+    → is_commit (read line) ≡ false → (ask read log s line).reply ≡ reply.Refused f → ask read log s line ≡ refuses s f
+
+-- a COMMIT of a transaction that is refused ends it, and changes nothing else
+abbrev pub RefusedCommitsEnd : Type 0
+RefusedCommitsEnd = (read : Reader) (log : List Entry) (s : Session) (asker : ℕ) (x : Txn) (line : List ℕ) (f : Fault)
+    → s.principal ≡ Some asker → s.txn ≡ Some x → is_commit (read line) ≡ true → (ask read log s line).reply ≡ reply.Refused f
+    → ask read log s line ≡ refuses (record s { txn = None }) f
+
+-- so the state after a refused step, but for COMMIT, is the state before it
+abbrev pub RefusedStepsChangeNothing : Type 0
+RefusedStepsChangeNothing = (read : Reader) (st : State) (n : ℕ) (line : List ℕ) (f : Fault)
+    → is_commit (read line) ≡ false → (outcome_of read st n line).reply ≡ reply.Refused f → next read st (asks n line) ≡ st
+
+-- a COMMIT is judged over the content, with all tags, by the commits since its BEGIN, at the label of now
+abbrev pub CommitsAreJudged : Type 0
+CommitsAreJudged = (log : List Entry) (s : Session) (x : Txn)
+    → judged log s x ≡ verdict (all_tags log) (content_of log) (written_by (commits_since x.begin log)) x.own s.label
+
+-- the stamp of a slot that was written since a BEGIN is above the BEGIN
+abbrev pub StampsAreAbove : Type 0
+StampsAreAbove = (log : List Entry) (begin stamp : ℕ) (p : Slot) → last_stamp (commits_since begin log) p ≡ Some stamp → begin < stamp

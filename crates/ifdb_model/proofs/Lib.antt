@@ -1,4 +1,0 @@
-mod Digits
-pub mod Numbers
-pub mod RowLaws
-pub mod SlotOrder

@@ -1,0 +1,5 @@
+mod ScriptLines
+mod Flags
+mod Stepping
+mod Progress
+pub mod RunLaws

@@ -1,0 +1,112 @@
+use Rattle.std.proofs.Common.{arith, refl, sym, ap, subst, false, ◌∙◌, ◌≤◌}
+use Rattle.ifdb_io.specs.Lines.{Reading}
+use Rattle.ifdb_db.specs.Reading.{read_line}
+use Rattle.ifdb_script.proofs.Stepping.{line_goes, long_goes}
+use Rattle.ifdb_script.proofs.Progress.{Reached, reached_none, reached_line, reached_long, ran_end, ran_rest, ran_read, ran_over, ran_cut_line, ran_cut_long, ran_cut_rest}
+use Rattle.ifdb_script.proofs.script.run_lines.Goals as goal
+
+pub lines-init : goal.lines-init
+lines-init g c =
+    let room = c.args.room.now in
+    let left = g.R.Source.left c.args.input.now in
+    let written = g.W.Sink.written c.args.output.now in
+    let none = reached_none left written c.args.reader.now.limit false room c.requires.opening in
+    record {
+      reached = subst (λ reader. Reached left left written written reader room) (sym c.requires.fresh) none;
+      goes = ap (λ (reader : Reading). reader.over) c.requires.fresh;
+      limit = refl;
+      input_later = omega arith;
+      output_later = omega arith;
+    }
+
+pub returns-in-Err-Read-clause-read_front : goal.returns-in-Err-Read-clause-read_front
+returns-in-Err-Read-clause-read_front g c = λ _.
+    let e = rw c.in-Err-Read.field-0-is at c.in-Err-Read.ensures in
+    ran_read _ _ _ _ _ c.lines.reader c.next.new.self c.lines.room c.args.reader.now.limit c.lines.invariant.reached (e.read refl)
+    (omega (arith, e.within (λ q. cc), e.limit, c.lines.invariant.limit))
+
+pub returns-in-Err-TooMuch-clause-too_large : goal.returns-in-Err-TooMuch-clause-too_large
+returns-in-Err-TooMuch-clause-too_large g c = λ _.
+    let e = rw c.in-Err-TooMuch.field-0-is at c.in-Err-TooMuch.ensures in
+    ran_over _ _ _ _ _ c.lines.reader c.next.new.self c.lines.room c.args.reader.now.limit c.lines.invariant.reached (e.much refl)
+    (e.limit ∙ c.lines.invariant.limit)
+
+pub returns-in-Ok-End-clause-done : goal.returns-in-Ok-End-clause-done
+returns-in-Ok-End-clause-done g c = λ _.
+    let e = rw c.in-Ok-End.field-0-is at c.in-Ok-End.ensures in
+    ran_end _ _ _ _ _ c.lines.reader c.next.new.self c.lines.room c.args.reader.now.limit c.lines.invariant.reached (e.end refl) (e.end_none refl) (e.end_last refl)
+    (omega (arith, e.within (λ q. cc), e.limit, c.lines.invariant.limit))
+
+pub returns-in-Err-clause-write_front : goal.returns-in-Err-clause-write_front
+returns-in-Err-clause-write_front g c = λ _.
+    let e = rw c.in-Ok-Rest.field-0-is at c.in-Ok-Rest.ensures in
+    let done = rw c.text.ensures at c.step.ensures in
+    let short = rw c.bytes.ensures at c.in-Err.ensures.err in
+    let within : c.next.new.self.taken ≤ c.args.reader.now.limit = omega (arith, e.within (λ q. cc), e.limit, c.lines.invariant.limit) in
+    let r = c.lines.invariant.reached in
+    let goes = line_goes read_line c.lines.room c.step.new.room r.state c.next.new.self.text _ r.stands done in
+    ran_cut_rest c.args.reader.now.limit _ _ _ _ _ _ c.lines.reader c.next.new.self c.lines.room c.step.new.room _
+    r (e.rest refl) (e.rest_some refl) within goes short
+
+pub returns-in-Ok-Rest-clause-done : goal.returns-in-Ok-Rest-clause-done
+returns-in-Ok-Rest-clause-done g c = λ _.
+    let e = rw c.in-Ok-Rest.field-0-is at c.in-Ok-Rest.ensures in
+    let done = rw c.text.ensures at c.step.ensures in
+    let wrote = rw c.bytes.ensures at c.in_default.ensures.ok in
+    let within : c.next.new.self.taken ≤ c.args.reader.now.limit = omega (arith, e.within (λ q. cc), e.limit, c.lines.invariant.limit) in
+    let r = c.lines.invariant.reached in
+    let goes = line_goes read_line c.lines.room c.step.new.room r.state c.next.new.self.text _ r.stands done in
+    ran_rest _ _ _ _ _ _ c.lines.reader c.next.new.self c.lines.room c.step.new.room _ c.args.reader.now.limit
+    r (e.rest refl) (e.rest_some refl) (e.rest_last refl) within goes wrote
+
+pub returns-in-Err-write_all-clause-write_front : goal.returns-in-Err-write_all-clause-write_front
+returns-in-Err-write_all-clause-write_front g c = λ _.
+    let e = rw c.in-Ok-Whole.field-0-is at c.in-Ok-Whole.ensures in
+    let done = rw c.text-in-Ok-Whole.ensures at c.step-in-Ok-Whole.ensures in
+    let short = rw c.bytes-in-Ok-Whole.ensures at c.in-Err-write_all.ensures.err in
+    let within : c.next.new.self.taken ≤ c.args.reader.now.limit = omega (arith, e.within (λ q. cc), e.limit, c.lines.invariant.limit) in
+    let r = c.lines.invariant.reached in
+    let goes = line_goes read_line c.lines.room c.step-in-Ok-Whole.new.room r.state c.next.new.self.text _ r.stands done in
+    ran_cut_line c.args.reader.now.limit _ _ _ _ _ _ c.lines.reader c.next.new.self c.lines.room c.step-in-Ok-Whole.new.room _
+    r (e.whole refl) (e.whole_line refl) (e.whole_kept refl) goes within short
+
+pub lines-preserved-in_default-write_all : goal.lines-preserved-in_default-write_all
+lines-preserved-in_default-write_all g c =
+    let e = rw c.in-Ok-Whole.field-0-is at c.in-Ok-Whole.ensures in
+    let done = rw c.text-in-Ok-Whole.ensures at c.step-in-Ok-Whole.ensures in
+    let wrote = rw c.bytes-in-Ok-Whole.ensures at c.in_default-write_all.ensures.ok in
+    let r = c.lines.invariant.reached in
+    let goes = line_goes read_line c.lines.room c.step-in-Ok-Whole.new.room r.state c.next.new.self.text _ r.stands done in
+    record {
+      reached = reached_line _ _ _ _ _ _ c.lines.reader c.next.new.self c.lines.room c.step-in-Ok-Whole.new.room _
+          r (e.whole refl) (e.whole_line refl) (e.whole_kept refl) goes wrote;
+      goes = e.over;
+      limit = e.limit ∙ c.lines.invariant.limit;
+      input_later = omega (arith, e.later, c.lines.invariant.input_later);
+      output_later = omega (arith, c.in_default-write_all.ensures.cause.later, c.lines.invariant.output_later);
+    }
+
+pub returns-in-Err-write_all-2-clause-write_front : goal.returns-in-Err-write_all-2-clause-write_front
+returns-in-Err-write_all-2-clause-write_front g c = λ _.
+    let e = rw c.in-Ok-TooLong.field-0-is at c.in-Ok-TooLong.ensures in
+    let short = rw c.bytes-in-Ok-TooLong.ensures at c.in-Err-write_all-2.ensures.err in
+    let within : c.next.new.self.taken ≤ c.args.reader.now.limit = omega (arith, e.within (λ q. cc), e.limit, c.lines.invariant.limit) in
+    let r = c.lines.invariant.reached in
+    let goes = long_goes read_line c.lines.room r.state c.refuse.new.out.text r.stands c.refuse.ensures in
+    ran_cut_long c.args.reader.now.limit _ _ _ _ _ _ c.lines.reader c.next.new.self c.lines.room c.refuse.new.out.text
+    r (e.long refl) (e.long_line refl) (e.long_skips refl) goes within short
+
+pub lines-preserved : goal.lines-preserved
+lines-preserved g c =
+    let e = rw c.in-Ok-TooLong.field-0-is at c.in-Ok-TooLong.ensures in
+    let wrote = rw c.bytes-in-Ok-TooLong.ensures at c.in_default-write_all-2.ensures.ok in
+    let r = c.lines.invariant.reached in
+    let goes = long_goes read_line c.lines.room r.state c.refuse.new.out.text r.stands c.refuse.ensures in
+    record {
+      reached = reached_long _ _ _ _ _ _ c.lines.reader c.next.new.self c.lines.room c.refuse.new.out.text
+          r (e.long refl) (e.long_line refl) (e.long_skips refl) goes wrote;
+      goes = e.over;
+      limit = e.limit ∙ c.lines.invariant.limit;
+      input_later = omega (arith, e.later, c.lines.invariant.input_later);
+      output_later = omega (arith, c.in_default-write_all-2.ensures.cause.later, c.lines.invariant.output_later);
+    }

@@ -1,0 +1,9 @@
+//! Scripts: the lines of an input, the step of each, and the bytes that are written for it.
+#![tactic(auto)]
+
+mod script;
+
+pub use script::{ScriptEnd, run_script};
+
+#[cfg(test)]
+mod tests;
