@@ -17,3 +17,4 @@ mod QueryExamples
 mod StatementExamples
 mod Lookups
 mod Changes
+mod Copies

@@ -4,6 +4,7 @@ ghost use Rattle.ifdb_catalog.specs.Public.{opening, tags_of, tag_names, delegat
 ghost use Rattle.ifdb_catalog.specs.Fits.{is_principal, state_fits};
 
 mod change;
+mod copy;
 
 use crate::OutOfMemory;
 use ifdb_authority::Authority;
