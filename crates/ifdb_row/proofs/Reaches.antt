@@ -1,5 +1,5 @@
 -- How far a test holds from the front of a list, what is behind that, and where a binary search for it ends.
-use Rattle.std.proofs.Common.{◌≡◌, ℕ, zero, suc, ◌+◌, ◌<◌, ◌≤◌, Bool, true, false, List, [], ◌∷◌, ◌∙◌, length, get_or, take, drop, refl, sym, ap, arith}
+use Rattle.std.proofs.Common.{◌≡◌, ℕ, zero, suc, ◌+◌, ◌<◌, ◌≤◌, Bool, true, false, List, [], ◌∷◌, ◌∙◌, length, get_or, take, drop, refl, sym, ap, arith, Some, None}
 use Rattle.std.specs.Prelude.{not, cond, find, filter, slice_get, take_while}
 use Rattle.std.specs.List.{list_all, prefix_len}
 use Rattle.std.specs.List.Sorted.{IsPartitionedBy}
@@ -107,3 +107,36 @@ rest_fails p (x ∷ xs) zero le h =
     let more = rest_fails p xs zero (omega arith) (λ k d a b. h (suc k) d (omega arith) (omega arith)) in
     grind (arith, nat_tests, first, more)
 rest_fails p (x ∷ xs) (suc n) le h = rest_fails p xs n (omega arith) (λ k d a b. h (suc k) d (omega arith) (omega arith))
+
+-- the point that parts a list is where reach ends
+pub skip_drop : {X : Type 0} (p : X → Bool) (xs : List X) (n : ℕ) → n ≤ length xs → list_all p (take n xs) ≡ true → list_all (λ x. not (p x)) (drop n xs) ≡ true → drop n xs ≡ skip p xs
+skip_drop p [] zero le a b = refl
+skip_drop p [] (suc n) le a b = refl
+skip_drop p (x ∷ xs) zero le a b = grind (arith, nat_tests)
+skip_drop p (x ∷ xs) (suc n) le a b = grind (arith, nat_tests, skip_drop p xs n)
+
+pub reach_is : {X : Type 0} (p : X → Bool) (xs : List X) (n : ℕ) → n ≤ length xs → list_all p (take n xs) ≡ true → list_all (λ x. not (p x)) (drop n xs) ≡ true → n ≡ reach p xs
+reach_is p [] zero le a b = refl
+reach_is p [] (suc n) le a b = absurd (omega arith)
+reach_is p (x ∷ xs) zero le a b = grind (arith, nat_tests)
+reach_is p (x ∷ xs) (suc n) le a b = grind (arith, nat_tests, reach_is p xs n)
+
+-- the first item that passes, where none before it does
+pub find_here : {X : Type 0} (p : X → Bool) (xs : List X) (k : ℕ) (x : X) → find p (take k xs) ≡ None → k < length xs → x ≡ get_or xs k x → p x ≡ true → find p xs ≡ Some x
+find_here p [] k x n lt e h = absurd (omega arith)
+find_here p (y ∷ xs) zero x n lt e h = let same : p y ≡ true = ap p (sym e) ∙ h in let is = sym e in grind (arith, nat_tests)
+find_here p (y ∷ xs) (suc k) x n lt e h = by (λ i. find_here p xs k x i (omega arith) e h) (p y) refl where
+  by : (find p (take k xs) ≡ None → find p xs ≡ Some x) → (b : Bool) → p y ≡ b → find p (y ∷ xs) ≡ Some x
+  by more true u = grind (arith, nat_tests)
+  by more false u = grind (arith, nat_tests, more)
+
+none_more : {X : Type 0} (p : X → Bool) (xs : List X) (k : ℕ) (x : X) → find p (take k xs) ≡ None → k < length xs → x ≡ get_or xs k x → p x ≡ false → find p (take (suc k) xs) ≡ None
+none_more p [] k x n lt e h = refl
+none_more p (y ∷ xs) zero x n lt e h = let same : p y ≡ false = ap p (sym e) ∙ h in grind (arith, nat_tests)
+none_more p (y ∷ xs) (suc k) x n lt e h = by (λ i. none_more p xs k x i (omega arith) e h) (p y) refl where
+  by : (find p (take k xs) ≡ None → find p (take (suc k) xs) ≡ None) → (b : Bool) → p y ≡ b → find p (take (suc (suc k)) (y ∷ xs)) ≡ None
+  by more true u = grind (arith, nat_tests)
+  by more false u = grind (arith, nat_tests, more)
+
+pub none_here : {X : Type 0} (p : X → Bool) (xs : List X) (k : ℕ) (x : X) → find p (take k xs) ≡ None → k < length xs → x ≡ get_or xs k x → p x ≡ false → find p (take (k + 1) xs) ≡ None
+none_here p xs k x n lt e h = let one : suc k ≡ k + 1 = omega arith in ap (λ m. find p (take m xs)) (sym one) ∙ none_more p xs k x n lt e h
