@@ -16,7 +16,7 @@ use Rattle.ifdb_row.specs.declared.write.Write.{Write}
 use Rattle.ifdb_row.specs.Writes.{are_fitting, slots_of}
 use Rattle.ifdb_row.specs.Content.{after, rising, content_from}
 use Rattle.ifdb_row.specs.Sides.{rows_on, writes_on, are_on}
-use Rattle.ifdb_row.proofs.Lists.{filter_same_on}
+use Rattle.ifdb_value.proofs.Lists.{filter_same_on}
 use Rattle.ifdb_row.proofs.ContentLaws.{side_after, rising_after, all-after}
 use Rattle.ifdb_row.proofs.VerdictLaws.{slots_on, after_on}
 use Rattle.ifdb_bound.specs.declared.request.Change.TheVariants as change

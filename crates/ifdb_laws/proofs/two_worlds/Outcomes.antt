@@ -13,7 +13,7 @@ use Rattle.ifdb_row.specs.declared.write.Write.{Write}
 use Rattle.ifdb_row.specs.Writes.{put, merged}
 use Rattle.ifdb_row.specs.Sides.{are_on}
 use Rattle.ifdb_row.specs.Verdict.{is_above}
-use Rattle.ifdb_row.proofs.Lists.{all_from}
+use Rattle.ifdb_value.proofs.Lists.{all_wider}
 use Rattle.ifdb_row.proofs.VerdictLaws.{go_is_above}
 use Rattle.ifdb_bound.specs.declared.request.Bound.{Bound}
 use Rattle.ifdb_bound.specs.declared.request.Bound.TheVariants as bound
@@ -128,7 +128,7 @@ pub record IsTidy (n tags : ℕ) (o : Outcome) : Type 0 where
 
 pub more_made : (n m : ℕ) (label : List ℕ) → n ≤ m → are_made n label ≡ true → are_made m label ≡ true
 more_made n m label le h =
-    all_from (λ t. ltb t n) (λ t. ltb t m) label (λ t e. let lt = ltb-true t n e in lt-ltb t m (omega arith)) h
+    all_wider (λ t. ltb t n) (λ t. ltb t m) label (λ t e. let lt = ltb-true t n e in lt-ltb t m (omega arith)) h
 
 older_tags : (n : ℕ) (log : List Entry) → length (all_tags (take n log)) ≤ tag_count log
 older_tags n log = rw (tags_split n log) (simp length-append (omega arith))

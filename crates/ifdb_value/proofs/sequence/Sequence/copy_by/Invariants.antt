@@ -1,5 +1,5 @@
 use Rattle.std.proofs.Common.{◌≡◌, take}
-use Rattle.ifdb_bound.proofs.copy.copied.Given as goal
+use Rattle.ifdb_value.proofs.sequence.Sequence.copy_by.Given as goal
 
 -- the copies of the items so far
 abbrev pub invariant-loop-item : goal.invariant-loop-item
