@@ -1,6 +1,7 @@
 // Writes, each slot once.
-ghost use Rattle.std.specs.Prelude.{◌≡◌, [], length, slice_get};
+ghost use Rattle.std.specs.Prelude.{◌≡◌, [], length, slice_get, IsTrue};
 ghost use Rattle.std.specs.Option.{option_copied};
+ghost use Rattle.ifdb_row.specs.Writes.{are_fitting, are_rising};
 
 use crate::write::Write;
 use std::alloc::Global;
@@ -35,6 +36,15 @@ impl Writes {
         }
     }
 
+    /// The writes of a list that rises by slots, each slot once. Takes no memory.
+    pub fn from_vec(items: Vec<Write>) -> Self
+        requires rising { IsTrue (are_rising items.items) }
+        requires fitting { IsTrue (are_fitting items.items) }
+        ensures { result ≡ items.items }
+    {
+        Writes { items }
+    }
+
     /// How many slots are written.
     pub fn len(&self) -> usize
         ensures { result ≡ length self.now }
@@ -51,7 +61,9 @@ impl Writes {
 
     /// The writes, in the order of their slots.
     pub fn items(&self) -> &[Write]
-        ensures { result.now ≡ self.now }
+        ensures items { result.now ≡ self.now }
+        ensures rising { IsTrue (are_rising result.now) }
+        ensures fitting { IsTrue (are_fitting result.now) }
     {
         self.items.as_slice()
     }
