@@ -10,7 +10,7 @@ use Rattle.ifdb_row.specs.declared.slot.Slot.{Slot}
 use Rattle.ifdb_row.specs.declared.row.Row.{Row}
 use Rattle.ifdb_row.specs.declared.write.Write.{Write}
 use Rattle.ifdb_row.specs.Slots.{is_same_slot, slot_lt}
-use Rattle.ifdb_row.specs.Writes.{is_gone, deletes}
+use Rattle.ifdb_row.specs.Writes.{is_gone, is_written, deletes}
 use Rattle.ifdb_row.specs.Content.{live, rising}
 use Rattle.ifdb_row.specs.Questions.{row_at, earlier}
 use Rattle.ifdb_row.specs.Verdict.{is_left, empties_parent}
@@ -129,3 +129,7 @@ pub first_left_more : (ws : List Write) (w : Write) (rows : List Row) → rising
 first_left_more ws w rows h =
     find_same (is_left (ws ++ w ∷ [])) (λ r. is_left ws r || empties_parent r w) rows (left_more ws w)
     ∙ find_either (is_left ws) (λ (r : Row). empties_parent r w) rows h
+
+-- a slot is among the written ones
+pub written_there : (ws : List Write) (s : Slot) → is_written ws s ≡ list_any (λ (w : Write). is_same_slot s w.slot) ws
+written_there ws s = any_same (λ (w : Write). is_same_slot w.slot s) (λ (w : Write). is_same_slot s w.slot) ws (λ w. same_back w.slot s)
