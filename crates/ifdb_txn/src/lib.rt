@@ -13,6 +13,6 @@ mod target;
 mod update;
 mod written;
 
-pub use statement::writes_of;
+pub use statement::{Writer, writes_of};
 pub use std::alloc::AllocError as OutOfMemory;
 pub use written::Written;

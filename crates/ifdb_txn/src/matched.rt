@@ -21,12 +21,14 @@ use ifdb_value::{Shared, Value};
 use std::alloc::Global;
 
 /// The rows of the table that the session's label sees and of which the condition holds, in the order of slots.
-pub(crate) fn matched<'a, R: Rows>(target: &Target<'_>, rows: &'a R, cond: &Option<BoundCond>) -> Result<Vec<&'a Row>, OutOfMemory>
+pub(crate) fn matched<'a, R: Rows>(
+    target: &Target<'_>,
+    rows: &'a R,
+    cond: &Option<BoundCond>,
+) -> Result<Vec<&'a Row>, OutOfMemory>
     requires made { IsMade target.now.from (R.rows rows.now) }
-    ensures rows {
-        IfOk result (λ found. map now_of found.items
-            ≡ matched target.now.from.tags.now (R.rows rows.now) target.now.table cond.now target.now.from.label.now)
-    }
+    ensures rows { IfOk result (λ found. map now_of found.items
+        ≡ matched target.now.from.tags.now (R.rows rows.now) target.now.table cond.now target.now.from.label.now) }
     ensures rising { IfOk result (λ found. IsTrue (rising (map now_of found.items))) }
 {
     let mut found: Vec<&'a Row> = Vec::new(target.alloc);
@@ -50,10 +52,8 @@ fn keep_matched<'a>(
 ) -> Result<(), OutOfMemory>
     requires rows_made { IsTrue (are_rows_made (length from.tags.now) run.now) }
     requires label_made { AreMade (length from.tags.now) from.label.now }
-    ensures {
-        OnOk result (map now_of found.new.items
-            ≡ map now_of found.old.items ++ filter (is_wanted from.entry.tags.now cond.now from.entry.label.now) run.now)
-    }
+    ensures { OnOk result (map now_of found.new.items
+        ≡ map now_of found.old.items ++ filter (is_wanted from.entry.tags.now cond.now from.entry.label.now) run.now) }
 {
     for row in run {
         let row = row.get();

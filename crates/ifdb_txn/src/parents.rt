@@ -20,7 +20,11 @@ use std::alloc::Global;
 
 /// The parents of a row with these values, by each of the table's foreign keys in their order.
 #[tactic(auto, using(crate::proofs::Binding::with_parent, crate::proofs::Binding::without_parent))]
-pub(crate) fn bind_parents<R: Rows>(target: &Target<'_>, rows: &R, values: &[Value]) -> Result<Refs, Fault>
+pub(crate) fn bind_parents<R: Rows>(
+    target: &Target<'_>,
+    rows: &R,
+    values: &[Value],
+) -> Result<Refs, Fault>
     requires made { IsMade target.now.from (R.rows rows.now) }
     ensures { Binds (bound_parents (scene_of target.now.from (R.rows rows.now)) values.now target.now.schema.now.foreign) result }
 {
@@ -41,9 +45,7 @@ pub(crate) fn rebind_parents<R: Rows>(
     refs: &[Slot],
 ) -> Result<Refs, Fault>
     requires made { IsMade target.now.from (R.rows rows.now) }
-    ensures {
-        Binds (rebound (scene_of target.now.from (R.rows rows.now)) assignments.now values.now target.now.schema.now.foreign refs.now) result
-    }
+    ensures { Binds (rebound (scene_of target.now.from (R.rows rows.now)) assignments.now values.now target.now.schema.now.foreign refs.now) result }
 {
     let mut found = Refs::new(target.alloc);
     for (at, foreign) in target.schema.foreign.items().iter().enumerate() {
@@ -54,7 +56,11 @@ pub(crate) fn rebind_parents<R: Rows>(
 }
 
 /// The slot that a row was bound to, if no column of the foreign key is assigned.
-fn kept<'a>(assignments: &[BoundAssignment], foreign: &Foreign, bound: Option<&'a Slot>) -> Option<&'a Slot>
+fn kept<'a>(
+    assignments: &[BoundAssignment],
+    foreign: &Foreign,
+    bound: Option<&'a Slot>,
+) -> Option<&'a Slot>
     ensures { option_copied result ≡ kept_of assignments.now foreign.now (option_copied bound.entry) }
 {
     if is_assigned(assignments, foreign) {
@@ -72,9 +78,7 @@ fn kept_or_bound<R: Rows>(
     kept: Option<&Slot>,
 ) -> Result<Slot, Fault>
     requires made { IsMade target.now.from (R.rows rows.now) }
-    ensures {
-        Binds (kept_or_bound (scene_of target.now.from (R.rows rows.now)) values.now foreign.now (option_copied kept.entry)) result
-    }
+    ensures { Binds (kept_or_bound (scene_of target.now.from (R.rows rows.now)) values.now foreign.now (option_copied kept.entry)) result }
 {
     match kept {
         Some(slot) => {
@@ -86,7 +90,12 @@ fn kept_or_bound<R: Rows>(
 }
 
 /// The parent of a row with these values, by one foreign key.
-fn parent_by<R: Rows>(target: &Target<'_>, rows: &R, values: &[Value], foreign: &Foreign) -> Result<Slot, Fault>
+fn parent_by<R: Rows>(
+    target: &Target<'_>,
+    rows: &R,
+    values: &[Value],
+    foreign: &Foreign,
+) -> Result<Slot, Fault>
     requires made { IsMade target.now.from (R.rows rows.now) }
     ensures { Binds (bound_parent (scene_of target.now.from (R.rows rows.now)) values.now foreign.now) result }
 {
@@ -95,7 +104,11 @@ fn parent_by<R: Rows>(target: &Target<'_>, rows: &R, values: &[Value], foreign: 
 }
 
 /// The values at some places; 0 where there is none.
-pub(crate) fn values_at(alloc: Global, values: &[Value], places: &[usize]) -> Result<Values, OutOfMemory>
+pub(crate) fn values_at(
+    alloc: Global,
+    values: &[Value],
+    places: &[usize],
+) -> Result<Values, OutOfMemory>
     ensures { IfOk result (λ found. found ≡ values_at values.now places.now) }
 {
     let mut found = Values::with_capacity(alloc, places.len())?;

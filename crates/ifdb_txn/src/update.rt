@@ -27,9 +27,7 @@ pub(crate) fn update_all<R: Rows>(
 ) -> Result<Writes, Fault>
     requires made { IsMade target.now.from (R.rows rows.now) }
     requires rising { IsTrue (rising (map now_of matched.now)) }
-    ensures {
-        Gives (update_all (scene_of target.now.from (R.rows rows.now)) target.now.schema.now assignments.now (map now_of matched.now)) result
-    }
+    ensures { Gives (update_all (scene_of target.now.from (R.rows rows.now)) target.now.schema.now assignments.now (map now_of matched.now)) result }
 {
     let mut writes = Vec::new(target.alloc);
     update_into(target, rows, assignments, matched, &mut writes)?;
@@ -47,10 +45,8 @@ fn update_into<R: Rows>(
 ) -> Result<(), Fault>
     requires made { IsMade target.now.from (R.rows rows.now) }
     requires empty { writes.old.items ≡ [] }
-    ensures {
-        Fills (update_all (scene_of target.now.from (R.rows rows.now)) target.now.schema.now assignments.now (map now_of matched.now))
-            result writes.new.items
-    }
+    ensures { Fills (update_all (scene_of target.now.from (R.rows rows.now)) target.now.schema.now assignments.now (map now_of matched.now))
+        result writes.new.items }
 {
     for row in matched {
         match update_one(target, rows, assignments, row) {
@@ -63,11 +59,14 @@ fn update_into<R: Rows>(
 
 /// A row updated.
 #[tactic(auto, using(crate::proofs::Rebound::updated_is, crate::proofs::Rebound::updated_range, crate::proofs::Rebound::updated_ref))]
-fn update_one<R: Rows>(target: &Target<'_>, rows: &R, assignments: &[BoundAssignment], row: &Row) -> Result<Write, Fault>
+fn update_one<R: Rows>(
+    target: &Target<'_>,
+    rows: &R,
+    assignments: &[BoundAssignment],
+    row: &Row,
+) -> Result<Write, Fault>
     requires made { IsMade target.now.from (R.rows rows.now) }
-    ensures {
-        Gives (update_one (scene_of target.now.from (R.rows rows.now)) target.now.schema.now assignments.now row.now) result
-    }
+    ensures { Gives (update_one (scene_of target.now.from (R.rows rows.now)) target.now.schema.now assignments.now row.now) result }
 {
     let values = assigned(target.alloc, row.values.items(), assignments)?;
     let refs = rebind_parents(target, rows, assignments, values.items(), row.refs.items())?;
