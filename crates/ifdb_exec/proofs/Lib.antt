@@ -1,0 +1,4 @@
+pub mod Joining
+pub mod Reducing
+pub mod Indexing
+pub mod Probing

@@ -1,0 +1,4 @@
+pub mod Index
+pub mod Join
+pub mod Sources
+pub mod Reduced
