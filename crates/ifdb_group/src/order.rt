@@ -2,8 +2,8 @@
 ghost use Rattle.std.specs.Prelude.{◌≡◌, IfOk};
 ghost use Rattle.ifdb_bound.specs.Query.{key_cmp, order_cmp, sorted_by};
 
-use ifdb_expr::value_in;
 use ifdb_bound::OrderKey;
+use ifdb_expr::value_in;
 use ifdb_value::{Sequence, Value, ValueRow};
 use std::alloc::AllocError;
 use std::cmp::Ordering;
