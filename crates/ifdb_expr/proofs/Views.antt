@@ -34,7 +34,7 @@ stripped_flows tags a label given h =
       step tags label given t i j = grind (arith, nat_tests, reduce_any tags (λ u. Rattle.ifdb_label.specs.Tags.below tags t u) (label ++ given) i, list_any-append (λ u. Rattle.ifdb_label.specs.Tags.below tags t u) label given)
 
 -- each row of each source passes a test, and so does each row of each combination
-abbrev each : (SourceRow → Bool) → List (List SourceRow) → Bool
+abbrev pub each : (SourceRow → Bool) → List (List SourceRow) → Bool
 each p sources = list_all (list_all p) sources
 
 with_each : (p : SourceRow → Bool) (r : SourceRow) (all : List Combination) → p r ≡ true → each p all ≡ true → each p (map (λ c. r ∷ c) all) ≡ true
@@ -50,7 +50,7 @@ spread p all (r ∷ rows) h k =
     let both = list_all-append (list_all p) (map (λ c. r ∷ c) all) (flat_map (λ r. map (λ c. r ∷ c) all) rows) in
     grind (arith, nat_tests)
 
-combined : (p : SourceRow → Bool) (sources : List (List SourceRow)) → each p sources ≡ true → each p (combinations sources) ≡ true
+pub combined : (p : SourceRow → Bool) (sources : List (List SourceRow)) → each p sources ≡ true → each p (combinations sources) ≡ true
 combined p [] h = refl
 combined p (rows ∷ sources) h =
     let parts : (list_all p rows ≡ true) × (each p sources ≡ true) = grind (arith, nat_tests) in

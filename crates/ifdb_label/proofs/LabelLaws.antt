@@ -1,10 +1,10 @@
 -- Laws of labels, for any lists of tag numbers.
-use Rattle.std.proofs.Common.{◌≡◌, ℕ, ◌<◌, ◌≤◌, zero, suc, Bool, true, false, List, [], ◌∷◌, ◌++◌, length, refl, arith, ◌||◌, ltb, eqb, ◌&&◌}
+use Rattle.std.proofs.Common.{◌≡◌, ℕ, ◌<◌, ◌≤◌, zero, suc, Bool, true, false, List, [], ◌∷◌, ◌++◌, ◌∙◌, length, refl, sym, arith, ◌||◌, ltb, eqb, ◌&&◌}
 use Rattle.std.specs.Prelude.{filter, not}
 use Rattle.std.specs.List.{list_any, list_all}
 use Rattle.std.proofs.lemmas.Bool.{ltb-true}
 use Rattle.std.proofs.lemmas.Bool.Decides.{nat_tests}
-use Rattle.std.proofs.lemmas.List.Folds.{list_all-append}
+use Rattle.std.proofs.lemmas.List.Folds.{list_all-append, list_any-append}
 use Rattle.ifdb_label.specs.Tags.{MadeTag, below, AreMade, AreWellFormed}
 use Rattle.ifdb_label.specs.Label.{is_rising, is_below_some, flows, with_tag, rising, is_below_another, reduce, union, strip}
 use Rattle.ifdb_value.proofs.Lists.{any_same_on, all_same_on, any_wider, all_wider, any_meets_all, all-filter, any-filter, filter_all, filter_passes, any_of_itself, all_of_itself}
@@ -188,3 +188,24 @@ flows-reduce tags w list = all_of_itself (λ t. is_below_some tags t (reduce tag
 pub reduce_flows : (tags : List MadeTag) → AreWellFormed tags → (list b : List ℕ) → flows tags (reduce tags list) b ≡ flows tags list b
 reduce_flows tags w list b =
     grind (arith, nat_tests, reduce_all tags (λ t. is_below_some tags t b) list, flows_trans tags w list (reduce tags list) b (flows-reduce tags w list))
+
+-- ---- unions
+
+same_bool : (a b : Bool) → (a ≡ true → b ≡ true) → (b ≡ true → a ≡ true) → a ≡ b
+same_bool true b f g = sym (f refl)
+same_bool false true f g = g refl
+same_bool false false f g = refl
+
+-- below a tag of two lists
+pub below_either : (tags : List MadeTag) (t : ℕ) (a b : List ℕ) → is_below_some tags t (a ++ b) ≡ is_below_some tags t a || is_below_some tags t b
+below_either tags t a b = list_any-append (below tags t) a b
+
+-- what flows to a reduction flows to the list
+pub flows_to_reduce : (tags : List MadeTag) → AreWellFormed tags → (a list : List ℕ) → flows tags a (reduce tags list) ≡ flows tags a list
+flows_to_reduce tags w a list =
+    same_bool (flows tags a (reduce tags list)) (flows tags a list)
+    (λ h. flows_trans tags w a (reduce tags list) list h (reduce_flows tags w list list ∙ flows_refl tags list))
+    (λ h. flows_trans tags w a list (reduce tags list) h (flows-reduce tags w list))
+
+pub flows_to_union : (tags : List MadeTag) → AreWellFormed tags → (a b c : List ℕ) → flows tags a (union tags b c) ≡ flows tags a (b ++ c)
+flows_to_union tags w a b c = flows_to_reduce tags w a (b ++ c)

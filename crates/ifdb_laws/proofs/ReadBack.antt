@@ -1,5 +1,6 @@
 -- Replies are read back from their bytes.
 use Rattle.std.proofs.Common.{◌≡◌, ℕ, ◌+◌, ◌%◌, ◌^◌, ◌<◌, Bool, true, false, List, [], ◌∷◌, ◌++◌, length, refl, sym, ap, ◌∙◌, arith, cond, eqb, ltb, Some}
+use Rattle.std.specs.Fmt.{digits}
 use Rattle.std.specs.Prelude.{codes, decimal, map, flat_map, not, slice_index_or}
 use Rattle.std.specs.List.{list_all}
 use Rattle.std.specs.Char.{is_ascii_digit}
@@ -306,6 +307,7 @@ shows_memory [] = false
 shows_memory (l ∷ ls) = bytes_eq l (codes "ERR 20 OutOfMemory")
 
 fault_shows : (f : Fault) → shows_memory (fault_text f ∷ []) ≡ is_memory f
+unfolding digits
 fault_shows (fault.Syntax at) = refl
 fault_shows fault.NotHello = refl
 fault_shows fault.HelloTwice = refl

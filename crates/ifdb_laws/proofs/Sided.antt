@@ -28,7 +28,8 @@ use Rattle.ifdb_catalog.specs.Public.{Public, tags_of, has_tags, table_at}
 use Rattle.ifdb_model.specs.Writes.{Written, Scene, values_at, and_slot, bound_parent, bound_parents, new_slot, new_write, inserted, insert_one, insert_all, matched, are_writable, assigned, is_assigned, rebound, updated, update_to, and_write, update_all, deletion, counted, update_matched, scene_of, writes_of, given_of}
 use Rattle.ifdb_model.specs.Low.{is_inside_slot}
 use Rattle.ifdb_model.specs.Crossing.{refs_of}
-use Rattle.ifdb_laws.proofs.Statements.{matched_all, Widens, within, are_good, put_all}
+use Rattle.ifdb_row.proofs.LiveLaws.{put_all}
+use Rattle.ifdb_laws.proofs.Statements.{matched_all, Widens, within, are_good}
 
 -- a row's slot and its parents pass
 abbrev pub is_whole : (Slot → Bool) → Row → Bool

@@ -18,6 +18,7 @@ use Rattle.ifdb_row.specs.Sides.{rows_on, are_on}
 use Rattle.ifdb_value.proofs.Lists.{filter-filter, any_within_filter, map_same, map_same_on, all_wider, all-filter}
 use Rattle.ifdb_row.proofs.VerdictLaws.{after_on}
 use Rattle.ifdb_row.proofs.SlotOrder.{slot_itself, label_exact}
+use Rattle.ifdb_row.proofs.LiveLaws.{put_all}
 use Rattle.ifdb_bound.specs.declared.schema.Schema.{Schema}
 use Rattle.ifdb_bound.specs.declared.schema.Foreign.{Foreign}
 use Rattle.ifdb_bound.specs.declared.schema.ViewDef.{ViewDef}
@@ -108,10 +109,6 @@ is_good_result side (Ok ws) = are_good side ws
 abbrev pub is_good : (Slot → Bool) → Result Written Fault → Bool
 is_good side (Err f) = true
 is_good side (Ok x) = are_good side x.writes
-
-pub put_all : (q : Write → Bool) (v : Write) (ws : List Write) → q v ≡ true → list_all q ws ≡ true → list_all q (put v ws) ≡ true
-put_all q v [] h k = grind (arith, nat_tests)
-put_all q v (x ∷ ws) h k = grind (arith, nat_tests, put_all q v ws h)
 
 good_put : (side : Slot → Bool) (v : Write) (ws : List Write) → is_fitting v.slot v.row ≡ true → side v.slot ≡ true → are_good side ws ≡ true → are_good side (put v ws) ≡ true
 good_put side v ws f h k =

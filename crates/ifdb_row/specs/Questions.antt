@@ -66,3 +66,9 @@ pub record IsRun (run : List Row) (rows : List Row) : Type 0 where
 abbrev pub if_passes : (Row → Bool) → Option Row → Option Row
 if_passes t None = None
 if_passes t (Some r) = if t r then Some r else None
+
+-- of two rows that may be there, the one that stands first
+abbrev pub earlier : Option Row → Option Row → Option Row
+earlier None o = o
+earlier (Some r) None = Some r
+earlier (Some r) (Some s) = if slot_lt s.slot r.slot then Some s else Some r

@@ -91,14 +91,7 @@ pub fn first_bound<'a>(
 fn is_bound(row: &Row, slot: &Slot, after: Option<&Slot>) -> bool
     ensures { result ≡ is_child_of slot.now row.now && is_past (option_copied after.entry) row.now.slot }
 {
-    is_child_of(row, slot) && is_past(&row.slot, after)
-}
-
-/// Whether a row is bound to a slot.
-fn is_child_of(row: &Row, slot: &Slot) -> bool
-    ensures { result ≡ is_child_of slot.now row.now }
-{
-    row.refs.items().iter().any(|parent| slot.is_same(parent))
+    row.is_child_of(slot) && is_past(&row.slot, after)
 }
 
 /// Whether a slot is behind another, if there is one to be behind.

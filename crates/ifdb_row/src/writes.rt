@@ -3,7 +3,7 @@ ghost use Rattle.std.specs.Prelude.{◌≡◌, ◌≤◌, [], length, slice_get,
 ghost use Rattle.std.specs.List.{list_any};
 ghost use Rattle.std.specs.Option.{option_copied};
 ghost use Rattle.ifdb_row.specs.Slots.{is_same_slot, slot_lt};
-ghost use Rattle.ifdb_row.specs.Writes.{are_fitting, are_rising, is_fitting, put};
+ghost use Rattle.ifdb_row.specs.Writes.{are_fitting, are_rising, is_fitting, is_written, put};
 ghost use Rattle.ifdb_row.specs.Reach.{reach};
 
 use crate::OutOfMemory;
@@ -71,6 +71,15 @@ impl Writes {
         ensures fitting { IsTrue (are_fitting result.now) }
     {
         self.items.as_slice()
+    }
+
+    /// Whether a slot is written. Found by binary search.
+    #[tactic(auto, using(crate::proofs::Children::written_there))]
+    pub fn is_written(&self, slot: &Slot) -> bool
+        ensures { result ≡ is_written self.now slot.now }
+    {
+        let at = place_of(&self.items, slot);
+        is_at(&self.items, at, slot)
     }
 
     /// Adds a write in place of an earlier one of its slot. Where an allocation is refused, the writes are as before.

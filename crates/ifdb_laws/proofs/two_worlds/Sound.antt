@@ -191,7 +191,7 @@ module _ (log : List Entry) (s : Session) (l : SoundLog log) (k : SoundSession l
 
 -- ---- steps and runs
 
-no_txn_is_sound : (log : List Entry) (s : Session) → are_made (tag_count log) s.label ≡ true → s.txn ≡ None → SoundSession log s
+pub no_txn_is_sound : (log : List Entry) (s : Session) → are_made (tag_count log) s.label ≡ true → s.txn ≡ None → SoundSession log s
 no_txn_is_sound log s m e = record { label_made = m; own = ap (txn_all (are_sound (tag_count log))) e; begins = ap (begins_within (length log)) e }
 
 pub session_sound : (st : State) → Sound st → (n : ℕ) → SoundSession st.log (session_of st n)
