@@ -3,7 +3,7 @@ ghost use Rattle.std.specs.Prelude.{◌≡◌, ◌&&◌, IsTrue};
 ghost use Rattle.std.specs.Option.{option_copied};
 ghost use Rattle.ifdb_row.specs.Content.{rising};
 ghost use Rattle.ifdb_row.specs.Edges.{lies_before};
-ghost use Rattle.ifdb_row.specs.Questions.{is_child_of, is_past, rows_from};
+ghost use Rattle.ifdb_row.specs.Questions.{is_child_of, is_past, row_bound_to, rows_from};
 
 use crate::edge::Edge;
 use crate::row::Row;
@@ -56,13 +56,7 @@ impl Rows for ListRows {
     }
 
     fn bound_to(&self, slot: &Slot, after: Option<&Slot>) -> Option<&Row> {
-        for row in self.rows() {
-            let row = row.get();
-            if is_bound(row, slot, after) {
-                return Some(row);
-            }
-        }
-        None
+        first_bound(self.rows(), slot, after)
     }
 }
 
@@ -74,6 +68,23 @@ fn rows_from<'a>(rows: &'a [Shared<Row>], edge: &Edge<'_>) -> &'a [Shared<Row>]
 {
     let at = rows.partition_point(|row| edge.is_behind(&row.get().slot));
     rows.split_at(at).1
+}
+
+/// The first row of a list bound to a slot whose own slot is behind another, or the first row bound to it. Looks at each.
+pub fn first_bound<'a>(
+    rows: &'a [Shared<Row>],
+    slot: &Slot,
+    after: Option<&Slot>,
+) -> Option<&'a Row>
+    ensures { option_copied result ≡ row_bound_to slot.now (option_copied after.entry) rows.now }
+{
+    for row in rows {
+        let row = row.get();
+        if is_bound(row, slot, after) {
+            return Some(row);
+        }
+    }
+    None
 }
 
 /// Whether a row behind a slot is bound to another.

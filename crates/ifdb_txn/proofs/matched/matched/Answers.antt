@@ -3,7 +3,7 @@ use Rattle.std.specs.Prelude.{filter, map}
 use Rattle.std.specs.Option.{option_copied}
 use Rattle.ifdb_row.specs.Content.{rising}
 use Rattle.ifdb_row.specs.Questions.{later_rows}
-use Rattle.ifdb_row.proofs.TableRows.{rises, last_of, made_run, fewer_left, kept_on, kept_end}
+use Rattle.ifdb_row.proofs.TableWalks.{rises, last_of, made_run, fewer_left, kept_on, kept_end}
 use Rattle.ifdb_txn.specs.Matches.{is_wanted, now_of}
 use Rattle.ifdb_txn.proofs.Matching.{wanted_match}
 use Rattle.ifdb_txn.proofs.Deleting.{rising_matched}

@@ -4,18 +4,18 @@ use Rattle.std.specs.Option.{option_copied}
 use Rattle.ifdb_row.specs.declared.row.Row.{Row}
 use Rattle.ifdb_row.specs.Questions.{is_child_of, is_past, row_bound_to}
 use Rattle.ifdb_row.proofs.Reaches.{find_here, none_here}
-use Rattle.ifdb_row.proofs.list_rows.ListRowsRows.bound_to.Goals as goal
+use Rattle.ifdb_row.proofs.list_rows.first_bound.Goals as goal
 
-pub returns-then-is_bound-clause-row : goal.returns-then-is_bound-clause-row
-returns-then-is_bound-clause-row c =
+pub returns-then-is_bound : goal.returns-then-is_bound
+returns-then-is_bound c =
     let q = λ (r : Row). is_child_of c.args.slot.now r && is_past (option_copied c.args.after) r.slot in
-    let rows = c.rows-row-items.result.now in
+    let rows = c.args.rows.now in
     let x : q c.row-item.result ≡ true = search rules in
     let here = find_here q rows c.loop-row.row-index c.row-item.result c.loop-row.invariant c.loop-row-test.true c.row-item.is x in
-    ap (λ r. Some r) c.get-row.ensures ∙ (sym here ∙ ap (row_bound_to c.args.slot.now (option_copied c.args.after)) c.rows-row-items.ensures.rows)
+    ap (λ r. Some r) c.get-row.ensures ∙ sym here
 
 pub loop-row-preserved : goal.loop-row-preserved
 loop-row-preserved c =
     let q = λ (r : Row). is_child_of c.args.slot.now r && is_past (option_copied c.args.after) r.slot in
     let x : q c.row-item.result ≡ false = search rules in
-    none_here q c.rows-row-items.result.now c.loop-row.row-index c.row-item.result c.loop-row.invariant c.loop-row-test.true c.row-item.is x
+    none_here q c.args.rows.now c.loop-row.row-index c.row-item.result c.loop-row.invariant c.loop-row-test.true c.row-item.is x
