@@ -102,6 +102,18 @@ view_names p n v h k =
     let at : v ≡ view_at p n = ap (λ (o : Option ViewDef). unwrap_or o no_view) (sym k) ∙ unwrap_or-slice_get p.views n no_view in
     sym (columns_bear p v fits) ∙ ap (λ (w : ViewDef). names_in (view_columns p w)) at
 
+-- the view of a number, where it is made
+pub made_view : (p : Public) (n : ℕ) (v : ViewDef) → slice_get p.views n ≡ Some v → v ≡ view_at p n
+made_view p n v k = ap (λ (o : Option ViewDef). unwrap_or o no_view) (sym k) ∙ unwrap_or-slice_get p.views n no_view
+
+-- it has as many names as items
+pub made_is_even : (p : Public) (n : ℕ) (v : ViewDef) → state_fits p ≡ true → slice_get p.views n ≡ Some v → length v.names ≡ length v.select.items
+made_is_even p n v h k = is_even p v (all_at (view_fits p) p.views n v k (rest_of _ (list_all (view_fits p) p.views) h))
+
+-- a number that is no view's
+pub no_view_at : (p : Public) (n : ℕ) → slice_get p.views n ≡ None → no_view ≡ view_at p n
+no_view_at p n k = ap (λ (o : Option ViewDef). unwrap_or o no_view) (sym k) ∙ unwrap_or-slice_get p.views n no_view
+
 -- a number that is no view's has no columns
 pub no_view_names : (p : Public) (n : ℕ) → slice_get p.views n ≡ None → [] ≡ names_in (view_columns p (view_at p n))
 no_view_names p n k =

@@ -1,6 +1,15 @@
 pub mod NamedTags
-pub mod KeyedTables
-pub mod Inserts
 pub mod Columns
 pub mod Refs
 pub mod Selects
+pub mod Meanings
+pub mod ColumnKinds
+pub mod Forms
+pub mod Listed
+pub mod Starred
+pub mod OutputNames
+pub mod SameKinds
+pub mod Lacking
+pub mod SelectChecks
+pub mod ViewChecks
+pub mod WriteChecks

@@ -1,12 +1,14 @@
 // Binding: a request with numbers for its names.
-ghost use Rattle.std.specs.Prelude.{◌≡◌, ◌⊎◌, Ok, Err, IfOk, IfErr, IsTrue};
+ghost use Rattle.std.specs.Prelude.{◌≡◌, ◌⊎◌, Ok, Err, IfOk, IfErr};
 ghost use Rattle.ifdb_wire.specs.declared.fault.Fault.TheVariants.{OutOfMemory as NoMemory};
 ghost use Rattle.ifdb_catalog.specs.Binding.{bound};
-ghost use Rattle.ifdb_bind.specs.Built.{is_built};
 
+use crate::inserts::{NewRows, insert};
 use crate::names::{NewTag, create_principal, create_tag, grant, revoke, set_label};
-use crate::statements::{insert, select};
+use crate::select::select;
 use crate::tables::{NewTable, create_table};
+use crate::views::{NewView, create_view};
+use crate::writes::{Changes, delete, update};
 use ifdb_bound::Bound;
 use ifdb_catalog::Catalog;
 use ifdb_syntax::Request;
@@ -17,17 +19,16 @@ use std::alloc::Global;
 /// A request of a principal with numbers for its names, as they stand in this catalog.
 ///
 /// Its refusals are those of the definition, each tested over the whole request before the next one; `OutOfMemory` where an
-/// allocation is refused, which may be before a refusal is known. GRANT, REVOKE, CREATE PRINCIPAL and INSERT take no memory.
+/// allocation is refused, which may be before a refusal is known. GRANT, REVOKE and CREATE PRINCIPAL take no memory.
 ///
-/// A name of a principal, tag, table or view is looked up in the same time however many there are; a column among its table's columns.
-#[tactic(auto, unfolding(ifdb_catalog::specs::Binding::bound), using(crate::proofs::Inserts::plain_insert, crate::proofs::Inserts::plain_rows))]
+/// A name of a principal, tag, table or view is looked up in the same time however many there are; a column among its sources' columns.
+#[tactic(auto, unfolding(ifdb_catalog::specs::Binding::bound))]
 pub fn bind(
     alloc: Global,
     catalog: &Catalog,
     asker: Principal,
     request: Request,
 ) -> Result<Bound, Fault>
-    requires { IsTrue (is_built request) }
     ensures bound { IfOk result (λ b. bound catalog.now asker request ≡ Ok b) }
     ensures refused { IfErr result (λ fault. (fault ≡ NoMemory) ⊎ (bound catalog.now asker request ≡ Err fault)) }
 {
@@ -63,11 +64,49 @@ pub fn bind(
                 foreign,
             },
         ),
+        Request::CreateView { name, select, tags } => {
+            create_view(alloc, catalog, asker, NewView { name, select, tags })
+        }
         Request::Grant { tag, to } => grant(catalog, asker, &tag, &to),
         Request::Revoke { tag, from } => revoke(catalog, asker, &tag, &from),
         Request::SetLabel { tags } => set_label(alloc, catalog, tags.items()),
-        Request::Insert { table, rows, .. } => insert(alloc, catalog, &table, rows),
         Request::Select(query) => select(alloc, catalog, &query),
-        _ => Ok(Bound::Other),
+        Request::Insert {
+            table,
+            columns,
+            rows,
+            tags,
+        } => insert(
+            alloc,
+            catalog,
+            &table,
+            NewRows {
+                columns,
+                rows,
+                tags,
+            },
+        ),
+        Request::Update {
+            table,
+            assignments,
+            cond,
+            tags,
+        } => update(
+            alloc,
+            catalog,
+            &table,
+            Changes {
+                assignments: assignments.items(),
+                cond: &cond,
+                tags: tags.items(),
+            },
+        ),
+        Request::Delete { table, cond } => delete(alloc, catalog, &table, &cond),
+        Request::Hello { .. }
+        | Request::ShowLabel
+        | Request::Begin
+        | Request::Commit
+        | Request::Rollback
+        | Request::Bye => Ok(Bound::Other),
     }
 }

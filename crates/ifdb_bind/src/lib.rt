@@ -1,11 +1,22 @@
-//! Requests with numbers for their names, for the forms that the program answers so far.
+//! Requests with numbers for their names, or their first refusal.
 #![tactic(auto)]
 
 mod binding;
 mod built;
+mod inserts;
+mod kinds;
+mod meaning;
+mod named;
 mod names;
-mod statements;
+mod outputs;
+mod queries;
+mod scope;
+mod select;
+mod sources;
 mod tables;
+mod terms;
+mod views;
+mod writes;
 
 pub use binding::bind;
 pub use built::is_built;

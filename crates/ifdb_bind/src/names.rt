@@ -1,11 +1,12 @@
 // Binding of CREATE PRINCIPAL, CREATE TAG, GRANT, REVOKE and SET LABEL.
-ghost use Rattle.std.specs.Prelude.{◌≡◌, ◌⊎◌, Ok, Err, true, false, IfOk, IfErr};
+ghost use Rattle.std.specs.Prelude.{◌≡◌, ◌⊎◌, Ok, Err, true, IfOk, IfErr};
 ghost use Rattle.std.specs.Option.{ok_or};
 ghost use Rattle.ifdb_label.specs.Tags.{are_compound};
 ghost use Rattle.ifdb_wire.specs.declared.fault.Fault.TheVariants.{OutOfMemory as NoMemory, UnknownName};
 ghost use Rattle.ifdb_catalog.specs.Public.{principal_named, tag_named};
 ghost use Rattle.ifdb_catalog.specs.Definitions.{tag_kind};
-ghost use Rattle.ifdb_catalog.specs.Statements.{are_tags, tags_named};
+ghost use Rattle.ifdb_catalog.specs.Statements.{are_tags, label_named, tags_named};
+ghost use Rattle.ifdb_bind.specs.Lacks.{Lacks};
 ghost use Rattle.ifdb_catalog.specs.Binding.{create_principal, create_tag, grant, revoke, set_label};
 
 use ifdb_bound::{Bound, Change, TagList};
@@ -109,9 +110,18 @@ pub(crate) fn set_label(alloc: Global, catalog: &Catalog, tags: &[Name]) -> Resu
     ensures bound { IfOk result (λ b. set_label catalog.now tags.now ≡ Ok b) }
     ensures refused { IfErr result (λ fault. (fault ≡ NoMemory) ⊎ (set_label catalog.now tags.now ≡ Err fault)) }
 {
-    let tags = tags_named(alloc, catalog, tags)?;
-    let label = Label::reduce(alloc, catalog.tags(), tags.items())?;
+    let label = label_named(alloc, catalog, tags)?;
     Ok(Bound::SetLabel { label })
+}
+
+/// The reduction of the tags of the names.
+pub(crate) fn label_named(alloc: Global, catalog: &Catalog, names: &[Name]) -> Result<Label, Fault>
+    ensures known { IfOk result (λ _. are_tags catalog.now names.now ≡ true) }
+    ensures label { IfOk result (λ label. label ≡ label_named catalog.now names.now) }
+    ensures lacks { IfErr result (λ fault. Lacks fault (are_tags catalog.now names.now)) }
+{
+    let tags = tags_named(alloc, catalog, names)?;
+    Ok(Label::reduce(alloc, catalog.tags(), tags.items())?)
 }
 
 /// The tag of a name.
@@ -132,7 +142,7 @@ fn principal_named(catalog: &Catalog, name: &Name) -> Result<Principal, Fault>
 fn tags_named(alloc: Global, catalog: &Catalog, names: &[Name]) -> Result<TagList, Fault>
     ensures known { IfOk result (λ _. are_tags catalog.now names.now ≡ true) }
     ensures tags { IfOk result (λ tags. tags ≡ tags_named catalog.now names.now) }
-    ensures refused { IfErr result (λ fault. (fault ≡ NoMemory) ⊎ ((fault ≡ UnknownName) × (are_tags catalog.now names.now ≡ false))) }
+    ensures lacks { IfErr result (λ fault. Lacks fault (are_tags catalog.now names.now)) }
 {
     let mut tags = TagList::new(alloc);
     for name in names {

@@ -1,0 +1,180 @@
+-- What binding and kinds come to, by the form of an expression and of a condition.
+use Rattle.std.proofs.Common.{◌≡◌, refl, sym, ap, ◌∙◌, List, [], ◌∷◌, map, Bool, true, ◌&&◌, Some}
+use Rattle.std.specs.List.{list_all}
+use denote.Hole.Carrier.{fold-roll}
+use Rattle.ifdb_value.specs.Value.{kind_of}
+use Rattle.ifdb_value.specs.declared.value.Value.{Value}
+use Rattle.ifdb_value.specs.declared.value.ValueKind.{ValueKind}
+use Rattle.ifdb_value.specs.declared.value.Compare.{Compare}
+use Rattle.ifdb_syntax.specs.declared.expression.ColumnRef.{ColumnRef}
+use Rattle.ifdb_syntax.specs.declared.expression.Operand.{Operand}
+use Rattle.ifdb_syntax.specs.declared.expression.Expr.{Expr}
+use Rattle.ifdb_syntax.specs.declared.expression.Expr.TheVariants as e
+use Rattle.ifdb_syntax.specs.declared.condition.Cond.{Cond}
+use Rattle.ifdb_syntax.specs.declared.condition.Cond.TheVariants as c
+use Rattle.ifdb_syntax.specs.declared.condition.Cond.TheOpen.{Cond-F}
+use Rattle.ifdb_syntax.specs.declared.condition.Cond.TheViews.{roll-Cond}
+use Rattle.ifdb_syntax.specs.declared.condition.Cond.TheBlock as block
+use Rattle.ifdb_syntax.specs.declared.condition.Cond.TheFolds as folds
+use Rattle.ifdb_bound.specs.declared.expression.BoundColumn.{BoundColumn}
+use Rattle.ifdb_bound.specs.declared.expression.BoundExpr.{BoundExpr}
+use Rattle.ifdb_bound.specs.declared.expression.BoundExpr.TheVariants as be
+use Rattle.ifdb_bound.specs.declared.expression.BoundOperand.{BoundOperand}
+use Rattle.ifdb_bound.specs.declared.condition.BoundCond.{BoundCond}
+use Rattle.ifdb_bound.specs.declared.condition.BoundCond.TheVariants as bc
+use Rattle.ifdb_bound.specs.declared.condition.BoundCond.TheOpen.{BoundCond-F}
+use Rattle.ifdb_bound.specs.declared.condition.BoundCond.TheViews.{roll-BoundCond}
+use Rattle.ifdb_bound.specs.declared.condition.BoundCond.TheBlock as bound_block
+use Rattle.ifdb_bound.specs.declared.condition.BoundCond.TheFolds as bound_folds
+use Rattle.ifdb_bound.specs.Folds as bound
+use Rattle.ifdb_bound.specs.Conditions as conditions
+use Rattle.ifdb_bound.specs.Kinds.{agree, arithmetic_kind, column_kind, cond_fits, expr_kind, fits_step, operand_kind}
+use Rattle.ifdb_catalog.specs.Scope.{Scope, column_at, is_column}
+use Rattle.ifdb_catalog.specs.Folds.{fold_expr, fold_cond}
+use Rattle.ifdb_catalog.specs.Terms.{bound_cond, bound_expr, bound_operand, cond_step, is_known, is_known_cond, is_known_operand, itself, known_cond_step}
+
+-- ---- whether an expression's columns are known
+
+pub is_known-Column : (s : Scope) (r : ColumnRef) → is_known s (e.Column r) ≡ is_column s r
+unfolding is_known fold_expr
+is_known-Column s r = refl
+
+pub is_known-Literal : (s : Scope) (v : Value) → is_known s (e.Literal v) ≡ true
+unfolding is_known fold_expr
+is_known-Literal s v = refl
+
+pub is_known-Add : (s : Scope) (a b : Expr) → is_known s (e.Add a b) ≡ is_known s a && is_known s b
+unfolding is_known fold_expr
+is_known-Add s a b = refl
+
+pub is_known-Sub : (s : Scope) (a b : Expr) → is_known s (e.Sub a b) ≡ is_known s a && is_known s b
+unfolding is_known fold_expr
+is_known-Sub s a b = refl
+
+pub is_known-Mul : (s : Scope) (a b : Expr) → is_known s (e.Mul a b) ≡ is_known s a && is_known s b
+unfolding is_known fold_expr
+is_known-Mul s a b = refl
+
+-- ---- an expression with places for its columns
+
+pub bound_expr-Column : (s : Scope) (r : ColumnRef) → bound_expr s (e.Column r) ≡ be.Column (column_at s r)
+unfolding bound_expr fold_expr
+bound_expr-Column s r = refl
+
+pub bound_expr-Literal : (s : Scope) (v : Value) → bound_expr s (e.Literal v) ≡ be.Literal v
+unfolding bound_expr fold_expr
+bound_expr-Literal s v = refl
+
+pub bound_expr-Add : (s : Scope) (a b : Expr) → bound_expr s (e.Add a b) ≡ be.Add (bound_expr s a) (bound_expr s b)
+unfolding bound_expr fold_expr
+bound_expr-Add s a b = refl
+
+pub bound_expr-Sub : (s : Scope) (a b : Expr) → bound_expr s (e.Sub a b) ≡ be.Sub (bound_expr s a) (bound_expr s b)
+unfolding bound_expr fold_expr
+bound_expr-Sub s a b = refl
+
+pub bound_expr-Mul : (s : Scope) (a b : Expr) → bound_expr s (e.Mul a b) ≡ be.Mul (bound_expr s a) (bound_expr s b)
+unfolding bound_expr fold_expr
+bound_expr-Mul s a b = refl
+
+pub ruleset expr_forms = (is_known-Column, is_known-Literal, is_known-Add, is_known-Sub, is_known-Mul, bound_expr-Column, bound_expr-Literal, bound_expr-Add, bound_expr-Sub, bound_expr-Mul)
+
+-- ---- conditions
+
+all_of : {X : Type 0} (f : X → Bool) (xs : List X) → list_all itself (map f xs) ≡ list_all f xs
+all_of f [] = refl
+all_of f (x ∷ xs) = ap (λ (b : Bool). f x && b) (all_of f xs)
+
+pub is_known_cond-Not : (s : Scope) (a : Cond) → is_known_cond s (c.Not a) ≡ is_known_cond s a
+unfolding is_known_cond fold_cond
+is_known_cond-Not s a = refl
+
+pub is_known_cond-Compare : (s : Scope) (a : Operand) (how : Compare) (b : Operand)
+    → is_known_cond s (c.Compare a how b) ≡ is_known_operand s a && is_known_operand s b
+unfolding is_known_cond fold_cond
+is_known_cond-Compare s a how b = refl
+
+pub is_known_cond-Or : (s : Scope) (parts : List Cond) → is_known_cond s (c.Or parts) ≡ list_all (is_known_cond s) parts
+unfolding is_known_cond fold_cond roll-Cond
+is_known_cond-Or s parts =
+    ap (is_known_cond s) (sym (c.rolls-Or parts))
+    ∙ fold-roll block.the_members block.the_sigs block.the_carrier (folds.family Bool) (folds.steps Bool (known_cond_step s)) block.member-Cond (Cond-F.Or parts)
+    ∙ all_of (is_known_cond s) parts
+
+pub is_known_cond-And : (s : Scope) (parts : List Cond) → is_known_cond s (c.And parts) ≡ list_all (is_known_cond s) parts
+unfolding is_known_cond fold_cond roll-Cond
+is_known_cond-And s parts =
+    ap (is_known_cond s) (sym (c.rolls-And parts))
+    ∙ fold-roll block.the_members block.the_sigs block.the_carrier (folds.family Bool) (folds.steps Bool (known_cond_step s)) block.member-Cond (Cond-F.And parts)
+    ∙ all_of (is_known_cond s) parts
+
+pub bound_cond-Not : (s : Scope) (a : Cond) → bound_cond s (c.Not a) ≡ bc.Not (bound_cond s a)
+unfolding bound_cond fold_cond
+bound_cond-Not s a = refl
+
+pub bound_cond-Compare : (s : Scope) (a : Operand) (how : Compare) (b : Operand)
+    → bound_cond s (c.Compare a how b) ≡ bc.Compare (bound_operand s a) how (bound_operand s b)
+unfolding bound_cond fold_cond
+bound_cond-Compare s a how b = refl
+
+pub bound_cond-Or : (s : Scope) (parts : List Cond) → bound_cond s (c.Or parts) ≡ bc.Or (map (bound_cond s) parts)
+unfolding bound_cond fold_cond roll-Cond
+bound_cond-Or s parts =
+    ap (bound_cond s) (sym (c.rolls-Or parts))
+    ∙ fold-roll block.the_members block.the_sigs block.the_carrier (folds.family BoundCond) (folds.steps BoundCond (cond_step s)) block.member-Cond (Cond-F.Or parts)
+
+pub bound_cond-And : (s : Scope) (parts : List Cond) → bound_cond s (c.And parts) ≡ bc.And (map (bound_cond s) parts)
+unfolding bound_cond fold_cond roll-Cond
+bound_cond-And s parts =
+    ap (bound_cond s) (sym (c.rolls-And parts))
+    ∙ fold-roll block.the_members block.the_sigs block.the_carrier (folds.family BoundCond) (folds.steps BoundCond (cond_step s)) block.member-Cond (Cond-F.And parts)
+
+pub ruleset cond_forms = (is_known_cond-Not, is_known_cond-Compare, is_known_cond-Or, is_known_cond-And, bound_cond-Not, bound_cond-Compare, bound_cond-Or, bound_cond-And)
+
+-- ---- kinds
+
+module _ (kinds : List (List ValueKind)) where
+  pub expr_kind-Column : (x : BoundColumn) → expr_kind kinds (be.Column x) ≡ column_kind kinds x
+  unfolding expr_kind bound.fold_expr
+  expr_kind-Column x = refl
+
+  pub expr_kind-Literal : (v : Value) → expr_kind kinds (be.Literal v) ≡ Some (kind_of v)
+  unfolding expr_kind bound.fold_expr
+  expr_kind-Literal v = refl
+
+  pub expr_kind-Add : (a b : BoundExpr) → expr_kind kinds (be.Add a b) ≡ arithmetic_kind (expr_kind kinds a) (expr_kind kinds b)
+  unfolding expr_kind bound.fold_expr
+  expr_kind-Add a b = refl
+
+  pub expr_kind-Sub : (a b : BoundExpr) → expr_kind kinds (be.Sub a b) ≡ arithmetic_kind (expr_kind kinds a) (expr_kind kinds b)
+  unfolding expr_kind bound.fold_expr
+  expr_kind-Sub a b = refl
+
+  pub expr_kind-Mul : (a b : BoundExpr) → expr_kind kinds (be.Mul a b) ≡ arithmetic_kind (expr_kind kinds a) (expr_kind kinds b)
+  unfolding expr_kind bound.fold_expr
+  expr_kind-Mul a b = refl
+
+  pub cond_fits-Not : (a : BoundCond) → cond_fits kinds (bc.Not a) ≡ cond_fits kinds a
+  unfolding cond_fits bound.fold_cond
+  cond_fits-Not a = refl
+
+  pub cond_fits-Compare : (a : BoundOperand) (how : Compare) (b : BoundOperand)
+      → cond_fits kinds (bc.Compare a how b) ≡ agree (operand_kind kinds a) (operand_kind kinds b)
+  unfolding cond_fits bound.fold_cond
+  cond_fits-Compare a how b = refl
+
+  pub cond_fits-Or : (parts : List BoundCond) → cond_fits kinds (bc.Or parts) ≡ list_all (cond_fits kinds) parts
+  unfolding cond_fits bound.fold_cond roll-BoundCond
+  cond_fits-Or parts =
+      ap (cond_fits kinds) (sym (bc.rolls-Or parts))
+      ∙ fold-roll bound_block.the_members bound_block.the_sigs bound_block.the_carrier (bound_folds.family Bool) (bound_folds.steps Bool (fits_step kinds)) bound_block.member-BoundCond (BoundCond-F.Or parts)
+      ∙ all_of (cond_fits kinds) parts
+
+  pub cond_fits-And : (parts : List BoundCond) → cond_fits kinds (bc.And parts) ≡ list_all (cond_fits kinds) parts
+  unfolding cond_fits bound.fold_cond roll-BoundCond
+  cond_fits-And parts =
+      ap (cond_fits kinds) (sym (bc.rolls-And parts))
+      ∙ fold-roll bound_block.the_members bound_block.the_sigs bound_block.the_carrier (bound_folds.family Bool) (bound_folds.steps Bool (fits_step kinds)) bound_block.member-BoundCond (BoundCond-F.And parts)
+      ∙ all_of (cond_fits kinds) parts
+
+pub ruleset kind_forms = (expr_kind-Column, expr_kind-Literal, expr_kind-Add, expr_kind-Sub, expr_kind-Mul, cond_fits-Not, cond_fits-Compare, cond_fits-Or, cond_fits-And)

@@ -1,0 +1,53 @@
+-- INSERT with a list of columns, and without one.
+use Rattle.std.proofs.Common.{◌≡◌, refl, ap, sym, ◌∙◌, ℕ, Bool, true, false, ◌&&◌, List, [], ◌∷◌, map, length, arith}
+use Rattle.std.specs.Prelude.{◌==◌}
+use Rattle.std.specs.List.{list_all}
+use Rattle.std.proofs.lemmas.List.{map-id}
+use Rattle.std.proofs.lemmas.Bool.Decides.{nat_tests}
+use Rattle.ifdb_value.specs.declared.value.Value.{Value}
+use Rattle.ifdb_value.specs.declared.value.ValueKind.{ValueKind}
+use Rattle.ifdb_value.specs.declared.column.Column.{Column}
+use Rattle.ifdb_bound.specs.Expressions.{value_at}
+use Rattle.ifdb_catalog.specs.Scope.{kinds_of}
+use Rattle.ifdb_catalog.specs.Statements.{are_listed, arranged, listed_at, row_fits, values_fit}
+use Rattle.ifdb_bind.specs.Listed.{each_once, listed_fits, places_in, values_at}
+
+-- ---- with a list
+
+at_places : (names : List (List ℕ)) (row : List Value) (columns : List Column)
+    → map (λ (c : Column). value_at row (listed_at names c.name)) columns ≡ values_at row (places_in names columns)
+at_places names row [] = refl
+at_places names row (c ∷ columns) = ap (λ (l : List Value). value_at row (listed_at names c.name) ∷ l) (at_places names row columns)
+
+fits_at_places : (columns : List Column) (n : List ℕ) (names : List (List ℕ)) (row : List Value)
+    → row_fits columns (n ∷ names) row ≡ listed_fits columns (n ∷ names) row
+fits_at_places columns n names row =
+    ap (λ (l : List Value). (length row == length (n ∷ names)) && values_fit (kinds_of columns) l) (at_places (n ∷ names) row columns)
+
+rows_fit : (columns : List Column) (n : List ℕ) (names : List (List ℕ)) (rows : List (List Value))
+    → list_all (row_fits columns (n ∷ names)) rows ≡ list_all (listed_fits columns (n ∷ names)) rows
+rows_fit columns n names [] = refl
+rows_fit columns n names (r ∷ rows) = λ j. fits_at_places columns n names r j && rows_fit columns n names rows j
+
+pub listed_rows_fit : (columns : List Column) (names : List (List ℕ)) (rows : List (List Value)) → (length names == 0) ≡ false
+    → each_once columns names && list_all (listed_fits columns names) rows ≡ are_listed columns names && list_all (row_fits columns names) rows
+listed_rows_fit columns [] rows h = absurd (grind (arith, nat_tests))
+listed_rows_fit columns (n ∷ names) rows h = ap (λ (b : Bool). each_once columns (n ∷ names) && b) (sym (rows_fit columns n names rows))
+
+pub listed_rows : (columns : List Column) (names : List (List ℕ)) (rows : List (List Value)) → (length names == 0) ≡ false
+    → map (λ row. values_at row (places_in names columns)) rows ≡ map (arranged columns names) rows
+listed_rows columns [] rows h = absurd (grind (arith, nat_tests))
+listed_rows columns (n ∷ names) [] h = refl
+listed_rows columns (n ∷ names) (r ∷ rows) h = λ j. sym (at_places (n ∷ names) r columns) j ∷ listed_rows columns (n ∷ names) rows h j
+
+-- ---- without a list
+
+pub whole_rows : (columns : List Column) (names : List (List ℕ)) (rows : List (List Value)) → (length names == 0) ≡ true
+    → rows ≡ map (arranged columns names) rows
+whole_rows columns [] rows h = sym (map-id rows)
+whole_rows columns (n ∷ names) rows h = absurd (grind (arith, nat_tests))
+
+-- as many values as columns
+pub no_columns : (values : List Value) → values_fit [] values ≡ (length values == 0)
+no_columns [] = refl
+no_columns (v ∷ values) = grind (arith, nat_tests)

@@ -1,0 +1,8 @@
+-- Why a part of a request has no tree.
+use Rattle.std.specs.Prelude.{◌≡◌, ◌⊎◌, Bool, false}
+use Rattle.ifdb_wire.specs.declared.fault.Fault.{Fault}
+use Rattle.ifdb_wire.specs.declared.fault.Fault.TheVariants.{OutOfMemory, UnknownName}
+
+-- memory lacks, or it isn't so that all its names are known
+abbrev pub Lacks : Fault → Bool → Type 0
+Lacks fault known = (fault ≡ OutOfMemory) ⊎ ((fault ≡ UnknownName) × (known ≡ false))

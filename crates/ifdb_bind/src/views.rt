@@ -1,0 +1,217 @@
+// Binding of CREATE VIEW.
+ghost use Rattle.std.specs.Prelude.{◌≡◌, ◌⊎◌, ◌++◌, ◌∷◌, [], false, Ok, Err, IfOk, IfErr, OnOk};
+ghost use Rattle.std.specs.Option.{IfSome, is_some};
+ghost use Rattle.std.specs.List.{list_all, list_any};
+ghost use Rattle.ifdb_syntax.specs.declared.select.Source.{Source};
+ghost use Rattle.ifdb_wire.specs.declared.fault.Fault.TheVariants.{OutOfMemory as NoMemory};
+ghost use Rattle.ifdb_catalog.specs.Binding.{create_view};
+ghost use Rattle.ifdb_catalog.specs.Definitions.{given, is_given, names_fit};
+ghost use Rattle.ifdb_catalog.specs.Queries.{is_relation, is_view, output};
+ghost use Rattle.ifdb_catalog.specs.Scope.{scope_of};
+ghost use Rattle.ifdb_bind.specs.ViewBody.{view_of};
+
+use crate::OutOfMemory;
+use crate::named::are_distinct;
+use crate::names::label_named;
+use crate::outputs::{OutputName, output_names};
+use crate::queries::{bound_select, scope_of};
+use crate::scope::ScopeSource;
+use crate::select::select_fits;
+use ifdb_bound::{Bound, BoundSelect, Change, Relation, ViewDef};
+use ifdb_catalog::Catalog;
+use ifdb_label::Label;
+use ifdb_syntax::{Select, Source};
+use ifdb_value::{Name, Names, Principal};
+use ifdb_wire::Fault;
+use std::alloc::Global;
+
+/// A view that is to be made.
+#[derive(Drop)]
+pub(crate) struct NewView {
+    /// Its name.
+    pub(crate) name: Name,
+    /// What it shows.
+    pub(crate) select: Select,
+    /// The tags that its rows no longer bear.
+    pub(crate) tags: Names,
+}
+
+/// What a view is, beside its name and its owner.
+#[derive(Drop)]
+pub(crate) struct ViewBody {
+    /// What it shows.
+    select: BoundSelect,
+    /// The names of its columns.
+    names: Names,
+    /// The tags that its rows no longer bear.
+    declassifying: Label,
+}
+
+/// CREATE VIEW.
+pub(crate) fn create_view(
+    alloc: Global,
+    catalog: &Catalog,
+    asker: Principal,
+    view: NewView,
+) -> Result<Bound, Fault>
+    ensures bound { IfOk result (λ b. create_view catalog.now asker view.name view.select view.tags ≡ Ok b) }
+    ensures refused { IfErr result (λ fault. (fault ≡ NoMemory) ⊎ (create_view catalog.now asker view.name view.select view.tags ≡ Err fault)) }
+{
+    if catalog.relation(&view.name).is_some() {
+        return Err(Fault::Taken);
+    }
+    let ViewBody {
+        select,
+        names,
+        declassifying,
+    } = view_body(alloc, catalog, asker, &view)?;
+    let NewView { name, .. } = view;
+    Ok(Bound::Change(Change::View {
+        view: ViewDef {
+            name,
+            owner: asker,
+            select,
+            names,
+            declassifying,
+        },
+    }))
+}
+
+/// What a view of a new name is.
+fn view_body(
+    alloc: Global,
+    catalog: &Catalog,
+    _asker: Principal,
+    view: &NewView,
+) -> Result<ViewBody, Fault>
+    requires { is_relation catalog.now view.now.name ≡ false }
+    ensures bound { IfOk result
+        (λ body. create_view catalog.now _asker view.now.name view.now.select view.now.tags ≡ Ok (view_of _asker view.now.name body)) }
+    ensures refused { IfErr result
+        (λ fault. (fault ≡ NoMemory) ⊎ (create_view catalog.now _asker view.now.name view.now.select view.now.tags ≡ Err fault)) }
+{
+    let scope = scope_of(alloc, catalog, view.select.sources.items())?;
+    body_over(alloc, catalog, scope.items(), _asker, view)
+}
+
+/// What a view of a new name is, over its sources.
+fn body_over(
+    alloc: Global,
+    catalog: &Catalog,
+    scope: &[ScopeSource<'_>],
+    _asker: Principal,
+    view: &NewView,
+) -> Result<ViewBody, Fault>
+    requires new { is_relation catalog.now view.now.name ≡ false }
+    requires scope { scope.now ≡ scope_of catalog.now view.now.select.sources }
+    ensures bound { IfOk result
+        (λ body. create_view catalog.now _asker view.now.name view.now.select view.now.tags ≡ Ok (view_of _asker view.now.name body)) }
+    ensures refused { IfErr result
+        (λ fault. (fault ≡ NoMemory) ⊎ (create_view catalog.now _asker view.now.name view.now.select view.now.tags ≡ Err fault)) }
+{
+    let select = bound_select(alloc, catalog, scope, &view.select)?;
+    let declassifying = label_named(alloc, catalog, view.tags.items())?;
+    if is_from_view(catalog, view.select.sources.items()) {
+        return Err(Fault::NotATable);
+    }
+    let names = match view_names(alloc, scope, &view.select)? {
+        Some(names) => names,
+        None => return Err(Fault::TypeMismatch),
+    };
+    if select_fits(catalog, scope, &view.select, &select) {
+        Ok(ViewBody {
+            select,
+            names,
+            declassifying,
+        })
+    } else {
+        Err(Fault::TypeMismatch)
+    }
+}
+
+/// Whether a view stands behind FROM.
+fn is_from_view(catalog: &Catalog, sources: &[Source]) -> bool
+    ensures { result ≡ list_any (λ (x : Source). is_view catalog.now x.name) sources.now }
+{
+    for source in sources {
+        if is_view(catalog, &source.name) {
+            return true;
+        }
+    }
+    false
+}
+
+/// Whether the name is that of a view.
+fn is_view(catalog: &Catalog, name: &Name) -> bool
+    ensures { result ≡ is_view catalog.now name.now }
+{
+    let Some(relation) = catalog.relation(name) else {
+        return false;
+    };
+    match relation {
+        Relation::Table(_) => false,
+        Relation::View(_) => true,
+    }
+}
+
+/// The names of a view's columns, or `None` where an item has no output name, or two have the same.
+fn view_names(
+    alloc: Global,
+    scope: &[ScopeSource<'_>],
+    query: &Select,
+) -> Result<Option<Names>, OutOfMemory>
+    ensures fit { IfOk result (λ names. is_some names ≡ names_fit (output scope.now query.now)) }
+    ensures names { IfOk result (λ found. IfSome found (λ names. names ≡ given (output scope.now query.now))) }
+{
+    let outputs = output_names(alloc, scope, query.items.items())?;
+    distinct_names(alloc, outputs.items())
+}
+
+/// The output names that there are, or `None` where one is missing, or two are the same.
+fn distinct_names(alloc: Global, outputs: &[OutputName<'_>]) -> Result<Option<Names>, OutOfMemory>
+    ensures fit { IfOk result (λ names. is_some names ≡ names_fit outputs.now) }
+    ensures names { IfOk result (λ found. IfSome found (λ names. names ≡ given outputs.now)) }
+{
+    if !are_given(outputs) {
+        return Ok(None);
+    }
+    let names = given(alloc, outputs)?;
+    if are_distinct(names.items()) {
+        Ok(Some(names))
+    } else {
+        Ok(None)
+    }
+}
+
+/// The output names that there are.
+fn given(alloc: Global, outputs: &[OutputName<'_>]) -> Result<Names, OutOfMemory>
+    ensures { IfOk result (λ names. names ≡ given outputs.now) }
+{
+    let mut names = Names::new(alloc);
+    for output in outputs {
+        add_given(alloc, &mut names, output)?;
+    }
+    Ok(names)
+}
+
+/// Adds an output name, if there is one.
+fn add_given(alloc: Global, names: &mut Names, output: &OutputName<'_>) -> Result<(), OutOfMemory>
+    ensures { OnOk result (names.new ≡ names.old ++ given (output.now ∷ [])) }
+{
+    match output.name() {
+        Some(name) => names.push(name.copy(alloc)?),
+        None => Ok(()),
+    }
+}
+
+/// Whether all items have output names.
+fn are_given(outputs: &[OutputName<'_>]) -> bool
+    ensures { result ≡ list_all is_given outputs.now }
+{
+    for output in outputs {
+        if output.name().is_none() {
+            return false;
+        }
+    }
+    true
+}
