@@ -1,1 +1,4 @@
 pub mod Parents
+pub mod AfterWrites
+pub mod ChildRows
+pub mod KeptRows

@@ -1,13 +1,15 @@
-// What writes break: a written row whose parent is gone, and a row whose parent the writes empty.
-ghost use Rattle.std.specs.Prelude.{◌≡◌, ◌&&◌, not, find, IsTrue};
+// What writes break, seen from the rows before them: a written row whose parent is gone, and a row whose parent the writes empty.
+ghost use Rattle.std.specs.Prelude.{◌≡◌, ◌&&◌, not, find, IsTrue, Some};
 ghost use Rattle.std.specs.List.{list_any};
 ghost use Rattle.std.specs.Option.{option_copied};
-ghost use Rattle.ifdb_row.specs.Content.{live, rising};
-ghost use Rattle.ifdb_row.specs.Questions.{earlier};
+ghost use Rattle.ifdb_row.specs.Content.{after, live, rising};
+ghost use Rattle.ifdb_row.specs.Questions.{earlier, if_passes, is_child_of};
+ghost use Rattle.ifdb_row.specs.Writes.{are_fitting, are_rising, deletes, is_written};
 ghost use Rattle.ifdb_row.specs.Verdict.{empties_parent, first_left, is_broken, is_left, left_at};
-ghost use Rattle.ifdb_foreign.specs.Left.{shown_left};
+ghost use Rattle.ifdb_foreign.specs.Left.{first_written, shown_left, unwritten};
 
-use ifdb_row::{Row, Rows, Slot, Write};
+use ifdb_row::{Row, Rows, Slot, Write, Writes};
+use ifdb_value::TableId;
 
 /// A row that is left without a parent.
 #[derive(Clone, Copy)]
@@ -18,9 +20,58 @@ pub struct LeftRow<'a> {
     pub parent: &'a Slot,
 }
 
-/// Whether a row stands in the slot. Takes no memory.
-pub fn is_live<R: Rows>(rows: &R, slot: &Slot) -> bool
-    ensures { result ≡ live (R.rows rows.now) slot.now }
+/// The first write, in the order of slots, whose row is bound to a slot in which no row stands after the writes.
+///
+/// Takes no memory, and costs two look-ups for each reference of a written row.
+pub fn first_broken<'a, R: Rows>(before: &R, writes: &'a Writes) -> Option<&'a Write>
+    ensures { option_copied result ≡ find (λ w. is_broken (after (R.rows before.now) writes.now) w.row) writes.now }
+{
+    for write in writes.items() {
+        if is_broken(before, writes, write) {
+            return Some(write);
+        }
+    }
+    None
+}
+
+/// Whether the write's row, if it has one, is bound to a slot in which no row stands after the writes.
+fn is_broken<R: Rows>(before: &R, writes: &Writes, write: &Write) -> bool
+    ensures { result ≡ is_broken (after (R.rows before.now) writes.now) write.now.row }
+{
+    match &write.row {
+        None => false,
+        Some(row) => has_gone(before, writes, row.get().refs.items()),
+    }
+}
+
+/// Whether some slot of the list is empty after the writes.
+fn has_gone<R: Rows>(before: &R, writes: &Writes, refs: &[Slot]) -> bool
+    ensures { result ≡ list_any (λ p. not (live (after (R.rows before.now) writes.now) p)) refs.now }
+{
+    for slot in refs {
+        if !is_live_after(before, writes, slot) {
+            return true;
+        }
+    }
+    false
+}
+
+/// Whether a row stands in the slot after the writes.
+fn is_live_after<R: Rows>(before: &R, writes: &Writes, slot: &Slot) -> bool
+    ensures { result ≡ live (after (R.rows before.now) writes.now) slot.now }
+{
+    let _ = writes.items();
+    let stood = is_live(before, slot);
+    match writes.get(slot) {
+        Some(write) => write.row.is_some(),
+        None => stood,
+    }
+}
+
+/// Whether a row stands in the slot.
+fn is_live<R: Rows>(rows: &R, slot: &Slot) -> bool
+    ensures live { result ≡ live (R.rows rows.now) slot.now }
+    ensures rising { IsTrue (rising (R.rows rows.now)) }
 {
     match rows.get(slot) {
         Some(_) => true,
@@ -28,74 +79,112 @@ pub fn is_live<R: Rows>(rows: &R, slot: &Slot) -> bool
     }
 }
 
-/// The first write, in the order of slots, whose row is bound to a slot in which no row stands, given the rows after the writes.
+/// The first row, in the order of slots, that is bound after the writes to a slot which they empty.
 ///
-/// Takes no memory, and costs a look-up for each reference of a written row.
-pub fn first_broken<'a, R: Rows>(after: &R, writes: &'a [Write]) -> Option<&'a Write>
-    ensures { option_copied result ≡ find (λ w. is_broken (R.rows after.now) w.row) writes.now }
+/// Takes no memory. Costs a look-up for each reference of a written row, and for each emptied slot the questions for its children, up to the
+/// first that isn't written.
+pub fn first_left<'a, R: Rows>(before: &'a R, writes: &'a Writes) -> Option<LeftRow<'a>>
+    ensures { shown_left result ≡ first_left (after (R.rows before.now) writes.now) writes.now }
 {
-    for write in writes {
-        if is_broken(after, write) {
-            return Some(write);
+    match first_child(before, writes) {
+        Some(row) => parent_emptied(row, writes.items()),
+        None => None,
+    }
+}
+
+/// The first row that is bound after the writes to a slot which they empty.
+fn first_child<'a, R: Rows>(before: &'a R, writes: &'a Writes) -> Option<&'a Row>
+    ensures { option_copied result ≡ find (is_left writes.now) (after (R.rows before.now) writes.now) }
+{
+    let kept = first_kept(before, writes);
+    let written = first_written(writes, writes.items());
+    earlier(kept, written)
+}
+
+/// The first such row of those before that aren't written.
+fn first_kept<'a, R: Rows>(before: &'a R, writes: &Writes) -> Option<&'a Row>
+    ensures row { option_copied result ≡ find (unwritten writes.now (is_left writes.now)) (R.rows before.now) }
+    ensures rising { IsTrue (rising (R.rows before.now)) }
+{
+    // Each answer also says that the rows rise.
+    let _ = before.next(TableId(0), None);
+    let mut child: Option<&'a Row> = None;
+    for write in writes.items() {
+        child = earlier(child, kept_child(before, writes, write));
+    }
+    child
+}
+
+/// The first row of those before that isn't written and is bound to the write's slot, if the write empties it.
+fn kept_child<'a, R: Rows>(before: &'a R, writes: &Writes, write: &Write) -> Option<&'a Row>
+    ensures { option_copied result ≡ find (unwritten writes.now (λ r. empties_parent r write.now)) (R.rows before.now) }
+{
+    match &write.row {
+        Some(_) => None,
+        None => unwritten_child(before, writes, &write.slot),
+    }
+}
+
+/// The first row that isn't written and is bound to a slot.
+fn unwritten_child<'a, R: Rows>(before: &'a R, writes: &Writes, slot: &Slot) -> Option<&'a Row>
+    ensures { option_copied result ≡ find (λ r. not (is_written writes.now r.slot) && is_child_of slot.now r) (R.rows before.now) }
+{
+    let mut after: Option<&'a Slot> = None;
+    'children: while let Some(row) = before.bound_to(slot, after) {
+        if !writes.is_written(&row.slot) {
+            return Some(row);
+        }
+        after = Some(&row.slot);
+    }
+    None
+}
+
+/// The first of some written rows that is bound to a slot which the writes empty.
+fn first_written<'a>(writes: &Writes, items: &'a [Write]) -> Option<&'a Row>
+    requires rising { IsTrue (are_rising items.now) }
+    requires fitting { IsTrue (are_fitting items.now) }
+    ensures { option_copied result ≡ first_written (is_left writes.now) items.now }
+{
+    match items {
+        [] => None,
+        [write, rest @ ..] => match left_row(writes, write) {
+            Some(row) => Some(row),
+            None => first_written(writes, rest),
+        },
+    }
+}
+
+/// The write's row, if it is bound to a slot which the writes empty.
+fn left_row<'a>(writes: &Writes, write: &'a Write) -> Option<&'a Row>
+    ensures { option_copied result ≡ if_passes (is_left writes.now) write.now.row }
+{
+    match &write.row {
+        Some(row) => if_left(writes, row.get()),
+        None => None,
+    }
+}
+
+/// The row, if it is bound to a slot which the writes empty.
+fn if_left<'a>(writes: &Writes, row: &'a Row) -> Option<&'a Row>
+    ensures { option_copied result ≡ if_passes (is_left writes.now) (Some row.now) }
+{
+    for parent in row.refs.items() {
+        if empties(writes, parent) {
+            return Some(row);
         }
     }
     None
 }
 
-/// Whether the write's row, if it has one, is bound to a slot in which no row stands.
-fn is_broken<R: Rows>(rows: &R, write: &Write) -> bool
-    ensures { result ≡ is_broken (R.rows rows.now) write.now.row }
+/// Whether the writes empty a slot.
+#[tactic(auto, using(crate::proofs::AfterWrites::deletes_at))]
+fn empties(writes: &Writes, slot: &Slot) -> bool
+    ensures { result ≡ deletes writes.now slot.now }
 {
-    match &write.row {
+    let _ = writes.items();
+    match writes.get(slot) {
+        Some(write) => write.row.is_none(),
         None => false,
-        Some(row) => has_gone(rows, row.get().refs.items()),
-    }
-}
-
-/// Whether some slot of the list is empty.
-fn has_gone<R: Rows>(rows: &R, refs: &[Slot]) -> bool
-    ensures { result ≡ list_any (λ p. not (live (R.rows rows.now) p)) refs.now }
-{
-    for slot in refs {
-        if !is_live(rows, slot) {
-            return true;
-        }
-    }
-    false
-}
-
-/// The first row, in the order of slots, that is bound to a slot which the writes empty, given the rows after the writes.
-///
-/// Takes no memory, and costs a question for the children of each emptied slot.
-pub fn first_left<'a, R: Rows>(after: &'a R, writes: &'a [Write]) -> Option<LeftRow<'a>>
-    ensures { shown_left result ≡ first_left (R.rows after.now) writes.now }
-{
-    match first_child(after, writes) {
-        Some(row) => parent_emptied(row, writes),
-        None => None,
-    }
-}
-
-/// The first row that is bound to a slot which the writes empty.
-fn first_child<'a, R: Rows>(after: &'a R, writes: &[Write]) -> Option<&'a Row>
-    ensures { option_copied result ≡ find (is_left writes.now) (R.rows after.now) }
-{
-    let mut child: Option<&'a Row> = None;
-    for write in writes {
-        child = earlier(child, child_of(after, write));
-    }
-    child
-}
-
-/// The first row that is bound to the write's slot, if the write empties it.
-fn child_of<'a, R: Rows>(after: &'a R, write: &Write) -> Option<&'a Row>
-    ensures row { option_copied result ≡ find (λ r. empties_parent r write.now) (R.rows after.now) }
-    ensures rising { IsTrue (rising (R.rows after.now)) }
-{
-    let first = after.bound_to(&write.slot, None);
-    match &write.row {
-        Some(_) => None,
-        None => first,
     }
 }
 

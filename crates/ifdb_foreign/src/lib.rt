@@ -9,7 +9,7 @@ mod broken;
 mod parent;
 mod standpoint;
 
-pub use broken::{LeftRow, first_broken, first_left, is_live};
+pub use broken::{LeftRow, first_broken, first_left};
 pub use parent::bind_parent;
 pub use standpoint::Standpoint;
 pub use std::alloc::AllocError as OutOfMemory;

@@ -1,5 +1,5 @@
 -- Rows that stand, and rows that are left without a parent.
-use Rattle.std.proofs.Common.{◌≡◌, Bool, true, false, List, [], ◌∷◌, ◌++◌, ◌∙◌, refl, sym, ap, arith, Some, None, Option, ◌&&◌, ◌||◌}
+use Rattle.std.proofs.Common.{◌≡◌, zero, suc, slice_get, Bool, true, false, List, [], ◌∷◌, ◌++◌, ◌∙◌, refl, sym, ap, arith, Some, None, Option, ◌&&◌, ◌||◌}
 use Rattle.std.specs.Prelude.{is_some, find, if◌then◌else◌}
 use Rattle.std.specs.List.{list_all, list_any}
 use Rattle.std.proofs.lemmas.Bool.{false≢true}
@@ -10,12 +10,13 @@ use Rattle.ifdb_row.specs.declared.slot.Slot.{Slot}
 use Rattle.ifdb_row.specs.declared.row.Row.{Row}
 use Rattle.ifdb_row.specs.declared.write.Write.{Write}
 use Rattle.ifdb_row.specs.Slots.{is_same_slot, slot_lt}
-use Rattle.ifdb_row.specs.Writes.{is_gone, is_written, deletes}
+use Rattle.ifdb_row.specs.Writes.{is_gone, is_written, deletes, are_rising, if_of}
+use Rattle.ifdb_row.specs.Reach.{reach}
 use Rattle.ifdb_row.specs.Content.{live, rising}
 use Rattle.ifdb_row.specs.Questions.{row_at, earlier}
 use Rattle.ifdb_row.specs.Verdict.{is_left, empties_parent}
 use Rattle.ifdb_row.proofs.SlotOrder.{slot_same, slot_itself}
-use Rattle.ifdb_row.proofs.Rising.{lt_not_back}
+use Rattle.ifdb_row.proofs.Rising.{lt_not_back, lt_not_same}
 use Rattle.ifdb_row.proofs.KeyRows.{found_all}
 
 back : (p q : Slot) → is_same_slot p q ≡ true → is_same_slot q p ≡ true
@@ -133,3 +134,28 @@ first_left_more ws w rows h =
 -- a slot is among the written ones
 pub written_there : (ws : List Write) (s : Slot) → is_written ws s ≡ list_any (λ (w : Write). is_same_slot s w.slot) ws
 written_there ws s = any_same (λ (w : Write). is_same_slot w.slot s) (λ (w : Write). is_same_slot s w.slot) ws (λ w. same_back w.slot s)
+
+-- behind a write that doesn't stand before the slot none is of it
+none_of_slot : (s : Slot) (w : Write) (vs : List Write) → slot_lt w.slot s ≡ false → list_all (λ (v : Write). slot_lt w.slot v.slot) vs ≡ true → find (λ (v : Write). is_same_slot s v.slot) vs ≡ None
+none_of_slot s w [] e k = refl
+none_of_slot s w (v ∷ vs) e k = each (none_of_slot s w vs e) (is_same_slot s v.slot) refl where
+  each : (list_all (λ (v : Write). slot_lt w.slot v.slot) vs ≡ true → find (λ (v : Write). is_same_slot s v.slot) vs ≡ None) → (b : Bool) → is_same_slot s v.slot ≡ b → find (λ (v : Write). is_same_slot s v.slot) (v ∷ vs) ≡ None
+  each more true f = absurd (false≢true (sym e ∙ (ap (slot_lt w.slot) (slot_same s v.slot f) ∙ grind (arith, nat_tests))))
+  each more false f = let rest = more (grind (arith, nat_tests)) in grind (arith, nat_tests)
+
+-- the write of a slot stands at its place
+pub write_found : (s : Slot) (ws : List Write) → are_rising ws ≡ true → if_of s (slice_get ws (reach (λ (w : Write). slot_lt w.slot s) ws)) ≡ find (λ (w : Write). is_same_slot s w.slot) ws
+write_found s [] h = refl
+write_found s (w ∷ ws) h = by (write_found s ws) (slot_lt w.slot s) refl where
+  by : (are_rising ws ≡ true → if_of s (slice_get ws (reach (λ (v : Write). slot_lt v.slot s) ws)) ≡ find (λ (v : Write). is_same_slot s v.slot) ws) → (b : Bool) → slot_lt w.slot s ≡ b
+      → if_of s (slice_get (w ∷ ws) (reach (λ (v : Write). slot_lt v.slot s) (w ∷ ws))) ≡ find (λ (v : Write). is_same_slot s v.slot) (w ∷ ws)
+  by more true e =
+      let rest = more (grind (arith, nat_tests)) in
+      let no = lt_not_same w.slot s e in
+      let at : reach (λ (v : Write). slot_lt v.slot s) (w ∷ ws) ≡ suc (reach (λ (v : Write). slot_lt v.slot s) ws) = ap (λ b. if b then suc (reach (λ (v : Write). slot_lt v.slot s) ws) else zero) e in
+      let on : find (λ (v : Write). is_same_slot s v.slot) (w ∷ ws) ≡ find (λ (v : Write). is_same_slot s v.slot) ws = ap (λ b. if b then Some w else find (λ (v : Write). is_same_slot s v.slot) ws) no in
+      ap (λ n. if_of s (slice_get (w ∷ ws) n)) at ∙ rest ∙ sym on
+  by more false e =
+      let none = none_of_slot s w ws e (grind (arith, nat_tests)) in
+      let at : reach (λ (v : Write). slot_lt v.slot s) (w ∷ ws) ≡ zero = ap (λ b. if b then suc (reach (λ (v : Write). slot_lt v.slot s) ws) else zero) e in
+      ap (λ n. if_of s (slice_get (w ∷ ws) n)) at ∙ sym (ap (λ o. if is_same_slot s w.slot then Some w else o) none)

@@ -1,9 +1,9 @@
 // Writes, each slot once.
-ghost use Rattle.std.specs.Prelude.{◌≡◌, ◌≤◌, [], length, slice_get, IsTrue, OnErr, OnOk};
+ghost use Rattle.std.specs.Prelude.{◌≡◌, ◌≤◌, [], length, find, slice_get, IsTrue, OnErr, OnOk};
 ghost use Rattle.std.specs.List.{list_any};
 ghost use Rattle.std.specs.Option.{option_copied};
 ghost use Rattle.ifdb_row.specs.Slots.{is_same_slot, slot_lt};
-ghost use Rattle.ifdb_row.specs.Writes.{are_fitting, are_rising, is_fitting, is_written, put};
+ghost use Rattle.ifdb_row.specs.Writes.{are_fitting, are_rising, if_of, is_fitting, is_written, put};
 ghost use Rattle.ifdb_row.specs.Reach.{reach};
 
 use crate::OutOfMemory;
@@ -73,6 +73,15 @@ impl Writes {
         self.items.as_slice()
     }
 
+    /// What is written to a slot, if it is written. Found by binary search.
+    #[tactic(auto, using(crate::proofs::Children::write_found))]
+    pub fn get(&self, slot: &Slot) -> Option<&Write>
+        ensures { option_copied result ≡ find (λ w. is_same_slot slot.now w.slot) self.now }
+    {
+        let at = place_of(&self.items, slot);
+        if_of(self.at(at), slot)
+    }
+
     /// Whether a slot is written. Found by binary search.
     #[tactic(auto, using(crate::proofs::Children::written_there))]
     pub fn is_written(&self, slot: &Slot) -> bool
@@ -129,5 +138,15 @@ fn is_at(items: &[Write], at: usize, slot: &Slot) -> bool
     match items.get(at) {
         Some(other) => slot.is_same(&other.slot),
         None => false,
+    }
+}
+
+/// The write, if it is of the slot.
+fn if_of<'a>(write: Option<&'a Write>, slot: &Slot) -> Option<&'a Write>
+    ensures { option_copied result ≡ if_of slot.now (option_copied write.entry) }
+{
+    match write {
+        Some(write) if slot.is_same(&write.slot) => Some(write),
+        _ => None,
     }
 }
