@@ -4,7 +4,7 @@ set -euo pipefail
 cd "$(dirname "${BASH_SOURCE[0]}")/.."
 work=$(mktemp -d)
 trap 'rm -rf "$work"' EXIT
-./ifdb run </dev/null
+./ifdb build >&2
 
 # Runs the script on standard input, and gives its time in milliseconds. No reply of it may be a refusal.
 ran() {

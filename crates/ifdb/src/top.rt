@@ -29,8 +29,8 @@ pub enum Status {
     SiteFault,
 }
 
-// How many bytes of its input `run` takes for a script: 2^30.
-const LIMIT: u64 = 1 << 30;
+/// How many bytes of its input `run` takes for a script, where the words give no limit: 2^30.
+pub const DEFAULT_LIMIT: u64 = 1 << 30;
 
 const USAGE: &str =
     "usage: ifdb run [--limit N] | ifdb serve --port P [--workers W] [--links K] [--limit N] | ifdb generate [--run] N\n";
@@ -46,21 +46,21 @@ pub fn top<T: AllocGlobal, R: Source, W: Sink, S: Site>(
     site: &mut S,
 ) -> Status
     // The script's output.
-    ensures done { result ≡ Status.Done → RanWhole (2 ^ 30)
+    ensures done { result ≡ Status.Done → RanWhole DEFAULT_LIMIT
         (R.left input.old) (R.left input.new) (W.written output.old) (W.written output.new) }
 
     ensures cuts { CutsDontMatter }
-    ensures two_worlds { KeepsLevels (2 ^ 30)
+    ensures two_worlds { KeepsLevels DEFAULT_LIMIT
         (R.left input.old) (R.left input.new) (W.written output.old) (W.written output.new) }
 
     // Faults, and what was written before them.
     ensures read { result ≡ Status.ReadFault → Rose (R.faults input.old) (R.faults input.new) }
-    ensures read_front { result ≡ Status.ReadFault → RanFront (λ n. n ≤ 2 ^ 30)
+    ensures read_front { result ≡ Status.ReadFault → RanFront (λ n. n ≤ DEFAULT_LIMIT)
         (R.left input.old) (R.left input.new) (W.written output.old) (W.written output.new) }
     ensures write { result ≡ Status.WriteFault → Rose (W.faults output.old) (W.faults output.new) }
-    ensures write_front { result ≡ Status.WriteFault → IsRun words.now → RanCut (2 ^ 30)
+    ensures write_front { result ≡ Status.WriteFault → IsRun words.now → RanCut DEFAULT_LIMIT
         (R.left input.old) (R.left input.new) (W.written output.old) (W.written output.new) }
-    ensures too_large { result ≡ Status.TooLarge → RanFront (λ n. n ≡ 2 ^ 30 + 1)
+    ensures too_large { result ≡ Status.TooLarge → RanFront (λ n. n ≡ DEFAULT_LIMIT + 1)
         (R.left input.old) (R.left input.new) (W.written output.old) (W.written output.new) }
     ensures memory { result ≡ Status.OutOfMemory → (input.new ≡ input.old) × (output.new ≡ output.old) }
     ensures complete { IsRun words.now → ¬ Rose (R.faults input.old) (R.faults input.new)
@@ -87,7 +87,7 @@ pub fn top<T: AllocGlobal, R: Source, W: Sink, S: Site>(
         }
         return Status::Usage;
     }
-    match run_script(rt.alloc(), input, output, LIMIT) {
+    match run_script(rt.alloc(), input, output, DEFAULT_LIMIT) {
         ScriptEnd::Done => Status::Done,
         ScriptEnd::ReadFault => Status::ReadFault,
         ScriptEnd::WriteFault => Status::WriteFault,

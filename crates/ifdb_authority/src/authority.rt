@@ -1,6 +1,7 @@
 // Who made each tag, and the grants that stand.
 ghost use Rattle.std.specs.Prelude.{◌≡◌, ◌↔◌, ◌<◌, ℕ, Ok, Err, IfOk, OnOk, OnErr, IsErr, IsTrue, true, false, length};
-ghost use Rattle.ifdb_authority.specs.Authority.{Delegation, granted, holds, is_owner, no_authority, owned, revoked, stands, grant};
+ghost use Rattle.ifdb_label.specs.Tags.{AreMade};
+ghost use Rattle.ifdb_authority.specs.Authority.{Delegation, granted, holds, holds_all, is_owner, no_authority, owned, revoked, stands, grant};
 ghost use Rattle.ifdb_authority.specs.Search.{IsExtended, is_grantor};
 
 use crate::grantors::Grantors;
@@ -106,6 +107,19 @@ impl Authority {
             return Ok(false);
         }
         is_held(self, tags, p, tag, above)
+    }
+
+    /// Whether a principal holds each tag of a list. Costs what `holds` does for each.
+    pub fn holds_all(&self, tags: &Tags, p: Principal, list: &[Tag]) -> Result<bool, OutOfMemory>
+        requires { AreMade (length tags.now) list.now }
+        ensures { IfOk result (λ held. held ≡ holds_all tags.now self.now p list.now) }
+    {
+        for tag in list {
+            if !self.holds(tags, p, *tag)? {
+                return Ok(false);
+            }
+        }
+        Ok(true)
     }
 
     /// Grants a tag to a principal. A second equal grant changes nothing.

@@ -5,6 +5,8 @@ ghost use Rattle.std.proofs.Common.{rules};
 use ifdb_label::Tag;
 use ifdb_value::Principal;
 use std::alloc::AllocError;
+use std::error::Error;
+use std::fmt;
 use std::hash::{Hash, Hasher};
 
 /// That one principal granted a tag to another.
@@ -42,6 +44,17 @@ pub enum GrantFault {
     OutOfMemory,
 }
 
+impl fmt::Display for GrantFault {
+    fn fmt<W: fmt::Write>(&self, f: &mut fmt::Formatter<W>) -> fmt::Result {
+        match self {
+            GrantFault::NoAuthority => write!(f, "the grantor does not hold the tag"),
+            GrantFault::OutOfMemory => write!(f, "out of memory"),
+        }
+    }
+}
+
+impl Error for GrantFault {}
+
 impl From<AllocError> for GrantFault {
     ghost use Rattle.std.specs.Prelude.{◌≡◌};
     ghost use Rattle.ifdb_authority.specs.declared.grant.GrantFault.{GrantFault};
@@ -56,3 +69,11 @@ impl From<AllocError> for GrantFault {
 /// That the grant to be taken away doesn't stand.
 #[derive(Clone, Copy, Debug, PartialEq, Eq)]
 pub struct NotGranted;
+
+impl fmt::Display for NotGranted {
+    fn fmt<W: fmt::Write>(&self, f: &mut fmt::Formatter<W>) -> fmt::Result {
+        write!(f, "no such grant stands")
+    }
+}
+
+impl Error for NotGranted {}

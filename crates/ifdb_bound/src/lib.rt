@@ -6,7 +6,6 @@
 #![tactic(auto)]
 
 mod condition;
-mod copy;
 mod expression;
 mod request;
 mod schema;

@@ -2,7 +2,6 @@
 ghost use Rattle.std.specs.Prelude.{◌≡◌, IfOk};
 
 use crate::OutOfMemory;
-use crate::copy::{copied, copied_plain};
 use crate::select::BoundSelect;
 use ifdb_label::{Label, Tag};
 use ifdb_value::{Column, Columns, Name, Names, Principal, Sequence, TableId};
@@ -59,7 +58,7 @@ impl Foreign {
     pub fn copy(&self, alloc: Global) -> Result<Foreign, OutOfMemory>
         ensures { IfOk result (λ foreign. foreign ≡ self.now) }
     {
-        let columns = copied_plain(alloc, &self.columns)?;
+        let columns = self.columns.copy(alloc)?;
         Ok(Foreign {
             columns,
             parent: self.parent,
@@ -73,13 +72,13 @@ impl Schema {
         ensures { IfOk result (λ schema. schema ≡ self.now) }
     {
         let name = self.name.copy(alloc)?;
-        let columns = copied(alloc, &self.columns, |column: &Column| {
-            copied_column(alloc, column)
-        })?;
-        let key = copied_plain(alloc, &self.key)?;
-        let foreign = copied(alloc, &self.foreign, |foreign: &Foreign| {
-            foreign.copy(alloc)
-        })?;
+        let columns = self
+            .columns
+            .copy_by(alloc, |column: &Column| { copied_column(alloc, column) })?;
+        let key = self.key.copy(alloc)?;
+        let foreign = self
+            .foreign
+            .copy_by(alloc, |foreign: &Foreign| { foreign.copy(alloc) })?;
         Ok(Schema {
             name,
             columns,
@@ -96,7 +95,7 @@ impl ViewDef {
     {
         let name = self.name.copy(alloc)?;
         let select = self.select.copy(alloc)?;
-        let names = copied(alloc, &self.names, |name: &Name| name.copy(alloc))?;
+        let names = self.names.copy_by(alloc, |name: &Name| name.copy(alloc))?;
         let declassifying = self.declassifying.copy(alloc)?;
         Ok(ViewDef {
             name,

@@ -3,7 +3,6 @@ ghost use Rattle.std.specs.Prelude.{◌≡◌, IfOk};
 
 use crate::OutOfMemory;
 use crate::condition::BoundCond;
-use crate::copy::{copied, copied_plain};
 use crate::expression::{BoundColumn, BoundColumns, BoundExpr};
 use crate::schema::Places;
 use ifdb_value::{Sequence, TableId, ViewId};
@@ -98,7 +97,7 @@ impl BoundSource {
     pub fn copy(&self, alloc: Global) -> Result<BoundSource, OutOfMemory>
         ensures { IfOk result (λ source. source ≡ self.now) }
     {
-        let key = copied_plain(alloc, &self.key)?;
+        let key = self.key.copy(alloc)?;
         Ok(BoundSource {
             relation: self.relation,
             key,
@@ -127,13 +126,15 @@ impl BoundSelect {
     pub fn copy(&self, alloc: Global) -> Result<BoundSelect, OutOfMemory>
         ensures { IfOk result (λ select. select ≡ self.now) }
     {
-        let items = copied(alloc, &self.items, |item: &BoundItem| item.copy(alloc))?;
-        let sources = copied(alloc, &self.sources, |source: &BoundSource| {
-            source.copy(alloc)
-        })?;
+        let items = self
+            .items
+            .copy_by(alloc, |item: &BoundItem| item.copy(alloc))?;
+        let sources = self
+            .sources
+            .copy_by(alloc, |source: &BoundSource| { source.copy(alloc) })?;
         let cond = copied_where(alloc, &self.cond)?;
-        let group = copied_plain(alloc, &self.group)?;
-        let order = copied_plain(alloc, &self.order)?;
+        let group = self.group.copy(alloc)?;
+        let order = self.order.copy(alloc)?;
         Ok(BoundSelect {
             items,
             sources,

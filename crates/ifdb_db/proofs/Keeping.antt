@@ -7,7 +7,7 @@ use Rattle.std.proofs.lemmas.Bool.Decides.{nat_tests}
 use Rattle.std.proofs.lemmas.Grind.{common_steps}
 use Rattle.ifdb_label.specs.Tags.{are_made}
 use Rattle.ifdb_row.specs.declared.row.Row.{Row}
-use Rattle.ifdb_row.proofs.Lists.{all_from}
+use Rattle.ifdb_value.proofs.Lists.{all_wider}
 use Rattle.ifdb_row.proofs.SlotOrder.{slot_itself}
 use Rattle.ifdb_row.proofs.ContentLaws.{all-place, rising_place}
 use Rattle.ifdb_bound.specs.declared.request.Change.{Change}
@@ -40,10 +40,10 @@ tags_grow_by x (Some (changes c)) = tags_grow x.public c
 tags_grow_by x (Some (commits ws)) = omega arith
 
 pub made_more : (m n : ℕ) (label : List ℕ) → m ≤ n → are_made m label ≡ true → are_made n label ≡ true
-made_more m n label h k = all_from (λ t. nat_lt t m) (λ t. nat_lt t n) label (λ t e. grind (arith, nat_tests)) k
+made_more m n label h k = all_wider (λ t. nat_lt t m) (λ t. nat_lt t n) label (λ t e. grind (arith, nat_tests)) k
 
 pub rows_made_more : (m n : ℕ) (rows : List Row) → m ≤ n → are_rows_made m rows ≡ true → are_rows_made n rows ≡ true
-rows_made_more m n rows h k = all_from (λ (r : Row). are_made m r.slot.label) (λ (r : Row). are_made n r.slot.label) rows (λ r e. made_more m n r.slot.label h e) k
+rows_made_more m n rows h k = all_wider (λ (r : Row). are_made m r.slot.label) (λ (r : Row). are_made n r.slot.label) rows (λ r e. made_more m n r.slot.label h e) k
 
 -- ---- sessions
 
@@ -55,7 +55,7 @@ pub kept_by : (x y : Seen) (e : Option Entry) (s : Session) → y ≡ with_entry
 kept_by x y e s w k = subst (λ (z : Seen). is_kept z.public s ≡ true) (sym w) (kept_more x.public (with_entry x e).public s (tags_grow_by x e) k)
 
 pub all_kept_more : (p q : Public) (sessions : List Session) → length p.tags ≤ length q.tags → list_all (is_kept p) sessions ≡ true → list_all (is_kept q) sessions ≡ true
-all_kept_more p q sessions h k = all_from (is_kept p) (is_kept q) sessions (λ s e. kept_more p q s h e) k
+all_kept_more p q sessions h k = all_wider (is_kept p) (is_kept q) sessions (λ s e. kept_more p q s h e) k
 
 pub all_set : {X : Type 0} (test : X → Bool) (xs : List X) (at : ℕ) (x : X) → test x ≡ true → list_all test xs ≡ true → list_all test (set xs at x) ≡ true
 all_set test [] at x h k = k

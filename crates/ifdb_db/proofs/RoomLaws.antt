@@ -18,6 +18,7 @@ use Rattle.ifdb_model.specs.Log.{Entry, changes, commits, public_from, public_of
 use Rattle.ifdb_model.specs.Session.{Txn, Session, new_session, no_session, closed, in_txn, Seen, seen_in, seen}
 use Rattle.ifdb_model.specs.Step.{Form, greets, publishes, relabels, shows_label, begins, ends, rolls_back, leaves_us, looks, writes, form_of, Outcome, refuses, if_built, ask, ask_read, ask_by, ask_as, ask_new}
 use Rattle.ifdb_model.specs.Run.{State, session_of, outcome_of, with_outcome, asks, opens, leaves, next}
+use Rattle.ifdb_model.proofs.LogLaws.{public_from-append, content_from-append}
 use Rattle.ifdb_db.specs.Kept.{is_kept}
 use Rattle.ifdb_db.specs.Answer.{with_entry, IsRefusal, answered, answered_by, answered_as, answered_new}
 use Rattle.ifdb_parse.specs.Parsed.{parsed}
@@ -27,24 +28,14 @@ use Rattle.ifdb_db.proofs.Keeping.{no_txn}
 
 -- ---- what an added entry does to what all see
 
-public_append : (p : Public) (a b : List Entry) → public_from p (a ++ b) ≡ public_from (public_from p a) b
-public_append p [] b = refl
-public_append p (changes c ∷ a) b = public_append (changed p c) a b
-public_append p (commits ws ∷ a) b = public_append p a b
-
-content_append : (rows : List Row) (a b : List Entry) → content_from rows (commits_of (a ++ b)) ≡ content_from (content_from rows (commits_of a)) (commits_of b)
-content_append rows [] b = refl
-content_append rows (changes c ∷ a) b = content_append rows a b
-content_append rows (commits ws ∷ a) b = content_append (after rows ws) a b
-
 seen_at : List Entry → Option Entry → Seen
 seen_at log e = record { public = public_from (public_of log) (option_to_list e); rows = content_from (content_of log) (commits_of (option_to_list e)) }
 
 appended : (log : List Entry) (e : Option Entry) → seen_in (log ++ option_to_list e) None ≡ seen_at log e
 unfolding seen_at
 appended log e =
-    let p = public_append (public_of []) log (option_to_list e) in
-    let c = content_append [] log (option_to_list e) in
+    let p = public_from-append (public_of []) log (option_to_list e) in
+    let c = content_from-append [] log (option_to_list e) in
     λ i. record { public = p i; rows = c i }
 
 one_entry : (log : List Entry) (e : Option Entry) → seen_at log e ≡ with_entry (seen_in log None) e

@@ -18,8 +18,8 @@ use Rattle.ifdb_row.specs.declared.row.Row.{Row}
 use Rattle.ifdb_row.specs.Slots.{key_cmp, label_cmp, slot_cmp, slot_lt, is_same_slot, is_of_key}
 use Rattle.ifdb_row.specs.Content.{rising}
 use Rattle.ifdb_row.specs.Seen.{clash}
-use Rattle.ifdb_row.proofs.Lists.{all_filter}
-use Rattle.ifdb_row.proofs.ValueOrder.{value_total}
+use Rattle.ifdb_value.proofs.Lists.{all-filter}
+use Rattle.ifdb_value.proofs.ValueOrder.{value_total}
 use Rattle.ifdb_row.proofs.SlotOrder.{slot_lt_trans, slot_same, key_itself}
 use Rattle.ifdb_db.specs.Rows.{is_below_key, is_above_key, of_key, is_taken, with_row, are_rows_made}
 
@@ -180,7 +180,7 @@ clash_of_key tags [] table key label = refl
 clash_of_key tags (r ∷ rows) table key label = grind (arith, nat_tests, clash_of_key tags rows table key label)
 
 pub made_of_key : (n : ℕ) (rows : List Row) (table : ℕ) (key : List Value) → are_rows_made n rows ≡ true → are_rows_made n (of_key table key rows) ≡ true
-made_of_key n rows table key h = all_filter (λ r. is_of_key table key r.slot) (λ r. are_made n r.slot.label) rows h
+made_of_key n rows table key h = all-filter (λ r. is_of_key table key r.slot) (λ r. are_made n r.slot.label) rows h
 
 -- ---- a row without a clash
 

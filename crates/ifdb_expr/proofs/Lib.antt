@@ -1,1 +1,4 @@
 pub mod Views
+pub mod Frames
+pub mod Numbers
+pub mod Deciding

@@ -1,6 +1,7 @@
 -- What a reader of lines makes of the bytes that it takes from a source.
 use Rattle.std.specs.Prelude.{◌≡◌, ◌≢◌, ℕ, ◌+◌, ◌-◌, ◌≤◌, ◌==◌, List, [], ◌∷◌, ◌++◌, length, Bool, true, false, Option, Result, Ok, Err, All, if◌then◌else◌}
 use Rattle.std.specs.Io.KnownBytes.{Consumes}
+use Rattle.ifdb_io.specs.declared.lines.TheConstants.{LONGEST_LINE, LONG}
 use Rattle.ifdb_io.specs.declared.lines.Line.{Line}
 use Rattle.ifdb_io.specs.declared.lines.Line.TheVariants.{Whole, Rest, TooLong, End}
 use Rattle.ifdb_io.specs.declared.lines.LineFault.{LineFault}
@@ -36,12 +37,12 @@ unskipped skipping bytes = if skipping then after_newline bytes else bytes
 -- a line without its newline
 pub record IsLine (text : List ℕ) : Type 0 where
   pub plain : All (λ b. b ≢ 10) text
-  pub short : length text ≤ 65535
+  pub short : length text ≤ LONGEST_LINE
 
 -- the front of a line that is too long
 pub record IsLong (bytes : List ℕ) : Type 0 where
   pub plain : All (λ b. b ≢ 10) bytes
-  pub long : length bytes ≡ 65536
+  pub long : length bytes ≡ LONG
 
 -- the next bytes are these, however the input goes on
 pub record Gives (old new : Reading) (left_old left_new : Option (List ℕ)) (bytes : List ℕ) : Type 0 where

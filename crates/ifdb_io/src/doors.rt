@@ -4,6 +4,8 @@ ghost use Rattle.ifdb_io.specs.Causes.{Rose, HasCause};
 ghost use Rattle.ifdb_io.specs.Doors.{Asked, Stays, LosesFirst, GainsLast, Becomes, TakesNext, is_link, is_end};
 
 use crate::{Failed, Link};
+use std::error::Error;
+use std::fmt;
 
 /// Something that connections come through.
 pub trait Door {
@@ -58,6 +60,17 @@ pub enum SiteFault {
     /// There was no memory left.
     OutOfMemory,
 }
+
+impl fmt::Display for SiteFault {
+    fn fmt<W: fmt::Write>(&self, f: &mut fmt::Formatter<W>) -> fmt::Result {
+        match self {
+            SiteFault::Failed => write!(f, "the site failed"),
+            SiteFault::OutOfMemory => write!(f, "out of memory"),
+        }
+    }
+}
+
+impl Error for SiteFault {}
 
 /// Something that doors are had from.
 pub trait Site {

@@ -14,7 +14,7 @@ mod tests;
 mod writes;
 
 pub use doors::{Door, Site, SiteFault};
-pub use lines::{Line, LineFault, LineReader};
+pub use lines::{LONGEST_LINE, Line, LineFault, LineReader};
 pub use outside::{Failed, Link, Sink, Source};
 pub use sinks::{MemorySink, SureSink};
 pub use sources::{MemorySource, SureSource};

@@ -8,22 +8,27 @@ ghost use Rattle.ifdb_io.specs.Reader.{ReadsSame, Takes, Passes, Cuts, MovesOn};
 use crate::reads::{add, newline_in, refill};
 use crate::{Failed, OutOfMemory, Source};
 use std::alloc::Global;
+use std::error::Error;
+use std::fmt;
 use std::marker::Model;
 
-// How many bytes are read at a time.
-const CHUNK: usize = 65536;
+/// The most bytes that a line has, its newline not counted.
+pub const LONGEST_LINE: usize = 65_535;
 
 // The first length of a line that is too long.
-const LONG: usize = 65536;
+const LONG: usize = LONGEST_LINE + 1;
+
+// How many bytes are read at a time.
+const CHUNK: usize = 65_536;
 
 /// What `LineReader::next` found.
 #[derive(Clone, Copy, Debug, PartialEq, Eq)]
 pub enum Line {
-    /// A line of at most 65,535 bytes. Its newline was read too, and stands nowhere.
+    /// A line of at most `LONGEST_LINE` bytes. Its newline was read too, and stands nowhere.
     Whole,
     /// The input ended after bytes without a newline.
     Rest,
-    /// A line of more than 65,535 bytes. The next call drops the rest of it.
+    /// A line of more than `LONGEST_LINE` bytes. The next call drops the rest of it.
     TooLong,
     /// The input ended, and nothing is left.
     End,
@@ -37,6 +42,17 @@ pub enum LineFault {
     /// The input has more bytes than the limit.
     TooMuch,
 }
+
+impl fmt::Display for LineFault {
+    fn fmt<W: fmt::Write>(&self, f: &mut fmt::Formatter<W>) -> fmt::Result {
+        match self {
+            LineFault::Read => write!(f, "the source failed"),
+            LineFault::TooMuch => write!(f, "the input has more bytes than the limit"),
+        }
+    }
+}
+
+impl Error for LineFault {}
 
 // What became of the held bytes.
 #[derive(Clone, Copy, Debug, PartialEq, Eq)]
@@ -64,6 +80,7 @@ pub struct LineReader {
 
 impl Model for LineReader {
     ghost use Rattle.std.specs.Prelude.{◌≡◌, ◌≤◌, ◌+◌, ◌^◌, false, slice_range, vec_len, vec_capacity};
+    ghost use Rattle.ifdb_io.specs.declared.lines.TheConstants.{LONG, CHUNK};
     ghost use Rattle.ifdb_io.specs.Lines.{Reading};
 
     ghost Value = { Reading };
@@ -77,8 +94,8 @@ impl Model for LineReader {
       over = r.over;
     } };
 
-    ghost invariant = { λ r. (r.from ≤ r.to) × (r.to ≤ 65536) × (vec_len r.chunk ≡ 65536)
-        × (65536 ≤ vec_capacity r.text) × (vec_len r.text ≤ 65536)
+    ghost invariant = { λ r. (r.from ≤ r.to) × (r.to ≤ CHUNK) × (vec_len r.chunk ≡ CHUNK)
+        × (LONG ≤ vec_capacity r.text) × (vec_len r.text ≤ LONG)
         × (r.limit ≤ 2 ^ 40) × (r.taken ≤ r.limit + 1) × (r.over ≡ false → r.taken ≤ r.limit) };
 }
 

@@ -10,7 +10,7 @@ use Rattle.std.proofs.Common.{length-append}
 use Rattle.ifdb_label.specs.Tags.{MadeTag, lone_tag, parents_of, below, AreMade, AreWellFormed}
 use Rattle.ifdb_label.specs.Label.{with_tag, with_tags}
 use Rattle.ifdb_label.specs.Ancestors.{TracedTag, lone_traced, made_of, ancestors_of, has, HasAbove, HasAncestors, AreTraced}
-use Rattle.ifdb_label.proofs.Elements.{any_same}
+use Rattle.ifdb_value.proofs.Lists.{any_same_on}
 use Rattle.ifdb_label.proofs.TagLaws.{below_unfolds, below_unmade, below-append, parents_of-append}
 
 has-with_tag : (t : ℕ) (list : List ℕ) (u : ℕ) → has (with_tag t list) u ≡ eqb t u || has list u
@@ -60,7 +60,7 @@ below-new tags m ancestors w made above u =
     let whole = below_unfolds (tags ++ m ∷ []) (well_formed-append tags m w made) n u in
     let parents : list_any (λ p. below (tags ++ m ∷ []) p u) (parents_of (tags ++ m ∷ []) n) ≡ list_any (λ p. below (tags ++ m ∷ []) p u) m.parents =
     ap (λ ps. list_any (λ p. below (tags ++ m ∷ []) p u) ps) (parents_of-new tags m) in
-    let same = any_same (λ p. ltb p n) (λ p. below (tags ++ m ∷ []) p u) (λ p. below tags p u) m.parents made
+    let same = any_same_on (λ p. ltb p n) (λ p. below (tags ++ m ∷ []) p u) (λ p. below tags p u) m.parents made
     (λ p e. below-append tags (m ∷ []) w p u (ltb-true p n e)) in
     let list = above u in
     ap (λ b. eqb n u || b) (list ∙ sym same ∙ sym parents) ∙ sym whole

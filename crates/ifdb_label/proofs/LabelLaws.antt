@@ -1,12 +1,13 @@
 -- Laws of labels, for any lists of tag numbers.
-use Rattle.std.proofs.Common.{◌≡◌, ℕ, ◌<◌, ◌≤◌, zero, suc, Bool, true, false, List, [], ◌∷◌, ◌++◌, length, refl, arith, ◌||◌, ltb, eqb, ◌&&◌}
+use Rattle.std.proofs.Common.{◌≡◌, ℕ, ◌<◌, ◌≤◌, zero, suc, Bool, true, false, List, [], ◌∷◌, ◌++◌, ◌∙◌, length, refl, sym, arith, ◌||◌, ltb, eqb, ◌&&◌}
 use Rattle.std.specs.Prelude.{filter, not}
 use Rattle.std.specs.List.{list_any, list_all}
 use Rattle.std.proofs.lemmas.Bool.{ltb-true}
 use Rattle.std.proofs.lemmas.Bool.Decides.{nat_tests}
+use Rattle.std.proofs.lemmas.List.Folds.{list_all-append, list_any-append}
 use Rattle.ifdb_label.specs.Tags.{MadeTag, below, AreMade, AreWellFormed}
 use Rattle.ifdb_label.specs.Label.{is_rising, is_below_some, flows, with_tag, rising, is_below_another, reduce, union, strip}
-use Rattle.ifdb_label.proofs.Elements.{any_same, all_same, any_wider, all_wider, any_meets_all, all-append, all-filter, any-filter, filter_all, filter_passes, some_of, all_of_itself}
+use Rattle.ifdb_value.proofs.Lists.{any_same_on, all_same_on, any_wider, all_wider, any_meets_all, all-filter, any-filter, filter_all, filter_passes, any_of_itself, all_of_itself}
 use Rattle.ifdb_label.proofs.TagLaws.{below_refl, below_trans, below_le, below-append, below_stays}
 
 -- flows
@@ -36,8 +37,8 @@ flows_stays tags more w a b = all_wider (λ t. is_below_some tags t b) (λ t. is
 
 -- tags made later change nothing of where made tags flow, be the tags of the other list made or not
 pub flows-append : (tags more : List MadeTag) → AreWellFormed tags → (a b : List ℕ) → AreMade (length tags) a → flows (tags ++ more) a b ≡ flows tags a b
-flows-append tags more w a b m = all_same (λ t. ltb t (length tags)) (λ t. is_below_some (tags ++ more) t b) (λ t. is_below_some tags t b) a m
-    (λ t e. any_same (λ _. true) (λ u. below (tags ++ more) t u) (λ u. below tags t u) b (all_true b) (λ u _. below-append tags more w t u (ltb-true t (length tags) e))) where
+flows-append tags more w a b m = all_same_on (λ t. ltb t (length tags)) (λ t. is_below_some (tags ++ more) t b) (λ t. is_below_some tags t b) a m
+    (λ t e. any_same_on (λ _. true) (λ u. below (tags ++ more) t u) (λ u. below tags t u) b (all_true b) (λ u _. below-append tags more w t u (ltb-true t (length tags) e))) where
       all_true : (b : List ℕ) → list_all (λ _. true) b ≡ true
       all_true [] = refl
       all_true (u ∷ us) = all_true us
@@ -92,7 +93,7 @@ reduce_any tags p list h = rising_any p list (any-filter (λ t. not (is_below_an
 pub union_flows : (tags before : List MadeTag) (a b c : List ℕ) → flows tags a c ≡ true → flows tags b c ≡ true → flows tags (union before a b) c ≡ true
 union_flows tags before a b c h k =
     let q : ℕ → Bool = λ t. is_below_some tags t c in
-    reduce_all before q (a ++ b) (grind (arith, nat_tests, all-append q a b))
+    reduce_all before q (a ++ b) (grind (arith, nat_tests, list_all-append q a b))
 
 -- rising lists
 
@@ -124,7 +125,7 @@ pub strip_are_made : (tags : List MadeTag) (n : ℕ) (a b : List ℕ) → AreMad
 strip_are_made tags n a b = strip_all tags (λ t. ltb t n) a b
 
 pub union_are_made : (tags : List MadeTag) (n : ℕ) (a b : List ℕ) → AreMade n a → AreMade n b → AreMade n (union tags a b)
-union_are_made tags n a b h k = reduce_are_made tags n (a ++ b) (grind (arith, nat_tests, all-append (λ t. ltb t n) a b))
+union_are_made tags n a b h k = reduce_are_made tags n (a ++ b) (grind (arith, nat_tests, list_all-append (λ t. ltb t n) a b))
 
 -- a label is its own reduction
 
@@ -170,7 +171,7 @@ below_reduction_step tags w list t ih h =
     let test : ℕ → Bool = λ v. not (is_below_another tags v list) in
     let kept : test t ≡ true → list_any (λ u. eqb t u) (reduce tags list) ≡ true = λ e. stays_in test t (rising list) e (rising_keeps (λ u. eqb t u) list h) in
     let by_itself = any_wider (λ u. eqb t u) (λ u. below tags t u) (reduce tags list) (λ u e. grind (arith, nat_tests, below_refl tags t)) in
-    let by_another = some_of (λ u. not (eqb t u) && below tags t u) (is_below_some tags t (reduce tags list)) list
+    let by_another = any_of_itself (λ u. not (eqb t u) && below tags t u) (is_below_some tags t (reduce tags list)) list
     (λ u e i. let le = below_le tags w t u in
     let up = any_wider (λ v. below tags u v) (λ v. below tags t v) (reduce tags list) (λ v q. grind (arith, nat_tests, below_trans tags w t u v)) in
     grind (arith, nat_tests, le, up, ih u)) in
@@ -187,3 +188,24 @@ flows-reduce tags w list = all_of_itself (λ t. is_below_some tags t (reduce tag
 pub reduce_flows : (tags : List MadeTag) → AreWellFormed tags → (list b : List ℕ) → flows tags (reduce tags list) b ≡ flows tags list b
 reduce_flows tags w list b =
     grind (arith, nat_tests, reduce_all tags (λ t. is_below_some tags t b) list, flows_trans tags w list (reduce tags list) b (flows-reduce tags w list))
+
+-- ---- unions
+
+same_bool : (a b : Bool) → (a ≡ true → b ≡ true) → (b ≡ true → a ≡ true) → a ≡ b
+same_bool true b f g = sym (f refl)
+same_bool false true f g = g refl
+same_bool false false f g = refl
+
+-- below a tag of two lists
+pub below_either : (tags : List MadeTag) (t : ℕ) (a b : List ℕ) → is_below_some tags t (a ++ b) ≡ is_below_some tags t a || is_below_some tags t b
+below_either tags t a b = list_any-append (below tags t) a b
+
+-- what flows to a reduction flows to the list
+pub flows_to_reduce : (tags : List MadeTag) → AreWellFormed tags → (a list : List ℕ) → flows tags a (reduce tags list) ≡ flows tags a list
+flows_to_reduce tags w a list =
+    same_bool (flows tags a (reduce tags list)) (flows tags a list)
+    (λ h. flows_trans tags w a (reduce tags list) list h (reduce_flows tags w list list ∙ flows_refl tags list))
+    (λ h. flows_trans tags w a list (reduce tags list) h (flows-reduce tags w list))
+
+pub flows_to_union : (tags : List MadeTag) → AreWellFormed tags → (a b c : List ℕ) → flows tags a (union tags b c) ≡ flows tags a (b ++ c)
+flows_to_union tags w a b c = flows_to_reduce tags w a (b ++ c)

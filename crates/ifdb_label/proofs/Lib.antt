@@ -1,4 +1,3 @@
-mod Elements
 pub mod TagLaws
 pub mod LabelLaws
 pub mod AncestorLemmas

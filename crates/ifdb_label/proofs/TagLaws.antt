@@ -5,7 +5,7 @@ use Rattle.std.proofs.lemmas.Bool.{eq-eqb, ltb-true, cases_lt}
 use Rattle.std.proofs.lemmas.Bool.Decides.{nat_tests}
 use Rattle.std.proofs.lemmas.List.{get_or_append_left, get_or_past}
 use Rattle.ifdb_label.specs.Tags.{MadeTag, lone_tag, parents_of, below_in, below, AreWellFormed}
-use Rattle.ifdb_label.proofs.Elements.{any_same, any_none, any_wider}
+use Rattle.ifdb_value.proofs.Lists.{any_same_on, any_none, any_wider}
 
 no_parents : (tags : List MadeTag) → AreWellFormed tags → (f : ℕ → Bool) (t : ℕ) → t ≤ 0 → list_any f (parents_of tags t) ≡ false
 no_parents tags w f t le = any_none (λ p. ltb p t) f (parents_of tags t) (w.older t) (λ p h. grind (arith, nat_tests))
@@ -16,14 +16,14 @@ enough_turns tags w zero zero t u h k = refl
 enough_turns tags w zero (suc m) t u h k = grind (arith, nat_tests, no_parents tags w (λ p. below_in tags m p u) t h)
 enough_turns tags w (suc n) zero t u h k = grind (arith, nat_tests, no_parents tags w (λ p. below_in tags n p u) t k)
 enough_turns tags w (suc n) (suc m) t u h k =
-    ap (λ b. eqb t u || b) (any_same (λ p. ltb p t) (λ p. below_in tags n p u) (λ p. below_in tags m p u) (parents_of tags t) (w.older t)
+    ap (λ b. eqb t u || b) (any_same_on (λ p. ltb p t) (λ p. below_in tags n p u) (λ p. below_in tags m p u) (parents_of tags t) (w.older t)
     (λ p e. let lt = ltb-true p t e in enough_turns tags w n m p u (omega arith) (omega arith)))
 
 -- t is below u where t is u or some parent of t is below u
 pub below_unfolds : (tags : List MadeTag) → AreWellFormed tags → (t u : ℕ) → below tags t u ≡ eqb t u || list_any (λ p. below tags p u) (parents_of tags t)
 below_unfolds tags w zero u = grind (arith, nat_tests, no_parents tags w (λ p. below tags p u) 0)
 below_unfolds tags w (suc n) u =
-    ap (λ b. eqb (suc n) u || b) (any_same (λ p. ltb p (suc n)) (λ p. below_in tags n p u) (λ p. below tags p u) (parents_of tags (suc n)) (w.older (suc n))
+    ap (λ b. eqb (suc n) u || b) (any_same_on (λ p. ltb p (suc n)) (λ p. below_in tags n p u) (λ p. below tags p u) (parents_of tags (suc n)) (w.older (suc n))
     (λ p e. let lt = ltb-true p (suc n) e in enough_turns tags w n p p u (omega arith) (omega arith)))
 
 below_itself_in : (tags : List MadeTag) (n t : ℕ) → below_in tags n t t ≡ true
@@ -40,7 +40,7 @@ below_trans_step tags w t u v h k ih =
     let two = below_unfolds tags w t v in
     let more : list_any (λ p. ltb p t && below tags p u) (parents_of tags t) ≡ true → list_any (λ p. below tags p v) (parents_of tags t) ≡ true =
     any_wider (λ p. ltb p t && below tags p u) (λ p. below tags p v) (parents_of tags t) (λ p e. grind (arith, nat_tests, ih p)) in
-    let same = any_same (λ p. ltb p t) (λ p. below tags p u) (λ p. ltb p t && below tags p u) (parents_of tags t) (w.older t) (λ p e. grind (arith, nat_tests)) in
+    let same = any_same_on (λ p. ltb p t) (λ p. below tags p u) (λ p. ltb p t && below tags p u) (parents_of tags t) (w.older t) (λ p e. grind (arith, nat_tests)) in
     grind (arith, nat_tests, one, two, more, same)
 
 below_trans_in : (tags : List MadeTag) → AreWellFormed tags → (n t u v : ℕ) → t ≤ n → below tags t u ≡ true → below tags u v ≡ true → below tags t v ≡ true
@@ -67,7 +67,7 @@ below_in-append : (tags more : List MadeTag) → AreWellFormed tags → (n t u :
 below_in-append tags more w zero t u h = refl
 below_in-append tags more w (suc n) t u h =
     ap (λ ps. eqb t u || list_any (λ p. below_in (tags ++ more) n p u) ps) (parents_of-append tags more t h)
-    ∙ ap (λ b. eqb t u || b) (any_same (λ p. ltb p t) (λ p. below_in (tags ++ more) n p u) (λ p. below_in tags n p u) (parents_of tags t) (w.older t)
+    ∙ ap (λ b. eqb t u || b) (any_same_on (λ p. ltb p t) (λ p. below_in (tags ++ more) n p u) (λ p. below_in tags n p u) (parents_of tags t) (w.older t)
     (λ p e. let lt = ltb-true p t e in below_in-append tags more w n p u (omega arith)))
 
 -- tags made later change nothing of what a made tag is below, be the other tag made or not

@@ -1,5 +1,5 @@
 // Labels: rising lists of tags.
-ghost use Rattle.std.specs.Prelude.{◌≡◌, ◌<◌, [], IfOk, IsTrue, length};
+ghost use Rattle.std.specs.Prelude.{◌≡◌, ◌<◌, ◌++◌, [], IfOk, IsTrue, length};
 ghost use Rattle.ifdb_label.specs.Tags.{AreMade};
 ghost use Rattle.ifdb_label.specs.Label.{flows, is_below_another, is_below_some, is_rising, reduce, strip, union, without_lower};
 
@@ -90,6 +90,19 @@ impl Label {
         Label::reduce(alloc, tags, &both)
     }
 
+    /// Whether this label flows to the union of two others. Makes no union, and takes no memory.
+    #[tactic(auto, using(crate::proofs::LabelLaws::flows_to_union))]
+    pub fn flows_to_union(&self, tags: &Tags, first: &Label, second: &Label) -> bool
+        requires self_made { AreMade (length tags.now) self.now }
+        requires first_made { AreMade (length tags.now) first.now }
+        requires second_made { AreMade (length tags.now) second.now }
+        ensures { result ≡ flows tags.now self.now (union tags.now first.now second.now) }
+    {
+        // That parents are older than their tags, as `count` says, is what lets each tag be tested by itself.
+        let _ = tags.count();
+        flow_to_either(tags, &self.tags, &first.tags, &second.tags)
+    }
+
     /// The tags of this label that aren't below a tag of `of`: none of them exactly where this label flows to `of`.
     pub fn strip(&self, alloc: Global, tags: &Tags, of: &Label) -> Result<Self, OutOfMemory>
         requires self_made { AreMade (length tags.now) self.now }
@@ -108,6 +121,22 @@ fn is_below_some(tags: &Tags, tag: Tag, list: &[Tag]) -> bool
     ensures { result ≡ is_below_some tags.now tag list.now }
 {
     list.iter().any(|other| tags.is_below(tag, *other))
+}
+
+/// Whether each tag of a list is below some tag of one of two others.
+fn flow_to_either(tags: &Tags, list: &[Tag], first: &[Tag], second: &[Tag]) -> bool
+    ensures { result ≡ flows tags.now list.now (first.now ++ second.now) }
+{
+    list.iter()
+        .all(|tag| is_below_either(tags, *tag, first, second))
+}
+
+/// Whether a tag is below some tag of one of two lists.
+#[tactic(auto, using(crate::proofs::LabelLaws::below_either))]
+fn is_below_either(tags: &Tags, tag: Tag, first: &[Tag], second: &[Tag]) -> bool
+    ensures { result ≡ is_below_some tags.now tag (first.now ++ second.now) }
+{
+    is_below_some(tags, tag, first) || is_below_some(tags, tag, second)
 }
 
 /// Whether a tag is below a tag of a list that isn't itself.

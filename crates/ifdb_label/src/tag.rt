@@ -6,6 +6,8 @@ ghost use Rattle.ifdb_label.specs.Ancestors.{HasAbove, HasAncestors};
 use crate::OutOfMemory;
 use crate::rising::{insert, insert_all};
 use std::alloc::{AllocError, Global};
+use std::error::Error;
+use std::fmt;
 use std::marker::Model;
 
 /// A tag's number: tags are numbered from 0 in the order in which they were made.
@@ -41,6 +43,18 @@ pub enum TagFault {
     /// An allocation was refused.
     OutOfMemory,
 }
+
+impl fmt::Display for TagFault {
+    fn fmt<W: fmt::Write>(&self, f: &mut fmt::Formatter<W>) -> fmt::Result {
+        match self {
+            TagFault::UnknownTag => write!(f, "a parent is not made"),
+            TagFault::NotCompound => write!(f, "a parent is a plain tag"),
+            TagFault::OutOfMemory => write!(f, "out of memory"),
+        }
+    }
+}
+
+impl Error for TagFault {}
 
 impl From<AllocError> for TagFault {
     ghost use Rattle.std.specs.Prelude.{◌≡◌};

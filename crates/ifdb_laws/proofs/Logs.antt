@@ -16,7 +16,7 @@ use Rattle.ifdb_row.specs.declared.write.Write.{Write}
 use Rattle.ifdb_row.specs.Writes.{are_fitting, slots_of}
 use Rattle.ifdb_row.specs.Content.{after, rising, content_from}
 use Rattle.ifdb_row.specs.Sides.{rows_on, writes_on, are_on}
-use Rattle.ifdb_row.proofs.Lists.{filter_same_on}
+use Rattle.ifdb_value.proofs.Lists.{filter_same_on}
 use Rattle.ifdb_row.proofs.ContentLaws.{side_after, rising_after, all-after}
 use Rattle.ifdb_row.proofs.VerdictLaws.{slots_on, after_on}
 use Rattle.ifdb_bound.specs.declared.request.Change.TheVariants as change
@@ -24,6 +24,7 @@ use Rattle.ifdb_catalog.specs.Public.{Public, KnownTag, tags_of, changed}
 use Rattle.ifdb_model.specs.Log.{Entry, changes, commits, public_from, public_of, all_tags, commits_of, content_of, written_of}
 use Rattle.ifdb_model.specs.Session.{Txn, seen_in}
 use Rattle.ifdb_model.specs.Low.{is_inside_slot, if_any, keep_entry, keep, reindex_txn}
+use Rattle.ifdb_model.proofs.LogLaws.{public_from-append}
 use Rattle.ifdb_laws.proofs.Statements.{Widens}
 
 -- each commit of a log passes a test
@@ -208,13 +209,8 @@ tags_grow p (changes (change.Grant asker tag to) ∷ log) = tags_grow (changed p
 tags_grow p (changes (change.Revoke asker tag from) ∷ log) = tags_grow (changed p (change.Revoke asker tag from)) log
 tags_grow p (commits ws ∷ log) = tags_grow p log
 
-pub public_append : (p : Public) (a b : List Entry) → public_from p (a ++ b) ≡ public_from (public_from p a) b
-public_append p [] b = refl
-public_append p (changes c ∷ a) b = public_append (changed p c) a b
-public_append p (commits ws ∷ a) b = public_append p a b
-
 pub tags_append : (a b : List Entry) → all_tags (a ++ b) ≡ all_tags a ++ new_tags b
-tags_append a b = ap tags_of (public_append (public_of []) a b) ∙ tags_grow (public_of a) b
+tags_append a b = ap tags_of (public_from-append (public_of []) a b) ∙ tags_grow (public_of a) b
 
 pub tags_split : (b : ℕ) (log : List Entry) → all_tags log ≡ all_tags (take b log) ++ new_tags (drop b log)
 tags_split b log = ap all_tags (sym (take-append-drop b log)) ∙ tags_append (take b log) (drop b log)

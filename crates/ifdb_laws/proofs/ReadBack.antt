@@ -1,5 +1,6 @@
 -- Replies are read back from their bytes.
 use Rattle.std.proofs.Common.{◌≡◌, ℕ, ◌+◌, ◌%◌, ◌^◌, ◌<◌, Bool, true, false, List, [], ◌∷◌, ◌++◌, length, refl, sym, ap, ◌∙◌, arith, cond, eqb, ltb, Some}
+use Rattle.std.specs.Fmt.{digits}
 use Rattle.std.specs.Prelude.{codes, decimal, map, flat_map, not, slice_index_or}
 use Rattle.std.specs.List.{list_all}
 use Rattle.std.specs.Char.{is_ascii_digit}
@@ -8,7 +9,7 @@ use Rattle.std.proofs.lemmas.Bool.{false≢true, ltb-true}
 use Rattle.std.proofs.lemmas.Bool.Decides.{nat_tests}
 use Rattle.std.proofs.lemmas.Fmt.{decimal_injective, decimal_by_steps}
 use Rattle.std.proofs.lemmas.List.{append_assoc, append_cancel_left, length-map}
-use Rattle.ifdb_row.proofs.Lists.{all_append}
+use Rattle.std.proofs.lemmas.List.Folds.{list_all-append}
 use Rattle.ifdb_wire.specs.declared.fault.Fault.{Fault}
 use Rattle.ifdb_wire.specs.declared.fault.Fault.TheVariants as fault
 use Rattle.ifdb_wire.specs.declared.reply.Reply.{Reply}
@@ -32,7 +33,7 @@ mod_lt : (n : ℕ) → n % 10 < 10
 mod_lt n = grind (arith, nat_tests)
 
 digits_push : (ds : List ℕ) (n : ℕ) → are_digits ds ≡ true → are_digits (ds ++ (48 + n % 10) ∷ []) ≡ true
-digits_push ds n h = let one = last_digit (n % 10) (mod_lt n) in grind (arith, nat_tests, all_append is_ascii_digit ds ((48 + n % 10) ∷ []))
+digits_push ds n h = let one = last_digit (n % 10) (mod_lt n) in grind (arith, nat_tests, list_all-append is_ascii_digit ds ((48 + n % 10) ∷ []))
 
 decimal_digits : (n : ℕ) → n < 2 ^ 64 → are_digits (decimal n) ≡ true
 decimal_digits n lt = decimal_by_steps (λ n ds. are_digits ds ≡ true) (λ n lt. last_digit n lt) (λ n ds le h. digits_push ds n h) n lt
@@ -88,7 +89,7 @@ full_is n l more =
 full_line : (n : ℕ) (l : List ℕ) → n < 2 ^ 64 → is_line l ≡ true → is_line (full n l) ≡ true
 full_line n l lt h =
     let one = digits_line (decimal n) (decimal_digits n lt) in
-    grind (arith, nat_tests, all_append (λ b. not (eqb b 10)) (decimal n) (32 ∷ l))
+    grind (arith, nat_tests, list_all-append (λ b. not (eqb b 10)) (decimal n) (32 ∷ l))
 
 lines_reply : (n : ℕ) (ls : List (List ℕ)) (more : List ℕ) → n < 2 ^ 64 → list_all is_line ls ≡ true → lines_of (flat_map (line (Some n)) ls ++ more) ≡ map (full n) ls ++ lines_of more
 lines_reply n [] more lt h = refl
@@ -306,6 +307,7 @@ shows_memory [] = false
 shows_memory (l ∷ ls) = bytes_eq l (codes "ERR 20 OutOfMemory")
 
 fault_shows : (f : Fault) → shows_memory (fault_text f ∷ []) ≡ is_memory f
+unfolding digits
 fault_shows (fault.Syntax at) = refl
 fault_shows fault.NotHello = refl
 fault_shows fault.HelloTwice = refl

@@ -15,7 +15,7 @@ use Rattle.ifdb_row.specs.Writes.{is_fitting}
 use Rattle.ifdb_row.specs.Content.{after}
 use Rattle.ifdb_row.specs.Seen.{clash, candidate, candidates, first_slot}
 use Rattle.ifdb_row.specs.Sides.{are_alike, is_sided, is_sided_write, are_sided_writes}
-use Rattle.ifdb_row.proofs.Lists.{filter_all, all_from, all_filter}
+use Rattle.ifdb_value.proofs.Lists.{filter_passes, all_wider, all-filter}
 use Rattle.ifdb_row.proofs.SlotOrder.{slot_same, label_exact}
 use Rattle.ifdb_bound.specs.declared.schema.Schema.{Schema}
 use Rattle.ifdb_bound.specs.declared.schema.Foreign.{Foreign}
@@ -28,7 +28,8 @@ use Rattle.ifdb_catalog.specs.Public.{Public, tags_of, has_tags, table_at}
 use Rattle.ifdb_model.specs.Writes.{Written, Scene, values_at, and_slot, bound_parent, bound_parents, new_slot, new_write, inserted, insert_one, insert_all, matched, are_writable, assigned, is_assigned, rebound, updated, update_to, and_write, update_all, deletion, counted, update_matched, scene_of, writes_of, given_of}
 use Rattle.ifdb_model.specs.Low.{is_inside_slot}
 use Rattle.ifdb_model.specs.Crossing.{refs_of}
-use Rattle.ifdb_laws.proofs.Statements.{matched_all, Widens, within, are_good, put_all}
+use Rattle.ifdb_row.proofs.LiveLaws.{put_all}
+use Rattle.ifdb_laws.proofs.Statements.{matched_all, Widens, within, are_good}
 
 -- a row's slot and its parents pass
 abbrev pub is_whole : (Slot → Bool) → Row → Bool
@@ -168,29 +169,29 @@ module _ (p : Public) (rows : List Row) (label : List ℕ) (q : Slot → Bool) (
 sided_from_whole : (side : Slot → Bool) (r : Row) → is_whole side r ≡ true → is_sided side r ≡ true
 sided_from_whole side r h =
     let here : side r.slot ≡ true = grind (arith, nat_tests) in
-    all_from side (λ p. are_alike (side r.slot) (side p)) r.refs (λ p e. grind (arith, nat_tests)) (grind (arith, nat_tests))
+    all_wider side (λ p. are_alike (side r.slot) (side p)) r.refs (λ p e. grind (arith, nat_tests)) (grind (arith, nat_tests))
 
 pub written_from : (f g : Write → Bool) → ((w : Write) → f w ≡ true → g w ≡ true) → (o : Result Written Fault) → written_all f o ≡ true → written_all g o ≡ true
 written_from f g h (Err x) k = refl
-written_from f g h (Ok x) k = all_from f g x.writes h k
+written_from f g h (Ok x) k = all_wider f g x.writes h k
 
 module _ (tags : List MadeTag) (level : List ℕ) (p : Public) (w : Widens (tags_of p) tags) where
   parent_inside : (rows : List Row) (label given : List ℕ) → flows tags label level ≡ true → flows tags given level ≡ true → (values : List Value) (f : Foreign)
       → one_of (is_inside_slot tags level) (bound_parent (scene_of p rows label given) values f) ≡ true
   parent_inside rows label given h k values f =
       let test : Row → Bool = λ r. is_of_key f.parent (values_at values f.columns) r.slot && candidate (tags_of p) r.slot.label label given in
-      first_all (is_inside_slot tags level) (filter test rows) (all_from test (λ (r : Row). is_inside_slot tags level r.slot) (filter test rows)
-      (λ r e. within tags level (tags_of p) w r.slot.label (union (tags_of p) label given) (union_flows tags (tags_of p) label given level h k) (grind (arith, nat_tests))) (filter_all test rows))
+      first_all (is_inside_slot tags level) (filter test rows) (all_wider test (λ (r : Row). is_inside_slot tags level r.slot) (filter test rows)
+      (λ r e. within tags level (tags_of p) w r.slot.label (union (tags_of p) label given) (union_flows tags (tags_of p) label given level h k) (grind (arith, nat_tests))) (filter_passes test rows))
 
   refs_inside : (label : List ℕ) → flows tags label level ≡ true → (r : Row) → is_sided (is_inside_slot tags level) r ≡ true → r.slot.label ≡ label → list_all (is_inside_slot tags level) r.refs ≡ true
   refs_inside label h r s e =
       let here : is_inside_slot tags level r.slot ≡ true = ap (λ x. flows tags x level) e ∙ h in
-      all_from (λ q. are_alike (is_inside_slot tags level r.slot) (is_inside_slot tags level q)) (is_inside_slot tags level) r.refs (λ q i. grind (arith, nat_tests)) s
+      all_wider (λ q. are_alike (is_inside_slot tags level r.slot) (is_inside_slot tags level q)) (is_inside_slot tags level) r.refs (λ q i. grind (arith, nat_tests)) s
 
   pub writes_sided : (asker : ℕ) (rows : List Row) (label : List ℕ) (b : Bound) → flows tags label level ≡ true → flows tags (given_of b) level ≡ true → list_all (is_sided (is_inside_slot tags level)) rows ≡ true
       → written_all (is_sided_write (is_inside_slot tags level)) (writes_of p asker rows label b) ≡ true
   writes_sided asker rows label b h k s =
-      written_from (is_whole_write (is_inside_slot tags level)) (is_sided_write (is_inside_slot tags level)) (λ v. all_from (is_whole (is_inside_slot tags level)) (is_sided (is_inside_slot tags level)) (option_to_list v.row) (sided_from_whole (is_inside_slot tags level)))
+      written_from (is_whole_write (is_inside_slot tags level)) (is_sided_write (is_inside_slot tags level)) (λ v. all_wider (is_whole (is_inside_slot tags level)) (is_sided (is_inside_slot tags level)) (option_to_list v.row) (sided_from_whole (is_inside_slot tags level)))
       (writes_of p asker rows label b)
       (writes_whole p rows label (is_inside_slot tags level) (λ t e. ap (λ y. flows tags y level) e ∙ h) (is_sided (is_inside_slot tags level)) (refs_inside label h) s asker b (parent_inside rows label (given_of b) h k))
 
@@ -200,8 +201,8 @@ pub writes_from_rows : (q : Slot → Bool) (p : Public) (asker : ℕ) (rows : Li
 writes_from_rows q p asker rows label b at s =
     writes_whole p rows label q at (is_whole q) (λ r i e. grind (arith, nat_tests)) s asker b
     (λ values f. first_all q (candidates (tags_of p) rows f.parent (values_at values f.columns) label (given_of b))
-    (all_filter (λ (r : Row). is_of_key f.parent (values_at values f.columns) r.slot && candidate (tags_of p) r.slot.label label (given_of b)) (λ (r : Row). q r.slot) rows
-    (all_from (is_whole q) (λ (r : Row). q r.slot) rows (λ r i. grind (arith, nat_tests)) s)))
+    (all-filter (λ (r : Row). is_of_key f.parent (values_at values f.columns) r.slot && candidate (tags_of p) r.slot.label label (given_of b)) (λ (r : Row). q r.slot) rows
+    (all_wider (is_whole q) (λ (r : Row). q r.slot) rows (λ r i. grind (arith, nat_tests)) s)))
 
 -- ---- outside
 
@@ -210,7 +211,7 @@ outside_row side s None f h k = refl
 outside_row side s (Some r) f h k =
     let here : side r.slot ≡ false = ap side (slot_same r.slot s f) ∙ h in
     let one = none r.refs k in
-    let two : is_sided side r ≡ true = all_from (λ p. not (side p)) (λ p. are_alike (side r.slot) (side p)) r.refs (λ p e. grind (arith, nat_tests)) one in
+    let two : is_sided side r ≡ true = all_wider (λ p. not (side p)) (λ p. are_alike (side r.slot) (side p)) r.refs (λ p e. grind (arith, nat_tests)) one in
     grind (arith, nat_tests) where
       none : (refs : List Slot) → list_any side refs ≡ false → list_all (λ p. not (side p)) refs ≡ true
       none [] e = refl

@@ -15,9 +15,10 @@ use Rattle.ifdb_row.specs.Writes.{is_fitting, are_fitting, put}
 use Rattle.ifdb_row.specs.Content.{after, rising}
 use Rattle.ifdb_row.specs.Seen.{see, clash, candidate, first_slot, parent_of}
 use Rattle.ifdb_row.specs.Sides.{rows_on, are_on}
-use Rattle.ifdb_row.proofs.Lists.{filter_filter, any_of_filter, map_same, map_same_on, all_from, all_filter}
+use Rattle.ifdb_value.proofs.Lists.{filter-filter, any_within_filter, map_same, map_same_on, all_wider, all-filter}
 use Rattle.ifdb_row.proofs.VerdictLaws.{after_on}
 use Rattle.ifdb_row.proofs.SlotOrder.{slot_itself, label_exact}
+use Rattle.ifdb_row.proofs.LiveLaws.{put_all}
 use Rattle.ifdb_bound.specs.declared.schema.Schema.{Schema}
 use Rattle.ifdb_bound.specs.declared.schema.Foreign.{Foreign}
 use Rattle.ifdb_bound.specs.declared.schema.ViewDef.{ViewDef}
@@ -50,7 +51,7 @@ module _ (tags : List MadeTag) (level : List ℕ) (older : List MadeTag) (w : Wi
   within a b h e = w.trans a b level (w.mono a b e) h
 
   pub see_alike : (rows : List Row) (label : List ℕ) → flows tags label level ≡ true → see older (rows_on (is_inside_slot tags level) rows) label ≡ see older rows label
-  see_alike rows label h = filter_filter (λ (r : Row). is_inside_slot tags level r.slot) (λ (r : Row). flows older r.slot.label label) rows (λ r e. within r.slot.label label h e)
+  see_alike rows label h = filter-filter (λ (r : Row). is_inside_slot tags level r.slot) (λ (r : Row). flows older r.slot.label label) rows (λ r e. within r.slot.label label h e)
 
   pub table_alike : (rows : List Row) (t : ℕ) (label : List ℕ) → flows tags label level ≡ true → table_rows older (rows_on (is_inside_slot tags level) rows) t label ≡ table_rows older rows t label
   table_alike rows t label h = ap (λ x. map source_row (of_table t x)) (see_alike rows label h)
@@ -60,12 +61,12 @@ module _ (tags : List MadeTag) (level : List ℕ) (older : List MadeTag) (w : Wi
   base_alike rows label h (relation.View v) = refl
 
   pub clash_alike : (rows : List Row) (table : ℕ) (key : List Value) (label : List ℕ) → flows tags label level ≡ true → clash older (rows_on (is_inside_slot tags level) rows) table key label ≡ clash older rows table key label
-  clash_alike rows table key label h = any_of_filter (λ (r : Row). is_inside_slot tags level r.slot) (λ (r : Row). is_of_key table key r.slot && flows older r.slot.label label) rows
+  clash_alike rows table key label h = any_within_filter (λ (r : Row). is_inside_slot tags level r.slot) (λ (r : Row). is_of_key table key r.slot && flows older r.slot.label label) rows
       (λ r e. within r.slot.label label h (grind (arith, nat_tests)))
 
   pub parent_alike : (rows : List Row) (table : ℕ) (key : List Value) (label given : List ℕ) → flows tags label level ≡ true → flows tags given level ≡ true
       → parent_of older (rows_on (is_inside_slot tags level) rows) table key label given ≡ parent_of older rows table key label given
-  parent_alike rows table key label given h k = ap first_slot (filter_filter (λ (r : Row). is_inside_slot tags level r.slot) (λ (r : Row). is_of_key table key r.slot && candidate older r.slot.label label given) rows
+  parent_alike rows table key label given h k = ap first_slot (filter-filter (λ (r : Row). is_inside_slot tags level r.slot) (λ (r : Row). is_of_key table key r.slot && candidate older r.slot.label label given) rows
       (λ r e. within r.slot.label (union older label given) (union_flows tags older label given level h k) (grind (arith, nat_tests))))
 
 -- ---- SELECT
@@ -108,10 +109,6 @@ is_good_result side (Ok ws) = are_good side ws
 abbrev pub is_good : (Slot → Bool) → Result Written Fault → Bool
 is_good side (Err f) = true
 is_good side (Ok x) = are_good side x.writes
-
-pub put_all : (q : Write → Bool) (v : Write) (ws : List Write) → q v ≡ true → list_all q ws ≡ true → list_all q (put v ws) ≡ true
-put_all q v [] h k = grind (arith, nat_tests)
-put_all q v (x ∷ ws) h k = grind (arith, nat_tests, put_all q v ws h)
 
 good_put : (side : Slot → Bool) (v : Write) (ws : List Write) → is_fitting v.slot v.row ≡ true → side v.slot ≡ true → are_good side ws ≡ true → are_good side (put v ws) ≡ true
 good_put side v ws f h k =
@@ -226,7 +223,7 @@ matched_alike tags level older w rows t c label h = ap (filter (is_matched t c))
 
 -- what holds of all rows holds of those that are matched
 pub matched_all : (q : Row → Bool) (tags : List MadeTag) (rows : List Row) (t : ℕ) (c : Option BoundCond) (label : List ℕ) → list_all q rows ≡ true → list_all q (matched tags rows t c label) ≡ true
-matched_all q tags rows t c label h = all_filter (is_matched t c) q (see tags rows label) (all_filter (λ (r : Row). flows tags r.slot.label label) q rows h)
+matched_all q tags rows t c label h = all-filter (is_matched t c) q (see tags rows label) (all-filter (λ (r : Row). flows tags r.slot.label label) q rows h)
 
 module _ (tags : List MadeTag) (level : List ℕ) (p : Public) (w : Widens (tags_of p) tags) (asker : ℕ) (rows : List Row) (label : List ℕ) (r : rising rows ≡ true) (h : flows tags label level ≡ true) where
   pub writes_alike : (b : Bound) → flows tags (given_of b) level ≡ true → writes_of p asker (rows_on (is_inside_slot tags level) rows) label b ≡ writes_of p asker rows label b
@@ -256,7 +253,7 @@ module _ (p : Public) (asker : ℕ) (rows : List Row) (label : List ℕ) (side :
   or_refused false o f h = refl
 
   writable_on : (rs : List Row) → are_writable label rs ≡ true → list_all (λ (r : Row). side r.slot) rs ≡ true
-  writable_on rs = all_from (λ (r : Row). is_same_label r.slot.label label) (λ (r : Row). side r.slot) rs (λ r e. at r.slot (label_exact r.slot.label label e))
+  writable_on rs = all_wider (λ (r : Row). is_same_label r.slot.label label) (λ (r : Row). side r.slot) rs (λ r e. at r.slot (label_exact r.slot.label label e))
 
   pub writes_good : (b : Bound) → is_good side (writes_of p asker rows label b) ≡ true
   writes_good (bound.Insert t values given) = or_refused (has_tags p asker given) (counted (length values) (insert_all (scene_of p rows label given) t (table_at p t) values (Ok []))) fault.NoAuthority

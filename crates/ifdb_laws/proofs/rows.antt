@@ -3,3 +3,5 @@ pub mod Keys
 pub mod Runs
 pub mod Fresh
 pub mod Apart
+pub mod Fits
+pub mod Fitting

@@ -6,7 +6,7 @@ use Rattle.ifdb_row.specs.declared.row.Row.{Row}
 use Rattle.ifdb_row.specs.declared.write.Write.{Write}
 use Rattle.ifdb_row.specs.Writes.{slots_of}
 use Rattle.ifdb_row.specs.Content.{content_from}
-use Rattle.ifdb_row.specs.Verdict.{Commit}
+use Rattle.ifdb_row.specs.declared.commit.Commit.{Commit}
 use Rattle.ifdb_bound.specs.declared.request.Change.{Change}
 use Rattle.ifdb_catalog.specs.Public.{Public, opening as first_public, tags_of, changed}
 

@@ -1,7 +1,13 @@
 // Writes, each slot once.
-ghost use Rattle.std.specs.Prelude.{◌≡◌, [], length, slice_get};
+ghost use Rattle.std.specs.Prelude.{◌≡◌, ◌≤◌, [], length, slice_get, IsTrue, OnErr, OnOk};
+ghost use Rattle.std.specs.List.{list_any};
 ghost use Rattle.std.specs.Option.{option_copied};
+ghost use Rattle.ifdb_row.specs.Slots.{is_same_slot, slot_lt};
+ghost use Rattle.ifdb_row.specs.Writes.{are_fitting, are_rising, is_fitting, is_written, put};
+ghost use Rattle.ifdb_row.specs.Reach.{reach};
 
+use crate::OutOfMemory;
+use crate::slot::Slot;
 use crate::write::Write;
 use std::alloc::Global;
 use std::marker::Model;
@@ -35,6 +41,15 @@ impl Writes {
         }
     }
 
+    /// The writes of a list that rises by slots, each slot once. Takes no memory.
+    pub fn from_vec(items: Vec<Write>) -> Self
+        requires rising { IsTrue (are_rising items.items) }
+        requires fitting { IsTrue (are_fitting items.items) }
+        ensures { result ≡ items.items }
+    {
+        Writes { items }
+    }
+
     /// How many slots are written.
     pub fn len(&self) -> usize
         ensures { result ≡ length self.now }
@@ -51,8 +66,68 @@ impl Writes {
 
     /// The writes, in the order of their slots.
     pub fn items(&self) -> &[Write]
-        ensures { result.now ≡ self.now }
+        ensures items { result.now ≡ self.now }
+        ensures rising { IsTrue (are_rising result.now) }
+        ensures fitting { IsTrue (are_fitting result.now) }
     {
         self.items.as_slice()
+    }
+
+    /// Whether a slot is written. Found by binary search.
+    #[tactic(auto, using(crate::proofs::Children::written_there))]
+    pub fn is_written(&self, slot: &Slot) -> bool
+        ensures { result ≡ is_written self.now slot.now }
+    {
+        let at = place_of(&self.items, slot);
+        is_at(&self.items, at, slot)
+    }
+
+    /// Adds a write in place of an earlier one of its slot. Where an allocation is refused, the writes are as before.
+    ///
+    /// Finds the place by binary search, and moves the writes behind it.
+    #[tactic(auto, using(crate::proofs::Sorted::put_rises, crate::proofs::Sorted::put_fits))]
+    pub fn put(&mut self, write: Write) -> Result<(), OutOfMemory>
+        requires { IsTrue (is_fitting write.slot write.row) }
+        ensures ok { OnOk result (self.new ≡ put write self.old) }
+        ensures err { OnErr result (self.new ≡ self.old) }
+    {
+        put(&mut self.items, write)?;
+        Ok(())
+    }
+}
+
+/// Adds a write in place of an earlier one of its slot. Where an allocation is refused, the writes are as before.
+fn put(items: &mut Vec<Write>, write: Write) -> Result<(), OutOfMemory>
+    requires { IsTrue (are_rising items.old.items) }
+    ensures ok { OnOk result (items.new.items ≡ put write items.old.items) }
+    ensures err { OnErr result (items.new.items ≡ items.old.items) }
+{
+    let at = place_of(items, &write.slot);
+    if is_at(items, at, &write.slot) {
+        items[at] = write;
+    } else {
+        items.insert(at, write)?;
+    }
+    Ok(())
+}
+
+/// How many writes stand before a slot.
+fn place_of(items: &[Write], slot: &Slot) -> usize
+    requires { IsTrue (are_rising items.now) }
+    ensures place { result ≡ reach (λ w. slot_lt w.slot slot.now) items.now }
+    ensures within { result ≤ length items.now }
+{
+    items.partition_point(|other| other.slot.is_before(slot))
+}
+
+/// Whether a write of the slot stands at its place.
+fn is_at(items: &[Write], at: usize, slot: &Slot) -> bool
+    requires rising { IsTrue (are_rising items.now) }
+    requires place { at ≡ reach (λ w. slot_lt w.slot slot.now) items.now }
+    ensures { result ≡ list_any (λ w. is_same_slot slot.now w.slot) items.now }
+{
+    match items.get(at) {
+        Some(other) => slot.is_same(&other.slot),
+        None => false,
     }
 }

@@ -11,7 +11,7 @@ ghost use Rattle.ifdb_script.specs.Run.{RanWhole, RanFront, RanCut};
 ghost use Rattle.ifdb_script.specs.Steps.{Does, Stepped};
 
 use ifdb_db::Room;
-use ifdb_io::{Failed, Line, LineFault, LineReader, Sink, Source, write_all};
+use ifdb_io::{Failed, LONGEST_LINE, Line, LineFault, LineReader, Sink, Source, write_all};
 use ifdb_wire::{Fault, Out, Reply, StepLine, step_line};
 use std::alloc::Global;
 
@@ -129,7 +129,7 @@ fn run_lines<R: Source, W: Sink>(
 
 // Does the step of a line, and puts what is to be written for it.
 fn step(room: &mut Room, line: &[u8], out: &mut Out)
-    requires { length line.now ≤ 65535 }
+    requires { length line.now ≤ LONGEST_LINE }
     ensures { Stepped read_line room.old room.new (line_steps line.now) out.new.text }
 {
     do_step(room, step_line(line), out);

@@ -1,7 +1,7 @@
 //! Values, names and their lists: what every part of the database speaks of.
 //!
-//! Contracts see a `Word` and a `Name` as their bytes, a `Sequence` as a list and a `Box` as what it holds, so that
-//! trees of them are plain data: two with the same parts are equal.
+//! Contracts see a `Word` and a `Name` as their bytes, a `Sequence` as a list, and a `Box` and a `Shared` as what they
+//! hold, so that trees of them are plain data: two with the same parts are equal.
 #![tactic(auto)]
 
 mod arithmetic;
@@ -10,6 +10,7 @@ mod column;
 mod ids;
 mod name;
 mod sequence;
+mod shared;
 mod value;
 mod word;
 
@@ -17,8 +18,9 @@ pub use arithmetic::{add, mul, sub};
 pub use boxed::Box;
 pub use column::{Column, Columns, Names};
 pub use ids::{Principal, TableId, ViewId};
-pub use name::{Name, NameFault};
+pub use name::{LONGEST_NAME, Name, NameFault};
 pub use sequence::Sequence;
+pub use shared::Shared;
 pub use std::alloc::AllocError as OutOfMemory;
 pub use value::{Compare, Value, ValueKind, ValueRow, ValueRows};
 pub use word::Word;

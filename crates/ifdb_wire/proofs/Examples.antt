@@ -5,6 +5,7 @@ use Rattle.std.specs.Prelude.{codes, decimal, nat_lt}
 use Rattle.std.specs.Fmt.{digits}
 use Rattle.ifdb_value.specs.declared.value.Value.{Value}
 use Rattle.ifdb_value.specs.declared.value.Value.TheVariants as value
+use Rattle.ifdb_io.specs.declared.lines.TheConstants.{LONGEST_LINE}
 use Rattle.ifdb_wire.specs.declared.fault.Fault.{Fault}
 use Rattle.ifdb_wire.specs.declared.fault.Fault.TheVariants as fault
 use Rattle.ifdb_wire.specs.declared.reply.Reply.TheVariants as reply
@@ -146,11 +147,11 @@ shown n = codes "1 SHOW LABEL" ++ spaces n
 -- of 65,535 bytes
 longest : script_line (shown 65523) ≡ short_line (without_return (shown 65523))
 longest =
-    let fits : nat_lt 65535 (length (shown 65523)) ≡ false = grind (arith, nat_tests, length-spaces 65523) in
+    let fits : nat_lt LONGEST_LINE (length (shown 65523)) ≡ false = grind (arith, nat_tests, length-spaces 65523) in
     ap (λ (b : Bool). cond b overlong (short_line (without_return (shown 65523)))) fits
 
 -- one byte more
 too_long : script_line (shown 65524) ≡ overlong
 too_long =
-    let passes : nat_lt 65535 (length (shown 65524)) ≡ true = grind (arith, nat_tests, length-spaces 65524) in
+    let passes : nat_lt LONGEST_LINE (length (shown 65524)) ≡ true = grind (arith, nat_tests, length-spaces 65524) in
     ap (λ (b : Bool). cond b overlong (short_line (without_return (shown 65524)))) passes

@@ -5,6 +5,7 @@ use Rattle.std.specs.List.{list_all}
 use Rattle.std.specs.Str.{bytes_eq}
 use Rattle.std.specs.Str.Parse.{digits_value}
 use Rattle.std.specs.Char.{is_ascii_digit}
+use Rattle.ifdb_io.specs.declared.lines.TheConstants.{LONGEST_LINE}
 use Rattle.ifdb_wire.specs.declared.script.StepLine.{StepLine}
 use Rattle.ifdb_wire.specs.declared.script.StepLine.TheVariants as read
 
@@ -52,7 +53,7 @@ short_line line =
 
 -- a line without its newline; its `\r` counts in its length
 abbrev pub script_line : List ℕ → ScriptLine
-script_line line = if nat_lt 65535 (length line) then overlong else short_line (without_return line)
+script_line line = if nat_lt LONGEST_LINE (length line) then overlong else short_line (without_return line)
 
 -- what a line that was read asks for
 abbrev pub asked_by : StepLine → ScriptLine

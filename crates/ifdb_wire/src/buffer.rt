@@ -1,6 +1,6 @@
 // The text of one reply.
 ghost use Rattle.std.specs.Prelude.{◌≡◌, ◌+◌, ◌≤◌, ◌++◌, ◌∷◌, [], true, false, IfOk, OnOk, None, length, codes, decimal};
-ghost use Rattle.ifdb_wire.specs.Fault.{fault_text};
+ghost use Rattle.ifdb_wire.specs.Fault.{fault_text, place_text};
 ghost use Rattle.ifdb_wire.specs.Text.{line, line_head, rows_head, reply_text, IsUnbounded};
 
 use crate::fault::Fault;
@@ -25,13 +25,14 @@ pub struct Out {
 
 impl Model for Out {
     ghost use Rattle.std.specs.Prelude.{◌≤◌, vec_capacity};
+    ghost use Rattle.ifdb_wire.specs.declared.buffer.TheConstants.{ROOM};
     ghost use Rattle.ifdb_wire.specs.Spoken.{Spoken};
 
     ghost Value = { Spoken };
 
     ghost view = { λ out. record { text = out.text.items; session = out.session } };
 
-    ghost invariant = { λ out. 128 ≤ vec_capacity out.text };
+    ghost invariant = { λ out. ROOM ≤ vec_capacity out.text };
 }
 
 impl Out {
@@ -117,9 +118,26 @@ impl Out {
         ensures text { self.new.text ≡ line self.old.session (fault_text fault) }
         ensures session { self.new.session ≡ self.old.session }
     {
-        match fault {
-            Fault::Syntax(at) => self.put_numbered(fault.words(), at as u64),
-            _ => self.put_line(fault.words()),
+        let (number, name) = fault.entry();
+        self.put_head();
+        self.add(b"ERR ");
+        self.add_number(u64::from(number));
+        self.add(b" ");
+        self.add(name.as_bytes());
+        self.add_place(fault);
+        self.add(b"\n");
+    }
+
+    // The place of Syntax, behind a space.
+    fn add_place(&mut self, fault: Fault)
+        requires { length self.old.text + 21 ≤ ROOM }
+        ensures text { self.new.text ≡ self.old.text ++ place_text fault }
+        ensures session { self.new.session ≡ self.old.session }
+        ensures short { length self.new.text ≤ length self.old.text + 21 }
+    {
+        if let Fault::Syntax(at) = fault {
+            self.add(b" ");
+            self.add_number(at as u64);
         }
     }
 
@@ -174,7 +192,7 @@ impl Out {
 
     // Adds a number, for which there is room.
     fn add_number(&mut self, number: u64)
-        requires { length self.old.text + 20 ≤ 128 }
+        requires { length self.old.text + 20 ≤ ROOM }
         ensures text { self.new.text ≡ self.old.text ++ decimal number }
         ensures session { self.new.session ≡ self.old.session }
         ensures short { length self.new.text ≤ length self.old.text + 20 }
@@ -185,7 +203,7 @@ impl Out {
 
     // Adds bytes for which there is room.
     fn add(&mut self, bytes: &[u8])
-        requires { length self.old.text + length bytes.now ≤ 128 }
+        requires { length self.old.text + length bytes.now ≤ ROOM }
         ensures text { self.new.text ≡ self.old.text ++ bytes.now }
         ensures session { self.new.session ≡ self.old.session }
         ensures len { length self.new.text ≡ length self.old.text + length bytes.now }

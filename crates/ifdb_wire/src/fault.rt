@@ -1,8 +1,10 @@
 // Refusals.
-ghost use Rattle.std.specs.Prelude.{◌≡◌, ◌≤◌, ◌++◌, length};
-ghost use Rattle.ifdb_wire.specs.Fault.{number_of, fault_text, place_text};
+ghost use Rattle.std.specs.Prelude.{◌≡◌, ◌≤◌, length};
+ghost use Rattle.ifdb_wire.specs.Fault.{number_of, name_of};
 
 use std::alloc::AllocError;
+use std::error::Error;
+use std::fmt;
 
 /// Why a request was refused. A refused request changes nothing, but for a refused COMMIT, which ends its transaction.
 #[derive(Clone, Copy, Debug, PartialEq, Eq)]
@@ -70,75 +72,66 @@ impl Fault {
     pub fn number(&self) -> u8
         ensures { result ≡ number_of self.now }
     {
-        match self {
-            Fault::Syntax(_) => 1,
-            Fault::NotHello => 2,
-            Fault::HelloTwice => 3,
-            Fault::BadKey => 4,
-            Fault::Taken => 5,
-            Fault::UnknownName => 6,
-            Fault::LabelNotEmpty => 7,
-            Fault::NoAuthority => 8,
-            Fault::InTransaction => 9,
-            Fault::NoTransaction => 10,
-            Fault::TypeMismatch => 11,
-            Fault::WriteLabel => 12,
-            Fault::DuplicateKey => 13,
-            Fault::NoReference => 14,
-            Fault::OutOfRange => 15,
-            Fault::CommitLabel => 16,
-            Fault::Conflict => 17,
-            Fault::BrokenReference => 18,
-            Fault::StillReferenced => 19,
-            Fault::OutOfMemory => 20,
-            Fault::TooLong => 21,
-            Fault::Limit => 22,
-            Fault::NotGranted => 23,
-            Fault::KeyColumn => 24,
-            Fault::NotCompound => 25,
-            Fault::NotATable => 26,
-            Fault::ViewAuthority => 27,
-            Fault::NoSession => 28,
-        }
+        self.entry().0
     }
 
-    /// The text of the fault, without the place of Syntax.
-    pub(crate) fn words(&self) -> &'static [u8]
-        ensures text { fault_text self.now ≡ result.now ++ place_text self.now }
-        ensures short { length result.now ≤ 32 }
+    /// The name of the fault in replies.
+    pub fn name(&self) -> &'static str
+        ensures { result.now ≡ name_of self.now }
+    {
+        self.entry().1
+    }
+
+    // The number and the name: the one table of them.
+    pub(crate) fn entry(&self) -> (u8, &'static str)
+        ensures number { result.0 ≡ number_of self.now }
+        ensures name { result.1.now ≡ name_of self.now }
+        ensures short { length result.1.now ≤ 32 }
     {
         match self {
-            Fault::Syntax(_) => b"ERR 1 Syntax ",
-            Fault::NotHello => b"ERR 2 NotHello",
-            Fault::HelloTwice => b"ERR 3 HelloTwice",
-            Fault::BadKey => b"ERR 4 BadKey",
-            Fault::Taken => b"ERR 5 Taken",
-            Fault::UnknownName => b"ERR 6 UnknownName",
-            Fault::LabelNotEmpty => b"ERR 7 LabelNotEmpty",
-            Fault::NoAuthority => b"ERR 8 NoAuthority",
-            Fault::InTransaction => b"ERR 9 InTransaction",
-            Fault::NoTransaction => b"ERR 10 NoTransaction",
-            Fault::TypeMismatch => b"ERR 11 TypeMismatch",
-            Fault::WriteLabel => b"ERR 12 WriteLabel",
-            Fault::DuplicateKey => b"ERR 13 DuplicateKey",
-            Fault::NoReference => b"ERR 14 NoReference",
-            Fault::OutOfRange => b"ERR 15 OutOfRange",
-            Fault::CommitLabel => b"ERR 16 CommitLabel",
-            Fault::Conflict => b"ERR 17 Conflict",
-            Fault::BrokenReference => b"ERR 18 BrokenReference",
-            Fault::StillReferenced => b"ERR 19 StillReferenced",
-            Fault::OutOfMemory => b"ERR 20 OutOfMemory",
-            Fault::TooLong => b"ERR 21 TooLong",
-            Fault::Limit => b"ERR 22 Limit",
-            Fault::NotGranted => b"ERR 23 NotGranted",
-            Fault::KeyColumn => b"ERR 24 KeyColumn",
-            Fault::NotCompound => b"ERR 25 NotCompound",
-            Fault::NotATable => b"ERR 26 NotATable",
-            Fault::ViewAuthority => b"ERR 27 ViewAuthority",
-            Fault::NoSession => b"ERR 28 NoSession",
+            Fault::Syntax(_) => (1, "Syntax"),
+            Fault::NotHello => (2, "NotHello"),
+            Fault::HelloTwice => (3, "HelloTwice"),
+            Fault::BadKey => (4, "BadKey"),
+            Fault::Taken => (5, "Taken"),
+            Fault::UnknownName => (6, "UnknownName"),
+            Fault::LabelNotEmpty => (7, "LabelNotEmpty"),
+            Fault::NoAuthority => (8, "NoAuthority"),
+            Fault::InTransaction => (9, "InTransaction"),
+            Fault::NoTransaction => (10, "NoTransaction"),
+            Fault::TypeMismatch => (11, "TypeMismatch"),
+            Fault::WriteLabel => (12, "WriteLabel"),
+            Fault::DuplicateKey => (13, "DuplicateKey"),
+            Fault::NoReference => (14, "NoReference"),
+            Fault::OutOfRange => (15, "OutOfRange"),
+            Fault::CommitLabel => (16, "CommitLabel"),
+            Fault::Conflict => (17, "Conflict"),
+            Fault::BrokenReference => (18, "BrokenReference"),
+            Fault::StillReferenced => (19, "StillReferenced"),
+            Fault::OutOfMemory => (20, "OutOfMemory"),
+            Fault::TooLong => (21, "TooLong"),
+            Fault::Limit => (22, "Limit"),
+            Fault::NotGranted => (23, "NotGranted"),
+            Fault::KeyColumn => (24, "KeyColumn"),
+            Fault::NotCompound => (25, "NotCompound"),
+            Fault::NotATable => (26, "NotATable"),
+            Fault::ViewAuthority => (27, "ViewAuthority"),
+            Fault::NoSession => (28, "NoSession"),
         }
     }
 }
+
+/// The name, and behind Syntax the place.
+impl fmt::Display for Fault {
+    fn fmt<W: fmt::Write>(&self, f: &mut fmt::Formatter<W>) -> fmt::Result {
+        match self {
+            Fault::Syntax(at) => write!(f, "{} at byte {at}", self.name()),
+            _ => write!(f, "{}", self.name()),
+        }
+    }
+}
+
+impl Error for Fault {}
 
 impl From<AllocError> for Fault {
     ghost use Rattle.std.specs.Prelude.{◌≡◌};

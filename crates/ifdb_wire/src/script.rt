@@ -4,6 +4,8 @@ ghost use Rattle.std.specs.Option.{ForSome};
 ghost use Rattle.ifdb_wire.specs.Script.{script_line, short_line, split_at, asks_of, without_return, session_number, digits_number};
 ghost use Rattle.ifdb_wire.specs.Script.{asked_by, IsNumbered, IsSessionNumber};
 
+use ifdb_io::LONGEST_LINE;
+
 /// A line of a script that isn't too long.
 #[derive(Clone, Copy, Debug, PartialEq, Eq)]
 pub enum StepLine<'a> {
@@ -20,7 +22,7 @@ pub enum StepLine<'a> {
 /// What a line without its newline asks for, once one `\r` at its end is dropped. Takes no memory. In time the length of what stands before the
 /// first space.
 pub fn step_line(line: &[u8]) -> StepLine<'_>
-    requires { length line.now ≤ 65535 }
+    requires { length line.now ≤ LONGEST_LINE }
     ensures step { asked_by result ≡ script_line line.now }
     ensures numbered { IsNumbered result }
 {

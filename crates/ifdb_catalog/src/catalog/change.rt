@@ -2,7 +2,6 @@
 ghost use Rattle.std.specs.Prelude.{◌≡◌, ◌↔◌, ◌⊎◌, ◌++◌, ◌∷◌, [], Some, None, Err, OnOk, OnErr, IfOk, IfErr, IsTrue, length};
 ghost use Rattle.std.specs.Option.{is_some};
 ghost use Rattle.ifdb_label.specs.Tags.{AreMade};
-ghost use Rattle.ifdb_authority.specs.Authority.{holds_all};
 ghost use Rattle.ifdb_bound.specs.declared.request.Change.TheVariants as change;
 ghost use Rattle.ifdb_wire.specs.declared.fault.Fault.TheVariants.{NotGranted, OutOfMemory as NoMemory};
 ghost use Rattle.ifdb_catalog.specs.Public.{changed, has_tags, refusal};
@@ -10,9 +9,9 @@ ghost use Rattle.ifdb_catalog.specs.Fits.{change_fits, is_new};
 
 use super::Catalog;
 use crate::OutOfMemory;
-use ifdb_authority::{Authority, GrantFault};
+use ifdb_authority::GrantFault;
 use ifdb_bound::{Change, Schema, ViewDef};
-use ifdb_label::{Tag, TagKind, Tags};
+use ifdb_label::{Tag, TagKind};
 use ifdb_value::{Name, Principal, Word};
 use ifdb_wire::Fault;
 
@@ -101,24 +100,19 @@ impl Catalog {
         ensures refused { IfErr result (λ fault. (fault ≡ NoMemory) ⊎ (refusal self.old (change.View view) ≡ Some fault)) }
         ensures err { OnErr result (self.new ≡ self.old) }
     {
-        if !self.may_declassify(&view)? {
+        if !self.has_tags(view.owner, view.declassifying.tags())? {
             return Err(Fault::NoAuthority);
         }
         self.keep_view(view)?;
         Ok(())
     }
 
-    /// Whether a view's owner holds the tags that its rows no longer bear.
-    fn may_declassify(&self, view: &ViewDef) -> Result<bool, OutOfMemory>
-        requires { IsTrue (change_fits self.now (change.View view.now)) }
-        ensures { IfOk result (λ held. held ≡ has_tags self.now view.now.owner view.now.declassifying) }
+    /// Whether a principal holds each tag of a list. Costs what `Authority::holds` does for each.
+    pub fn has_tags(&self, principal: Principal, list: &[Tag]) -> Result<bool, OutOfMemory>
+        requires { AreMade (length self.now.tags) list.now }
+        ensures { IfOk result (λ held. held ≡ has_tags self.now principal list.now) }
     {
-        holds_all(
-            &self.authority,
-            &self.tags,
-            view.owner,
-            view.declassifying.tags(),
-        )
+        self.authority.holds_all(&self.tags, principal, list)
     }
 
     /// The next view.
@@ -158,27 +152,6 @@ impl Catalog {
         match self.authority.revoke(asker, tag, from) {
             Ok(()) => Ok(()),
             Err(_) => Err(Fault::NotGranted),
-        }
-    }
-}
-
-/// Whether a principal holds each tag of a list.
-fn holds_all(
-    authority: &Authority,
-    tags: &Tags,
-    p: Principal,
-    list: &[Tag],
-) -> Result<bool, OutOfMemory>
-    requires { AreMade (length tags.now) list.now }
-    ensures { IfOk result (λ held. held ≡ holds_all tags.now authority.now p list.now) }
-{
-    match list {
-        [] => Ok(true),
-        [tag, rest @ ..] => {
-            if !authority.holds(tags, p, *tag)? {
-                return Ok(false);
-            }
-            holds_all(authority, tags, p, rest)
         }
     }
 }

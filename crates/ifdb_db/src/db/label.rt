@@ -2,7 +2,6 @@
 ghost use Rattle.std.specs.Prelude.{◌≡◌, ◌++◌, ◌⊎◌, Ok, Err, IfOk, IfErr, IsTrue, OnOk, length, slice_index_or, string_bytes, []};
 ghost use Rattle.ifdb_label.specs.Tags.{AreMade};
 ghost use Rattle.ifdb_label.specs.Label.{strip};
-ghost use Rattle.ifdb_authority.specs.Authority.{holds_all};
 ghost use Rattle.ifdb_bound.specs.declared.request.Bound.TheVariants as b;
 ghost use Rattle.ifdb_bound.specs.Query.{label_names};
 ghost use Rattle.ifdb_wire.specs.declared.reply.Reply.TheVariants.{Done};
@@ -17,9 +16,8 @@ use super::Db;
 use super::binding::bind_label;
 use crate::OutOfMemory;
 use crate::session::Session;
-use ifdb_authority::Authority;
 use ifdb_catalog::Catalog;
-use ifdb_label::{Label, Tag, Tags};
+use ifdb_label::{Label, Tag};
 use ifdb_syntax::Request;
 use ifdb_value::{Principal, Word};
 use ifdb_wire::{Fault, Reply};
@@ -56,7 +54,7 @@ impl Db {
     {
         let tags = self.catalog.tags();
         let given_up = old.strip(self.alloc, tags, new)?;
-        holds_each(self.catalog.authority(), tags, asker, given_up.tags())
+        self.catalog.has_tags(asker, given_up.tags())
     }
 
     /// The names of the tags of the session's label.
@@ -65,27 +63,6 @@ impl Db {
     {
         let names = label_names(self.alloc, &self.catalog, session.label().tags())?;
         Ok(Reply::Label(names))
-    }
-}
-
-/// Whether a principal holds each tag of a list.
-fn holds_each(
-    authority: &Authority,
-    tags: &Tags,
-    principal: Principal,
-    list: &[Tag],
-) -> Result<bool, OutOfMemory>
-    requires { AreMade (length tags.now) list.now }
-    ensures { IfOk result (λ held. held ≡ holds_all tags.now authority.now principal list.now) }
-{
-    match list {
-        [] => Ok(true),
-        [tag, rest @ ..] => {
-            if !authority.holds(tags, principal, *tag)? {
-                return Ok(false);
-            }
-            holds_each(authority, tags, principal, rest)
-        }
     }
 }
 

@@ -15,7 +15,7 @@ use Rattle.ifdb_row.specs.Slots.{is_of_key}
 use Rattle.ifdb_row.specs.Writes.{is_fitting, are_fitting, is_written}
 use Rattle.ifdb_row.specs.Content.{after, live}
 use Rattle.ifdb_row.specs.Sides.{are_on}
-use Rattle.ifdb_row.proofs.Lists.{all_from}
+use Rattle.ifdb_value.proofs.Lists.{all_wider}
 use Rattle.ifdb_row.proofs.SlotOrder.{slot_same, slot_itself}
 use Rattle.ifdb_row.proofs.ContentLaws.{all-after}
 use Rattle.ifdb_row.proofs.LiveLaws.{all_live, brings, live_cases}
@@ -56,12 +56,12 @@ apart_one tags before ws f h x e =
     let came : brings ws x.slot ≡ true → live before x.slot || is_clear tags before (is_written ws) x.slot ≡ true = brought tags before ws ws x.slot h in
     let clear : is_clear tags before (is_written ws) x.slot ≡ true → list_all q (after before ws) ≡ true =
     λ i. all-after q before ws (given_written q ws ws f (λ s j. j) (λ r j. grind (arith, nat_tests)))
-    (all_from (λ (r : Row). not (shares_key tags r x.slot) || is_written ws r.slot) q before (λ r j. grind (arith, nat_tests)) i) in
+    (all_wider (λ (r : Row). not (shares_key tags r x.slot) || is_written ws r.slot) q before (λ r j. grind (arith, nat_tests)) i) in
     grind (arith, nat_tests, cases, came, clear)
 
 fresh_apart : (tags : List MadeTag) (before : List Row) (ws : List Write) → are_fitting ws ≡ true → are_fresh tags before ws ≡ true → are_apart tags before ws ≡ true
 fresh_apart tags before ws f h =
-    all_from (λ (x : Row). live (after before ws) x.slot) (is_apart tags before ws (after before ws)) (after before ws) (apart_one tags before ws f h) (all_live (after before ws))
+    all_wider (λ (x : Row). live (after before ws) x.slot) (is_apart tags before ws (after before ws)) (after before ws) (apart_one tags before ws f h) (all_live (after before ws))
 
 -- ---- runs
 

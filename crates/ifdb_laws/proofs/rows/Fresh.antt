@@ -25,7 +25,7 @@ use Rattle.ifdb_model.specs.Step.{Outcome, judged}
 use Rattle.ifdb_laws.proofs.Shapes.{Shape, stayed, greeted_as, relabelled_to, begun, ended, published, joined, wrote, done}
 use Rattle.ifdb_laws.proofs.Logs.{all_commits, all_commits_append, commits_take, txn_all, is_made_slot, content_all, new_tags, tags_split, front_formed}
 use Rattle.ifdb_laws.proofs.rows.Keys.{fresh_written, writes_fresh}
-use Rattle.ifdb_laws.proofs.rows.Runs.{content_append}
+use Rattle.ifdb_model.proofs.LogLaws.{content_from-append}
 
 -- own writes are fresh over the content at their BEGIN
 abbrev pub txn_fresh : List Entry → Option Txn → Bool
@@ -72,7 +72,7 @@ no_conflict tags before later ws label h = by (list_any (is_above tags label) ws
   by false false z u e k = e
 
 content_split : (b : ℕ) (log : List Entry) → content_from (content_of (take b log)) (commits_of (drop b log)) ≡ content_of log
-content_split b log = sym (content_append [] (take b log) (drop b log)) ∙ ap content_of (take-append-drop b log)
+content_split b log = sym (content_from-append [] (take b log) (drop b log)) ∙ ap content_of (take-append-drop b log)
 
 commits_drop : (q : List Write → Bool) (b : ℕ) (log : List Entry) → all_commits q log ≡ true → all_commits q (drop b log) ≡ true
 commits_drop q b log f =

@@ -12,7 +12,7 @@ use Rattle.ifdb_row.specs.Writes.{are_fitting, is_gone}
 use Rattle.ifdb_row.specs.Content.{after, live, are_rooted}
 use Rattle.ifdb_row.specs.Seen.{clash, candidate, candidates}
 use Rattle.ifdb_row.specs.Verdict.{leaves}
-use Rattle.ifdb_row.proofs.Lists.{all_filter}
+use Rattle.ifdb_value.proofs.Lists.{all-filter}
 use Rattle.ifdb_row.proofs.LiveLaws.{all_live, put_all}
 use Rattle.ifdb_row.proofs.RootedLaws.{is_rooted, is_row_write, are_row_writes, rows_rooted, gone_rooted}
 use Rattle.ifdb_bound.specs.declared.schema.Schema.{Schema}
@@ -34,7 +34,7 @@ row_write x w = is_row_write (live x.rows) w.row
 module _ (x : Scene) where
   parent : (values : List Value) (f : Foreign) → one_of (live x.rows) (bound_parent x values f) ≡ true
   parent values f = first_all (live x.rows) (candidates x.tags x.rows f.parent (values_at values f.columns) x.label x.given)
-      (all_filter (λ (r : Row). is_of_key f.parent (values_at values f.columns) r.slot && candidate x.tags r.slot.label x.label x.given) (λ (r : Row). live x.rows r.slot) x.rows (all_live x.rows))
+      (all-filter (λ (r : Row). is_of_key f.parent (values_at values f.columns) r.slot && candidate x.tags r.slot.label x.label x.given) (λ (r : Row). live x.rows r.slot) x.rows (all_live x.rows))
 
   and_all : (o : Option Slot) (os : Option (List Slot)) → one_of (live x.rows) o ≡ true → all_of (live x.rows) os ≡ true → all_of (live x.rows) (and_slot o os) ≡ true
   and_all None None h k = refl

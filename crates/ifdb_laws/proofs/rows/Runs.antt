@@ -20,6 +20,7 @@ use Rattle.ifdb_model.specs.Session.{Txn, Session, new_session, no_session, clos
 use Rattle.ifdb_model.specs.Writes.{Written, writes_of, is_delete}
 use Rattle.ifdb_model.specs.Step.{Reader, Outcome, ask}
 use Rattle.ifdb_model.specs.Run.{State, opening, session_of, Step, opens, asks, refused, long, stray, leaves as left_out, with_outcome, with_session, next, run}
+use Rattle.ifdb_model.proofs.LogLaws.{content_from-append}
 use Rattle.ifdb_laws.specs.RowLaws.{ParentsLive}
 use Rattle.ifdb_laws.proofs.Shapes.{Shape, stayed, greeted_as, relabelled_to, begun, ended, published, joined, wrote, done, shape}
 use Rattle.ifdb_laws.proofs.Statements.{is_good, writes_good}
@@ -87,11 +88,6 @@ added_rooted log s line o (wrote asker r b w a t e d) f h =
     (writes_rooted (seen log s).rows (ap all_rooted whole ∙ h) (seen log s).public asker s.label b) (written_fits log s asker b w e) d
 added_rooted log s line o (done x t j) f h = go_rooted (all_tags log) (content_of log) (written_of (Rattle.std.proofs.Common.drop x.begin log)) x.own s.label (ap (txn_all are_fitting) (sym t) ∙ f) h j
 
-pub content_append : (rows : List Row) (a b : List Entry) → content_from rows (commits_of (a ++ b)) ≡ content_from (content_from rows (commits_of a)) (commits_of b)
-content_append rows [] b = refl
-content_append rows (changes c ∷ a) b = content_append rows a b
-content_append rows (commits ws ∷ a) b = content_append (after rows ws) a b
-
 still_rooted : (rows : List Row) (a : Option Entry) → all_rooted rows ≡ true → adds_rooted rows a ≡ true → all_rooted (content_from rows (commits_of (option_to_list a))) ≡ true
 still_rooted rows None h k = h
 still_rooted rows (Some (changes c)) h k = h
@@ -123,7 +119,7 @@ asked_rooted read st v n line =
     let o = ask read st.log s line in
     let h = shape read st.log s line in
     record {
-      rooted = ap all_rooted (content_append [] st.log (option_to_list o.added)) ∙ still_rooted (content_of st.log) o.added v.rooted (added_rooted st.log s (read line) o h f v.rooted);
+      rooted = ap all_rooted (content_from-append [] st.log (option_to_list o.added)) ∙ still_rooted (content_of st.log) o.added v.rooted (added_rooted st.log s (read line) o h f v.rooted);
       sessions = All-set Fits st.sessions (n - 1) o.session (own_fits st.log s (read line) o h f) v.sessions;
     }
 

@@ -13,7 +13,7 @@ use Rattle.ifdb_row.specs.declared.slot.Slot.{Slot}
 use Rattle.ifdb_row.specs.declared.row.Row.{Row}
 use Rattle.ifdb_row.specs.declared.write.Write.{Write}
 use Rattle.ifdb_row.specs.Sides.{are_alike, are_on, is_sided, is_sided_write, are_sided_writes}
-use Rattle.ifdb_row.proofs.Lists.{all_same_on}
+use Rattle.ifdb_value.proofs.Lists.{all_same_on}
 use Rattle.ifdb_bound.specs.declared.request.Bound.{Bound}
 use Rattle.ifdb_syntax.specs.declared.request.Request.{Request}
 use Rattle.ifdb_wire.specs.declared.fault.Fault.{Fault}

@@ -10,10 +10,9 @@ use Rattle.ifdb_label.specs.Tags.{are_made}
 use Rattle.ifdb_label.specs.Label.{flows}
 use Rattle.ifdb_row.specs.declared.slot.Slot.{Slot}
 use Rattle.ifdb_row.specs.declared.write.Write.{Write}
-use Rattle.ifdb_row.specs.Writes.{put, merged}
 use Rattle.ifdb_row.specs.Sides.{are_on}
 use Rattle.ifdb_row.specs.Verdict.{is_above}
-use Rattle.ifdb_row.proofs.Lists.{all_from}
+use Rattle.ifdb_value.proofs.Lists.{all_wider}
 use Rattle.ifdb_row.proofs.VerdictLaws.{go_is_above}
 use Rattle.ifdb_bound.specs.declared.request.Bound.{Bound}
 use Rattle.ifdb_bound.specs.declared.request.Bound.TheVariants as bound
@@ -31,7 +30,7 @@ use Rattle.ifdb_model.specs.Writes.{Written, writes_of}
 use Rattle.ifdb_model.specs.Step.{Reader, Outcome, is_empty, ask}
 use Rattle.ifdb_model.specs.Low.{is_inside_slot}
 use Rattle.ifdb_laws.proofs.Shapes.{IsWrite, Shape, stayed, greeted_as, relabelled_to, begun, ended, published, joined, wrote, done}
-use Rattle.ifdb_laws.proofs.Statements.{put_all}
+use Rattle.ifdb_row.proofs.LiveLaws.{merged_all}
 use Rattle.ifdb_laws.proofs.Sided.{written_all}
 use Rattle.ifdb_laws.proofs.Logs.{all_commits, txn_all, begins_within, tags_split}
 
@@ -59,12 +58,6 @@ abbrev pub log_after : Reader → List Entry → Session → List ℕ → List E
 log_after read log s line = log ++ added_by read log s line
 
 -- ---- own writes and the writes of a commit pass what the own writes before and the new ones pass
-
-pub merged_all : (q : Write → Bool) (own later : List Write) → list_all q own ≡ true → list_all q later ≡ true → list_all q (merged own later) ≡ true
-merged_all q own [] h k = h
-merged_all q own (w ∷ later) h k =
-    let parts : (q w ≡ true) × (list_all q later ≡ true) = grind (arith, nat_tests) in
-    merged_all q (put w own) later (put_all q w own parts.0 h) parts.1
 
 abbrev pub outcome_all : (Write → Bool) → Outcome → Bool
 outcome_all q o = txn_all (list_all q) o.session.txn && all_commits (list_all q) (option_to_list o.added)
@@ -128,12 +121,12 @@ pub record IsTidy (n tags : ℕ) (o : Outcome) : Type 0 where
 
 pub more_made : (n m : ℕ) (label : List ℕ) → n ≤ m → are_made n label ≡ true → are_made m label ≡ true
 more_made n m label le h =
-    all_from (λ t. ltb t n) (λ t. ltb t m) label (λ t e. let lt = ltb-true t n e in lt-ltb t m (omega arith)) h
+    all_wider (λ t. ltb t n) (λ t. ltb t m) label (λ t e. let lt = ltb-true t n e in lt-ltb t m (omega arith)) h
 
 older_tags : (n : ℕ) (log : List Entry) → length (all_tags (take n log)) ≤ tag_count log
 older_tags n log = rw (tags_split n log) (simp length-append (omega arith))
 
-seen_tags : (log : List Entry) (o : Option Txn) → length (tags_of (seen_in log o).public) ≤ tag_count log
+pub seen_tags : (log : List Entry) (o : Option Txn) → length (tags_of (seen_in log o).public) ≤ tag_count log
 seen_tags log None = omega arith
 seen_tags log (Some x) = older_tags x.begin log
 

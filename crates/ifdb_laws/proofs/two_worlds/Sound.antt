@@ -14,7 +14,7 @@ use Rattle.ifdb_row.specs.declared.row.Row.{Row}
 use Rattle.ifdb_row.specs.declared.write.Write.{Write}
 use Rattle.ifdb_row.specs.Writes.{is_fitting, are_fitting}
 use Rattle.ifdb_row.specs.Sides.{are_on}
-use Rattle.ifdb_row.proofs.Lists.{all_from}
+use Rattle.ifdb_value.proofs.Lists.{all_wider}
 use Rattle.ifdb_bound.specs.declared.request.Change.TheVariants as change
 use Rattle.ifdb_syntax.specs.declared.request.Request.{Request}
 use Rattle.ifdb_wire.specs.declared.fault.Fault.{Fault}
@@ -54,18 +54,18 @@ pub record Sound (st : State) : Type 0 where
 -- ---- parts of a sound write
 
 pub sound_fits : (n : ℕ) (ws : List Write) → are_sound n ws ≡ true → are_fitting ws ≡ true
-sound_fits n ws h = all_from (is_sound_write n) (λ (w : Write). is_fitting w.slot w.row) ws (λ w e. grind (arith, nat_tests)) h
+sound_fits n ws h = all_wider (is_sound_write n) (λ (w : Write). is_fitting w.slot w.row) ws (λ w e. grind (arith, nat_tests)) h
 
 pub sound_slots : (n : ℕ) (ws : List Write) → are_sound n ws ≡ true → are_on (is_made_slot n) ws ≡ true
-sound_slots n ws h = all_from (is_sound_write n) (λ (w : Write). is_made_slot n w.slot) ws (λ w e. grind (arith, nat_tests)) h
+sound_slots n ws h = all_wider (is_sound_write n) (λ (w : Write). is_made_slot n w.slot) ws (λ w e. grind (arith, nat_tests)) h
 
 pub sound_rows : (n : ℕ) (ws : List Write) → are_sound n ws ≡ true → list_all (is_whole_write (is_made_slot n)) ws ≡ true
-sound_rows n ws h = all_from (is_sound_write n) (is_whole_write (is_made_slot n)) ws (λ w e. grind (arith, nat_tests)) h
+sound_rows n ws h = all_wider (is_sound_write n) (is_whole_write (is_made_slot n)) ws (λ w e. grind (arith, nat_tests)) h
 
 -- each commit, and each open transaction
 pub commits_from : (f g : List Write → Bool) → ((ws : List Write) → f ws ≡ true → g ws ≡ true) → (log : List Entry) → all_commits f log ≡ true
     → all_commits g log ≡ true
-commits_from f g h log = all_from f g (commits_of log) h
+commits_from f g h log = all_wider f g (commits_of log) h
 
 pub txn_from : (f g : List Write → Bool) → ((ws : List Write) → f ws ≡ true → g ws ≡ true) → (o : Option Txn) → txn_all f o ≡ true → txn_all g o ≡ true
 txn_from f g h None k = refl
@@ -83,17 +83,17 @@ more_sound_write : (n m : ℕ) → n ≤ m → (w : Write) → is_sound_write n 
 more_sound_write n m le w h =
     let parts : (is_fitting w.slot w.row ≡ true) × (is_made_slot n w.slot ≡ true) × (is_whole_write (is_made_slot n) w ≡ true) = grind (arith, nat_tests) in
     let slot = more_made_slot n m le w.slot parts.1 in
-    let rows = all_from (is_whole (is_made_slot n)) (is_whole (is_made_slot m)) (option_to_list w.row) whole parts.2 in
+    let rows = all_wider (is_whole (is_made_slot n)) (is_whole (is_made_slot m)) (option_to_list w.row) whole parts.2 in
     grind (arith, nat_tests) where
       whole : (r : Row) → is_whole (is_made_slot n) r ≡ true → is_whole (is_made_slot m) r ≡ true
       whole r k =
           let parts : (is_made_slot n r.slot ≡ true) × (list_all (is_made_slot n) r.refs ≡ true) = grind (arith, nat_tests) in
           let slot = more_made_slot n m le r.slot parts.0 in
-          let refs = all_from (is_made_slot n) (is_made_slot m) r.refs (more_made_slot n m le) parts.1 in
+          let refs = all_wider (is_made_slot n) (is_made_slot m) r.refs (more_made_slot n m le) parts.1 in
           grind (arith, nat_tests)
 
 more_sound : (n m : ℕ) → n ≤ m → (ws : List Write) → are_sound n ws ≡ true → are_sound m ws ≡ true
-more_sound n m le ws h = all_from (is_sound_write n) (is_sound_write m) ws (more_sound_write n m le) h
+more_sound n m le ws h = all_wider (is_sound_write n) (is_sound_write m) ws (more_sound_write n m le) h
 
 more_begins : (n m : ℕ) (o : Option Txn) → n ≤ m → begins_within n o ≡ true → begins_within m o ≡ true
 more_begins n m None le h = refl
@@ -191,7 +191,7 @@ module _ (log : List Entry) (s : Session) (l : SoundLog log) (k : SoundSession l
 
 -- ---- steps and runs
 
-no_txn_is_sound : (log : List Entry) (s : Session) → are_made (tag_count log) s.label ≡ true → s.txn ≡ None → SoundSession log s
+pub no_txn_is_sound : (log : List Entry) (s : Session) → are_made (tag_count log) s.label ≡ true → s.txn ≡ None → SoundSession log s
 no_txn_is_sound log s m e = record { label_made = m; own = ap (txn_all (are_sound (tag_count log))) e; begins = ap (begins_within (length log)) e }
 
 pub session_sound : (st : State) → Sound st → (n : ℕ) → SoundSession st.log (session_of st n)

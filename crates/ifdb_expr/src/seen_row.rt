@@ -1,0 +1,42 @@
+// Rows by reference.
+ghost use Rattle.std.specs.Prelude.{◌≡◌};
+ghost use Rattle.ifdb_bound.specs.Expressions.{value_at};
+ghost use Rattle.ifdb_expr.specs.View.{source_row};
+ghost use Rattle.ifdb_expr.specs.ByReference.{owned, shown};
+
+use crate::value_ref::ValueRef;
+use ifdb_label::Tag;
+use ifdb_row::Row;
+use ifdb_value::Value;
+
+/// A row as a source shows it: its values and its label, by reference.
+#[derive(Clone, Copy)]
+pub struct SeenRow<'a> {
+    /// The row's values.
+    pub values: &'a [Value],
+    /// The row's label.
+    pub label: &'a [Tag],
+}
+
+impl<'a> SeenRow<'a> {
+    /// A row of a table.
+    pub fn of(row: &'a Row) -> Self
+        ensures { shown result ≡ source_row row.now }
+    {
+        SeenRow {
+            values: row.values.items(),
+            label: row.slot.label.tags(),
+        }
+    }
+}
+
+/// The value at a place; 0 where there is none.
+pub fn value_in(values: &[Value], place: usize) -> ValueRef<'_>
+    ensures { owned result ≡ value_at values.now place }
+{
+    if place < values.len() {
+        ValueRef::of(&values[place])
+    } else {
+        ValueRef::Int(0)
+    }
+}

@@ -1,0 +1,22 @@
+use Rattle.std.proofs.Common.{arith, length, sym}
+use Rattle.ifdb_row.specs.declared.row.Row.{Row}
+use Rattle.ifdb_label.specs.Tags.{are_made}
+use Rattle.ifdb_row.specs.Seen.{candidate}
+use Rattle.ifdb_row.specs.Questions.{is_further}
+use Rattle.ifdb_row.proofs.KeyRows.{found_all, fewer, find_here, find_on, find_none}
+use Rattle.ifdb_foreign.proofs.parent.first_serving.Goals as goal
+
+pub serves-requires-clause-parent_made : goal.serves-requires-clause-parent_made
+serves-requires-clause-parent_made g c = let k = found_all (λ (r : Row). are_made (length c.args.from.tags.now) r.slot.label) (is_further c.args.table c.args.key.now _) _ _ (sym c.in-Some.ensures.row) (grind arith) in grind arith
+
+pub returns-then-serves : goal.returns-then-serves
+returns-then-serves g c = find_here c.args.table c.args.key.now (λ (r : Row). candidate c.args.from.tags.now r.slot.label c.args.from.label.now c.args.from.given.now) _ _ _ (grind arith) (sym c.in-Some.ensures.row) c.keyed.invariant (grind arith)
+
+pub keyed-smaller : goal.keyed-smaller
+keyed-smaller g c = fewer c.args.table c.args.key.now _ _ _ (grind arith) (sym c.in-Some.ensures.row)
+
+pub keyed-preserved : goal.keyed-preserved
+keyed-preserved g c = find_on c.args.table c.args.key.now (λ (r : Row). candidate c.args.from.tags.now r.slot.label c.args.from.label.now c.args.from.given.now) _ _ _ (grind arith) (sym c.in-Some.ensures.row) c.keyed.invariant (grind arith)
+
+pub returns : goal.returns
+returns g c = find_none c.args.table c.args.key.now (λ (r : Row). candidate c.args.from.tags.now r.slot.label c.args.from.label.now c.args.from.given.now) _ _ (sym c.in_default.ensures.row) c.keyed.invariant

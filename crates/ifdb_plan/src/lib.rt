@@ -1,0 +1,10 @@
+//! What a condition says of the rows of its sources before they are looked at: which parts of it are decided when, and
+//! which rows of a source it finds by a column.
+#![tactic(auto)]
+
+mod equation;
+mod test;
+
+pub use equation::{Equation, equation_in};
+pub use std::alloc::AllocError as OutOfMemory;
+pub use test::{Test, hold_at, hold_from, tests};

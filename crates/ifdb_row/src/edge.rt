@@ -1,0 +1,52 @@
+// Places between slots.
+ghost use Rattle.std.specs.Prelude.{◌≡◌};
+ghost use Rattle.ifdb_row.specs.Slots.{slot_lt};
+ghost use Rattle.ifdb_row.specs.Edges.{lies_before, slot_at};
+
+use crate::order::compare_keys;
+use crate::slot::{Key, Slot};
+use ifdb_label::Label;
+use ifdb_value::{TableId, Value};
+
+/// A place between slots, from which rows are looked up.
+#[derive(Clone, Copy)]
+pub enum Edge<'a> {
+    /// Before all slots of a table.
+    Table(TableId),
+    /// Before all slots of a table's key.
+    Key(TableId, &'a [Value]),
+    /// Before a slot.
+    At(&'a Slot),
+    /// Behind the slot with these parts.
+    Behind(TableId, &'a [Value], &'a Label),
+}
+
+impl<'a> Edge<'a> {
+    /// Whether a slot stands before the edge.
+    pub fn is_behind(&self, slot: &Slot) -> bool
+        ensures { result ≡ lies_before self.now slot.now }
+    {
+        match self {
+            Edge::Table(table) => slot.table < *table,
+            Edge::Key(table, key) => {
+                if slot.table == *table {
+                    compare_keys(slot.key.items(), key).is_lt()
+                } else {
+                    slot.table < *table
+                }
+            }
+            Edge::At(other) => slot.is_before(other),
+            Edge::Behind(table, key, label) => !stands_behind(slot, *table, key, label),
+        }
+    }
+}
+
+/// Whether a slot stands behind the one with these parts.
+#[tactic(auto, unfolding(crate::specs::Slots::slot_cmp))]
+fn stands_behind(slot: &Slot, table: TableId, key: &[Value], label: &Label) -> bool
+    ensures { result ≡ slot_lt (slot_at table key.now label.now) slot.now }
+{
+    let labels = label.tags().cmp(slot.label.tags());
+    let keys = compare_keys(key, slot.key.items());
+    table.cmp(&slot.table).then(keys.then(labels)).is_lt()
+}

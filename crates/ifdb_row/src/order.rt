@@ -1,0 +1,57 @@
+// The order of keys and of slots.
+ghost use Rattle.std.specs.Prelude.{◌≡◌};
+ghost use Rattle.ifdb_row.specs.Slots.{is_of_key, is_same_slot, key_cmp, slot_cmp, slot_lt};
+
+use crate::slot::Slot;
+use ifdb_value::{TableId, Value};
+use std::cmp::Ordering;
+
+impl Slot {
+    /// The order of slots: by table, then by key, then by label. Takes no memory; in time the shorter of each of the keys'
+    /// and the labels' lengths, with the texts in the keys.
+    #[tactic(auto, unfolding(crate::specs::Slots::slot_cmp))]
+    pub fn compare(&self, other: &Slot) -> Ordering
+        ensures { result ≡ slot_cmp self.now other.now }
+    {
+        let labels = self.label.tags().cmp(other.label.tags());
+        let keys = compare_keys(self.key.items(), other.key.items());
+        self.table.cmp(&other.table).then(keys.then(labels))
+    }
+
+    /// Whether the slot stands before another.
+    pub fn is_before(&self, other: &Slot) -> bool
+        ensures { result ≡ slot_lt self.now other.now }
+    {
+        self.compare(other).is_lt()
+    }
+
+    /// Whether the slot is the other one.
+    pub fn is_same(&self, other: &Slot) -> bool
+        ensures { result ≡ is_same_slot self.now other.now }
+    {
+        self.compare(other).is_eq()
+    }
+
+    /// Whether the slot is of a table's key, at any label.
+    pub fn is_of_key(&self, table: TableId, key: &[Value]) -> bool
+        ensures { result ≡ is_of_key table key.now self.now }
+    {
+        self.table == table && compare_keys(self.key.items(), key).is_eq()
+    }
+}
+
+/// The order of two keys: by their first values, then the second, and so on. Takes no memory.
+pub fn compare_keys(key: &[Value], other: &[Value]) -> Ordering
+    ensures { result ≡ key_cmp key.now other.now }
+{
+    match key {
+        [] => match other {
+            [] => Ordering::Equal,
+            [_, ..] => Ordering::Less,
+        },
+        [first, rest @ ..] => match other {
+            [] => Ordering::Greater,
+            [second, others @ ..] => first.compare(second).then(compare_keys(rest, others)),
+        },
+    }
+}

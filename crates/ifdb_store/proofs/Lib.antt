@@ -1,0 +1,7 @@
+pub mod WriteLemmas
+pub mod Parts
+pub mod PartLemmas
+pub mod FindLemmas
+pub mod Costs
+pub mod KeptLemmas
+pub mod LaterLemmas

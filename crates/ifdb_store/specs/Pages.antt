@@ -1,0 +1,53 @@
+-- Rows in pages, and pages in chapters.
+use Rattle.std.specs.Prelude.{◌≡◌, ℕ, Bool, true, refl, List, [], ◌∷◌, ◌&&◌, ◌+◌, ◌++◌, nat_lt, length, take, drop, get_or}
+use Rattle.std.proofs.Common.{arith}
+use Rattle.std.proofs.lemmas.Bool.{false≢true}
+use Rattle.std.proofs.lemmas.Bool.Decides.{nat_tests}
+use Rattle.std.specs.List.{list_all, flat_map}
+use Rattle.ifdb_row.specs.declared.row.Row.{Row}
+use Rattle.ifdb_row.specs.declared.slot.Slot.{Slot}
+use Rattle.ifdb_row.specs.declared.write.Write.{Write}
+use Rattle.ifdb_row.specs.Content.{after, rising}
+
+-- from 1 to 64 rows, in the order of their slots
+abbrev pub is_page : List Row → Bool
+is_page rows = nat_lt 0 (length rows) && (nat_lt (length rows) 65 && rising rows)
+
+-- the rows of pages
+abbrev pub flat : List (List Row) → List Row
+flat pages = flat_map (λ page. page) pages
+
+-- at least one page, and the rows of all pages in the order of their slots
+abbrev pub is_chapter : List (List Row) → Bool
+is_chapter pages = nat_lt 0 (length pages) && (list_all is_page pages && rising (flat pages))
+
+-- the rows of chapters
+abbrev pub rows_of : List (List (List Row)) → List Row
+rows_of chapters = flat_map flat chapters
+
+-- the rows of all chapters in the order of their slots
+abbrev pub is_content : List (List (List Row)) → Bool
+is_content chapters = list_all is_chapter chapters && rising (rows_of chapters)
+
+-- the slot of the first row
+abbrev pub front : List Row → Slot
+front [] = record { table = 0; key = []; label = [] }
+front (r ∷ rows) = r.slot
+
+-- there is a first row, and it stands in the slot
+abbrev pub Begins : List Row → Slot → Type 0
+Begins rows s = (r : Row) × (rest : List Row) × (rows ≡ r ∷ rest) × (s ≡ r.slot)
+
+pub page_begins : (rows : List Row) → is_page rows ≡ true → Begins rows (front rows)
+page_begins [] h = absurd (false≢true h)
+page_begins (r ∷ rows) h = (r, rows, refl, refl)
+
+pub chapter_begins : (pages : List (List Row)) → is_chapter pages ≡ true → Begins (flat pages) (front (flat pages))
+chapter_begins [] h = absurd (false≢true h)
+chapter_begins ([] ∷ pages) h = absurd (false≢true (grind (arith, nat_tests)))
+chapter_begins ((r ∷ rows) ∷ pages) h = (r, rows ++ flat pages, refl, refl)
+
+-- the first n writes are those of the part at a place, and the others those of the parts behind it
+abbrev pub Divides : {X : Type 0} → (X → List Row) → List X → ℕ → List Write → ℕ → Type 0
+Divides {X} rows parts i ws n = (x : X) → x ≡ get_or parts i x
+    → after (flat_map rows (drop i parts)) ws ≡ after (rows x) (take n ws) ++ after (flat_map rows (drop (i + 1) parts)) (drop n ws)

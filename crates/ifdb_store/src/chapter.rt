@@ -1,0 +1,146 @@
+// Chapters of pages.
+ghost use Rattle.std.specs.Prelude.{◌≡◌, ◌≤◌, ◌<◌, ◌+◌, ◌++◌, IfOk, IsTrue, OnOk, length};
+ghost use Rattle.std.specs.List.{list_all, flat_map};
+ghost use Rattle.ifdb_row.specs.Content.{after, rising};
+ghost use Rattle.ifdb_store.specs.Pages.{flat, is_page, is_chapter, rows_of};
+
+use crate::page::{Page, end_of};
+use crate::part::{Part, bound_to, parts_after, run_from};
+use crate::put::shared;
+use crate::search::Placed;
+use crate::steps::Steps;
+use ifdb_row::{Edge, OutOfMemory, Row, Slot, Write};
+use ifdb_value::{Sequence, Shared};
+use std::alloc::Global;
+use std::marker::Model;
+use std::sync::ledger::Ledger;
+
+/// The most pages of a chapter.
+const CHAPTER_PAGES: usize = 256;
+
+/// Neighbouring pages, at least one.
+#[derive(Drop)]
+pub(crate) struct Chapter {
+    pages: Sequence<Shared<Page>>,
+}
+
+impl Model for Chapter {
+    ghost use Rattle.std.specs.Prelude.{List, IsTrue};
+    ghost use Rattle.ifdb_row.specs.declared.row.Row.{Row};
+    ghost use Rattle.ifdb_store.specs.Pages.{is_chapter};
+
+    ghost Value = { List (List Row) };
+
+    ghost view = { λ c. c.pages };
+
+    ghost invariant = { λ c. IsTrue (is_chapter c.pages) };
+}
+
+impl Chapter {
+    /// A chapter of these pages.
+    fn new(pages: Vec<Shared<Page>>) -> Chapter
+        requires { IsTrue (is_chapter pages.items) }
+        ensures { result ≡ pages.items }
+    {
+        Chapter {
+            pages: Sequence::from_vec(pages),
+        }
+    }
+
+    /// The pages.
+    fn pages(&self) -> &[Shared<Page>]
+        ensures pages { result.now ≡ self.now }
+        ensures some { 0 < length result.now }
+        ensures good { IsTrue (list_all is_page result.now) }
+        ensures rising { IsTrue (rising (flat result.now)) }
+    {
+        self.pages.items()
+    }
+}
+
+impl Placed for Chapter {
+    ghost use Rattle.ifdb_store.specs.Pages.{flat, front};
+
+    ghost place = { λ pages. front (flat pages) };
+
+    fn slot(&self) -> &Slot {
+        self.pages()[0].get().slot()
+    }
+}
+
+impl Part for Chapter {
+    ghost use Rattle.ifdb_store.specs.Pages.{flat, is_chapter, chapter_begins};
+
+    ghost rows = { flat };
+
+    ghost is_part = { is_chapter };
+
+    ghost begins = { chapter_begins };
+
+    fn after(
+        &self,
+        alloc: Global,
+        writes: &[Write],
+        out: &mut Vec<Shared<Chapter>>,
+    ) -> Result<(), OutOfMemory> {
+        let mut pages = Vec::new(alloc);
+        parts_after(alloc, self.pages(), writes, &mut pages)?;
+        bind(alloc, pages, out)
+    }
+
+    fn first_run(&self) -> &[Shared<Row>] {
+        self.pages()[0].get().first_run()
+    }
+
+    fn run_from<L: Ledger>(&self, edge: &Edge<'_>, steps: &mut Steps<L>) -> &[Shared<Row>] {
+        run_from(self.pages(), edge, steps)
+    }
+
+    fn bound_to(&self, slot: &Slot, after: Option<&Slot>) -> Option<&Row> {
+        bound_to(self.pages(), slot, after)
+    }
+}
+
+/// Adds the chapters of some pages: one where they fit into one, else as many as it takes.
+pub(crate) fn bind(
+    alloc: Global,
+    pages: Vec<Shared<Page>>,
+    out: &mut Vec<Shared<Chapter>>,
+) -> Result<(), OutOfMemory>
+    requires good { IsTrue (list_all is_page pages.items) }
+    requires rising { IsTrue (rising (flat pages.items)) }
+    requires chapters { IsTrue (list_all is_chapter out.old.items) }
+    ensures rows { OnOk result (rows_of out.new.items ≡ rows_of out.old.items ++ flat pages.items) }
+    ensures chapters { OnOk result (IsTrue (list_all is_chapter out.new.items)) }
+{
+    let len = pages.len();
+    if len <= CHAPTER_PAGES {
+        return add_chapter(alloc, pages, out);
+    }
+    let mut from = 0;
+    while from < len {
+        let to = end_of(from, CHAPTER_PAGES / 2, len);
+        let part = shared(alloc, &pages[from..to], to - from)?;
+        add_chapter(alloc, part, out)?;
+        from = to;
+    }
+    Ok(())
+}
+
+/// Adds a chapter of the pages, if there are any.
+fn add_chapter(
+    alloc: Global,
+    pages: Vec<Shared<Page>>,
+    out: &mut Vec<Shared<Chapter>>,
+) -> Result<(), OutOfMemory>
+    requires good { IsTrue (list_all is_page pages.items) }
+    requires rising { IsTrue (rising (flat pages.items)) }
+    requires chapters { IsTrue (list_all is_chapter out.old.items) }
+    ensures rows { OnOk result (rows_of out.new.items ≡ rows_of out.old.items ++ flat pages.items) }
+    ensures chapters { OnOk result (IsTrue (list_all is_chapter out.new.items)) }
+{
+    if !pages.is_empty() {
+        out.push(Shared::new(alloc, Chapter::new(pages))?)?;
+    }
+    Ok(())
+}

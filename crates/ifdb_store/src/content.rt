@@ -1,0 +1,154 @@
+// Contents in versions.
+ghost use Rattle.std.specs.Prelude.{◌≡◌, ◌≤◌, ◌<◌, [], IfOk, IsTrue, OnOk};
+ghost use Rattle.std.specs.List.{list_all};
+ghost use Rattle.ifdb_row.specs.Content.{after, rising};
+ghost use Rattle.ifdb_row.specs.Writes.{are_fitting, are_rising};
+ghost use Rattle.ifdb_row.specs.Questions.{IsRun, rows_from};
+ghost use Rattle.ifdb_store.specs.Pages.{is_chapter, rows_of};
+
+use crate::chapter::{Chapter, bind};
+use crate::page::cut;
+use crate::part::{bound_to, parts_after, run_from};
+use crate::put::rows_after;
+use crate::steps::Steps;
+use ifdb_row::{Edge, OutOfMemory, Row, Rows, Slot, Write, Writes};
+use ifdb_value::{Sequence, Shared};
+use std::alloc::Global;
+use std::marker::{Brand, Model};
+use std::sync::ledger::{Blank, Ledger};
+
+/// The chapters of a content.
+type Chapters = Sequence<Shared<Chapter>>;
+
+/// Rows in the order of their slots, each slot once. It never changes: a later version is a content of its own, which
+/// shares what it has in common with this one. Contracts see the list of the rows.
+#[derive(Drop)]
+pub struct Content {
+    chapters: Shared<Chapters>,
+}
+
+impl Model for Content {
+    ghost use Rattle.std.specs.Prelude.{List, IsTrue};
+    ghost use Rattle.ifdb_row.specs.declared.row.Row.{Row};
+    ghost use Rattle.ifdb_store.specs.Pages.{rows_of, is_content};
+
+    ghost Value = { List Row };
+
+    ghost view = { λ c. rows_of c.chapters };
+
+    ghost invariant = { λ c. IsTrue (is_content c.chapters) };
+}
+
+impl Content {
+    /// No rows.
+    pub fn new(alloc: Global) -> Result<Content, OutOfMemory>
+        ensures { IfOk result (λ c. c ≡ []) }
+    {
+        Ok(Content {
+            chapters: Shared::new(alloc, Sequence::new(alloc))?,
+        })
+    }
+
+    /// The same content, shared. `OutOfMemory` comes where it has too many owners; it takes no memory.
+    pub fn share(&self) -> Result<Content, OutOfMemory>
+        ensures { IfOk result (λ c. c ≡ self.now) }
+    {
+        Ok(Content {
+            chapters: self.chapters.share()?,
+        })
+    }
+
+    /// The content after writes. What the writes don't touch is shared.
+    pub fn after(&self, alloc: Global, writes: &Writes) -> Result<Content, OutOfMemory>
+        ensures { IfOk result (λ c. c ≡ after self.now writes.now) }
+    {
+        let chapters = chapters_after(alloc, self.chapters.get().items(), writes.items())?;
+        Ok(Content {
+            chapters: Shared::new(alloc, Sequence::from_vec(chapters))?,
+        })
+    }
+
+    /// The first rows from an edge on, as many as lie side by side. Each comparison of slots is a step.
+    fn seek_run<L: Ledger>(&self, edge: &Edge<'_>, steps: &mut Steps<L>) -> &[Shared<Row>]
+        ensures run { IsRun result.now (rows_from edge.now self.now) }
+        ensures rising { IsTrue (rising self.now) }
+        ensures more { steps.old ≤ steps.new }
+    {
+        run_from(self.chapters(), edge, steps)
+    }
+
+    /// The same, with steps that nobody reads.
+    fn uncounted_run<L: Ledger>(&self, edge: &Edge<'_>, blank: Blank) -> &[Shared<Row>]
+        requires name { blank.name ≡ L.name }
+        requires parts { blank.parts ≡ L.parts }
+        requires some { 0 < blank.parts }
+        ensures run { IsRun result.now (rows_from edge.now self.now) }
+        ensures rising { IsTrue (rising self.now) }
+    {
+        let mut steps = Steps::<L>::new(blank);
+        self.seek_run(edge, &mut steps)
+    }
+
+    /// The chapters.
+    fn chapters(&self) -> &[Shared<Chapter>]
+        ensures rows { rows_of result.now ≡ self.now }
+        ensures good { IsTrue (list_all is_chapter result.now) }
+        ensures rising { IsTrue (rising self.now) }
+    {
+        self.chapters.get().items()
+    }
+}
+
+impl Rows for Content {
+    ghost rows = { λ c. c };
+
+    fn run_from(&self, edge: &Edge<'_>) -> &[Shared<Row>] {
+        self.uncounted_run::<Brand>(edge, Blank::new(1))
+    }
+
+    fn bound_to(&self, slot: &Slot, after: Option<&Slot>) -> Option<&Row> {
+        bound_to(self.chapters(), slot, after)
+    }
+}
+
+/// The chapters that hold the rows of some chapters after writes.
+#[tactic(auto, using(ifdb_row::proofs::ContentLaws::rising_after))]
+fn chapters_after(
+    alloc: Global,
+    chapters: &[Shared<Chapter>],
+    writes: &[Write],
+) -> Result<Vec<Shared<Chapter>>, OutOfMemory>
+    requires good { IsTrue (list_all is_chapter chapters.now) }
+    requires in_order { IsTrue (rising (rows_of chapters.now)) }
+    requires fitting { IsTrue (are_fitting writes.now) }
+    requires rising { IsTrue (are_rising writes.now) }
+    ensures rows { IfOk result (λ all. rows_of all.items ≡ after (rows_of chapters.now) writes.now) }
+    ensures good { IfOk result (λ all. IsTrue (list_all is_chapter all.items)) }
+    ensures rising { IfOk result (λ all. IsTrue (rising (rows_of all.items))) }
+{
+    let mut all = Vec::new(alloc);
+    if chapters.is_empty() {
+        first_chapters(alloc, writes, &mut all)?;
+    } else {
+        parts_after(alloc, chapters, writes, &mut all)?;
+    }
+    Ok(all)
+}
+
+/// Adds the chapters of what is written where no row stands.
+fn first_chapters(
+    alloc: Global,
+    writes: &[Write],
+    out: &mut Vec<Shared<Chapter>>,
+) -> Result<(), OutOfMemory>
+    requires empty { out.old.items ≡ [] }
+    requires fitting { IsTrue (are_fitting writes.now) }
+    requires rising { IsTrue (are_rising writes.now) }
+    ensures rows { OnOk result (rows_of out.new.items ≡ after [] writes.now) }
+    ensures good { OnOk result (IsTrue (list_all is_chapter out.new.items)) }
+{
+    let rows = rows_after(alloc, &[], writes)?;
+    let mut pages = Vec::new(alloc);
+    cut(alloc, rows, &mut pages)?;
+    bind(alloc, pages, out)
+}

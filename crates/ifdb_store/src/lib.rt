@@ -1,0 +1,19 @@
+//! Rows in versions: a content that any number of snapshots share.
+#![tactic(auto)]
+
+mod chapter;
+mod content;
+mod later;
+mod laws;
+mod page;
+mod part;
+mod put;
+mod search;
+mod steps;
+mod store;
+
+pub use content::Content;
+pub use later::meets_later;
+pub use laws::stands_for_a_log;
+pub use steps::Steps;
+pub use store::Store;

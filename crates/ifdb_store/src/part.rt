@@ -1,0 +1,238 @@
+// Parts of a content: what is found in them, and what they are after writes.
+ghost use Rattle.std.specs.Prelude.{◌≡◌, ◌≤◌, ◌<◌, ◌+◌, ◌++◌, List, Bool, true, IsTrue, OnOk, length, take, drop, not};
+ghost use Rattle.std.specs.List.{list_all, flat_map};
+ghost use Rattle.ifdb_row.specs.declared.row.Row.{Row as AnyRow};
+ghost use Rattle.ifdb_row.specs.Slots.{slot_lt};
+ghost use Rattle.ifdb_row.specs.Edges.{lies_before};
+ghost use Rattle.ifdb_row.specs.Writes.{are_fitting, are_rising};
+ghost use Rattle.ifdb_row.specs.Content.{after, rising};
+ghost use Rattle.std.specs.Option.{option_copied};
+ghost use Rattle.ifdb_row.specs.Questions.{IsRun, row_bound_to, rows_from};
+ghost use Rattle.ifdb_row.specs.Reach.{reach};
+ghost use Rattle.ifdb_store.specs.Pages.{Begins, Divides};
+
+use crate::search::{Placed, place, reach};
+use crate::steps::Steps;
+use ifdb_row::{Edge, OutOfMemory, Row, Slot, Write};
+use ifdb_value::{Shared, Value};
+use std::alloc::Global;
+use std::sync::ledger::Ledger;
+
+/// Some neighbouring rows of a content, at least one. It stands by its first row's slot.
+pub(crate) trait Part: Placed + Drop {
+    /// The rows.
+    ghost rows: { Self → List AnyRow };
+
+    /// It is as a part has to be.
+    ghost is_part: { Self → Bool };
+
+    /// Adds the parts that hold the rows after writes.
+    fn after(
+        &self,
+        alloc: Global,
+        writes: &[Write],
+        out: &mut Vec<Shared<Self>>,
+    ) -> Result<(), OutOfMemory>
+        requires part { IsTrue (is_part self.now) }
+        requires fitting { IsTrue (are_fitting writes.now) }
+        requires rising { IsTrue (are_rising writes.now) }
+        requires parts { IsTrue (list_all is_part out.old.items) }
+        ensures rows { OnOk result (flat_map rows out.new.items ≡ flat_map rows out.old.items ++ after (rows self.now) writes.now) }
+        ensures parts { OnOk result (IsTrue (list_all is_part out.new.items)) };
+
+    /// Its first rows, as many as lie side by side.
+    fn first_run(&self) -> &[Shared<Row>]
+        requires { IsTrue (is_part self.now) }
+        ensures { IsRun result.now (rows self.now) };
+
+    /// Its first rows from an edge on, as many as lie side by side. Each comparison of slots is a step.
+    fn run_from<L: Ledger>(&self, edge: &Edge<'_>, steps: &mut Steps<L>) -> &[Shared<Row>]
+        requires { IsTrue (is_part self.now) }
+        ensures run { IsRun result.now (rows_from edge.now (rows self.now)) }
+        ensures more { steps.old ≤ steps.new };
+
+    /// Its first row bound to a slot whose own slot is behind another, or its first row bound to it.
+    fn bound_to(&self, slot: &Slot, after: Option<&Slot>) -> Option<&Row>
+        requires { IsTrue (is_part self.now) }
+        ensures { option_copied result ≡ row_bound_to slot.now (option_copied after.entry) (rows self.now) };
+
+    /// It has a first row, by whose slot it stands.
+    ghost begins: { (x : Self) → is_part x ≡ true → Begins (rows x) (Self.place x) };
+}
+
+/// How many writes are of slots before this one.
+fn writes_before(writes: &[Write], slot: &Slot) -> usize
+    requires { IsTrue (are_rising writes.now) }
+    ensures within { result ≤ length writes.now }
+    ensures before { IsTrue (list_all (λ w. slot_lt w.slot slot.now) (take result writes.now)) }
+    ensures behind { IsTrue (list_all (λ w. not (slot_lt w.slot slot.now)) (drop result writes.now)) }
+{
+    writes.partition_point(|write| write.slot.is_before(slot))
+}
+
+/// How many of the writes are of the part at a place: all of them, where it is the last.
+fn writes_at<P: Part>(parts: &[Shared<P>], at: usize, writes: &[Write]) -> usize
+    requires there { at < length parts.now }
+    requires parts { IsTrue (list_all P.is_part parts.now) }
+    requires in_order { IsTrue (rising (flat_map P.rows parts.now)) }
+    requires fitting { IsTrue (are_fitting writes.now) }
+    requires rising { IsTrue (are_rising writes.now) }
+    ensures within { result ≤ length writes.now }
+    ensures last { at + 1 ≡ length parts.now → result ≡ length writes.now }
+    ensures split { Divides P.rows parts.now at writes.now result }
+{
+    match parts.get(at + 1) {
+        Some(next) => writes_before(writes, next.get().slot()),
+        None => writes.len(),
+    }
+}
+
+/// Adds the parts that hold a part's rows after writes. With none it is shared.
+fn part_after<P: Part>(
+    alloc: Global,
+    part: &Shared<P>,
+    writes: &[Write],
+    out: &mut Vec<Shared<P>>,
+) -> Result<(), OutOfMemory>
+    requires part { IsTrue (P.is_part part.now) }
+    requires fitting { IsTrue (are_fitting writes.now) }
+    requires rising { IsTrue (are_rising writes.now) }
+    requires parts { IsTrue (list_all P.is_part out.old.items) }
+    ensures rows { OnOk result (flat_map P.rows out.new.items ≡ flat_map P.rows out.old.items ++ after (P.rows part.now) writes.now) }
+    ensures parts { OnOk result (IsTrue (list_all P.is_part out.new.items)) }
+{
+    if writes.is_empty() {
+        out.push(part.share()?)?;
+        return Ok(());
+    }
+    part.get().after(alloc, writes, out)
+}
+
+/// How many parts stand before all writes; not all parts.
+fn untouched<P: Part>(parts: &[Shared<P>], writes: &[Write]) -> usize
+    requires some { 0 < length parts.now }
+    requires parts { IsTrue (list_all P.is_part parts.now) }
+    requires in_order { IsTrue (rising (flat_map P.rows parts.now)) }
+    requires rising { IsTrue (are_rising writes.now) }
+    ensures within { result < length parts.now }
+    ensures rows { after (flat_map P.rows parts.now) writes.now ≡ flat_map P.rows (take result parts.now) ++ after (flat_map P.rows (drop result parts.now)) writes.now }
+{
+    match writes {
+        [] => 0,
+        [write, ..] => {
+            let slot: &Slot = &write.slot;
+            let key: &[Value] = slot.key.items();
+            let at = place(parts, &Edge::Behind(slot.table, key, &slot.label));
+            if at == 0 { 0 } else { at - 1 }
+        }
+    }
+}
+
+/// Adds the first parts, shared.
+fn share_front<P: Part>(
+    parts: &[Shared<P>],
+    count: usize,
+    out: &mut Vec<Shared<P>>,
+) -> Result<(), OutOfMemory>
+    requires within { count ≤ length parts.now }
+    requires parts { IsTrue (list_all P.is_part parts.now) }
+    requires good { IsTrue (list_all P.is_part out.old.items) }
+    ensures rows { OnOk result (flat_map P.rows out.new.items ≡ flat_map P.rows out.old.items ++ flat_map P.rows (take count parts.now)) }
+    ensures parts { OnOk result (IsTrue (list_all P.is_part out.new.items)) }
+{
+    for part in &parts[..count] {
+        out.push(part.share()?)?;
+    }
+    Ok(())
+}
+
+/// Adds the parts that hold the rows of some parts after writes. Those that no write touches are shared.
+pub(crate) fn parts_after<P: Part>(
+    alloc: Global,
+    parts: &[Shared<P>],
+    writes: &[Write],
+    out: &mut Vec<Shared<P>>,
+) -> Result<(), OutOfMemory>
+    requires some { 0 < length parts.now }
+    requires parts { IsTrue (list_all P.is_part parts.now) }
+    requires in_order { IsTrue (rising (flat_map P.rows parts.now)) }
+    requires fitting { IsTrue (are_fitting writes.now) }
+    requires rising { IsTrue (are_rising writes.now) }
+    requires good { IsTrue (list_all P.is_part out.old.items) }
+    ensures rows { OnOk result (flat_map P.rows out.new.items ≡ flat_map P.rows out.old.items ++ after (flat_map P.rows parts.now) writes.now) }
+    ensures parts { OnOk result (IsTrue (list_all P.is_part out.new.items)) }
+{
+    let first = untouched(parts, writes);
+    share_front(parts, first, out)?;
+    let mut rest = writes;
+    for i in first..parts.len() {
+        let (now, later) = rest.split_at(writes_at(parts, i, rest));
+        part_after(alloc, &parts[i], now, out)?;
+        rest = later;
+    }
+    Ok(())
+}
+
+/// The first rows from an edge on, of all parts, as many as lie side by side. Each comparison of slots is a step.
+pub(crate) fn run_from<'a, P: Part, L: Ledger>(
+    parts: &'a [Shared<P>],
+    edge: &Edge<'_>,
+    steps: &mut Steps<L>,
+) -> &'a [Shared<Row>]
+    requires parts { IsTrue (list_all P.is_part parts.now) }
+    requires in_order { IsTrue (rising (flat_map P.rows parts.now)) }
+    ensures run { IsRun result.now (rows_from edge.now (flat_map P.rows parts.now)) }
+    ensures more { steps.old ≤ steps.new }
+{
+    if parts.is_empty() {
+        return &[];
+    }
+    let at = part_at(parts, edge, steps);
+    let run = parts[at].get().run_from(edge, steps);
+    if run.is_empty() {
+        return run_at(parts, at + 1);
+    }
+    run
+}
+
+/// The last part that stands before an edge, or the first one. Each comparison of slots is a step.
+fn part_at<P: Part, L: Ledger>(parts: &[Shared<P>], edge: &Edge<'_>, steps: &mut Steps<L>) -> usize
+    requires some { 0 < length parts.now }
+    requires parts { IsTrue (list_all P.is_part parts.now) }
+    requires in_order { IsTrue (rising (flat_map P.rows parts.now)) }
+    ensures place { result ≡ reach (λ x. lies_before edge.now (P.place x)) (drop 1 parts.now) }
+    ensures within { result < length parts.now }
+    ensures more { steps.old ≤ steps.new }
+{
+    let (_, others) = parts.split_at(1);
+    reach(others, edge, steps)
+}
+
+/// The first rows of the parts from a place on.
+fn run_at<P: Part>(parts: &[Shared<P>], at: usize) -> &[Shared<Row>]
+    requires { IsTrue (list_all P.is_part parts.now) }
+    ensures { IsRun result.now (flat_map P.rows (drop at parts.now)) }
+{
+    match parts.get(at) {
+        Some(part) => part.get().first_run(),
+        None => &[],
+    }
+}
+
+/// The first row, of all parts, bound to a slot whose own slot is behind another, or the first row bound to it.
+pub(crate) fn bound_to<'a, P: Part>(
+    parts: &'a [Shared<P>],
+    slot: &Slot,
+    after: Option<&Slot>,
+) -> Option<&'a Row>
+    requires { IsTrue (list_all P.is_part parts.now) }
+    ensures { option_copied result ≡ row_bound_to slot.now (option_copied after.entry) (flat_map P.rows parts.now) }
+{
+    for part in parts {
+        let row = part.get().bound_to(slot, after);
+        if row.is_some() {
+            return row;
+        }
+    }
+    None
+}

@@ -1,0 +1,119 @@
+// The store: the newest content, what is prepared, and the commits that somebody may still ask for.
+ghost use Rattle.std.specs.Prelude.{◌≡◌, ◌≤◌, ◌<◌, ◌++◌, ◌∷◌, [], None, Some, IfOk, IsTrue, OnOk, OnErr, length, filter};
+ghost use Rattle.ifdb_row.specs.Content.{after};
+ghost use Rattle.ifdb_store.specs.Kept.{is_later, trimmed};
+
+use crate::content::Content;
+use ifdb_row::{Commit, OutOfMemory, Writes};
+use std::alloc::Global;
+use std::marker::Model;
+
+/// The newest content, and the commits above a floor, the oldest first.
+///
+/// Contracts see the rows, the rows that the store is ready to have next, and the commits.
+#[derive(Drop)]
+pub struct Store {
+    alloc: Global,
+    content: Content,
+    next: Option<Content>,
+    commits: Vec<Commit>,
+}
+
+impl Model for Store {
+    ghost use Rattle.std.specs.Prelude.{Option, None, ◌≡◌};
+    ghost use Rattle.ifdb_store.specs.Kept.{Kept, HasRoom};
+
+    ghost Value = { Kept };
+
+    ghost view = { λ s. record { rows = s.content; next = s.next; commits = s.commits.items } };
+
+    ghost invariant = { λ s. HasRoom s.next s.commits };
+}
+
+impl Store {
+    /// No rows, and no commits.
+    pub fn new(alloc: Global) -> Result<Store, OutOfMemory>
+        ensures { IfOk result (λ s. s ≡ record { rows = []; next = None; commits = [] }) }
+    {
+        Ok(Store {
+            alloc,
+            content: Content::new(alloc)?,
+            next: None,
+            commits: Vec::new(alloc),
+        })
+    }
+
+    /// The newest content.
+    pub fn content(&self) -> &Content
+        ensures { result.now ≡ self.now.rows }
+    {
+        &self.content
+    }
+
+    /// The commits that are kept, the oldest first.
+    pub fn commits(&self) -> &[Commit]
+        ensures { result.now ≡ self.now.commits }
+    {
+        self.commits.as_slice()
+    }
+
+    /// The rows as they are now, whatever is installed later.
+    pub fn snapshot(&self) -> Result<Content, OutOfMemory>
+        ensures { IfOk result (λ c. c ≡ self.now.rows) }
+    {
+        self.content.share()
+    }
+
+    /// Takes all memory that installing these writes needs. Where memory is refused, the store is ready for nothing.
+    pub fn reserve(&mut self, writes: &Writes) -> Result<(), OutOfMemory>
+        ensures rows { self.new.rows ≡ self.old.rows }
+        ensures commits { self.new.commits ≡ self.old.commits }
+        ensures ready { OnOk result (self.new.next ≡ Some (after self.old.rows writes.now)) }
+        ensures unready { OnErr result (self.new.next ≡ None) }
+    {
+        self.next = None;
+        self.commits.reserve(1)?;
+        let next = self.content.after(self.alloc, writes)?;
+        self.next = Some(next);
+        Ok(())
+    }
+
+    /// Puts in the writes that the store is ready for. Takes no memory.
+    pub fn install(&mut self, stamp: u64, writes: Writes)
+        requires ready { self.old.next ≡ Some (after self.old.rows writes) }
+        ensures { self.new ≡ record {
+          rows = after self.old.rows writes;
+          next = None;
+          commits = self.old.commits ++ record { stamp = stamp; writes = writes } ∷ [];
+        } }
+    {
+        if let Some(next) = self.next.take() {
+            self.content = next;
+            self.commits.push_reserved(Commit { stamp, writes });
+        }
+    }
+
+    /// Gives up the commits up to a stamp. Takes no memory.
+    pub fn trim(&mut self, oldest: u64)
+        ensures rows { self.new.rows ≡ self.old.rows }
+        ensures next { self.new.next ≡ None }
+        ensures commits { self.new.commits ≡ trimmed oldest self.old.commits }
+    {
+        self.next = None;
+        give_up(&mut self.commits, oldest);
+    }
+}
+
+/// Gives up the commits up to a stamp.
+fn give_up(commits: &mut Vec<Commit>, oldest: u64)
+    ensures { commits.new.items ≡ trimmed oldest commits.old.items }
+{
+    commits.retain(|commit| is_later(commit, oldest));
+}
+
+/// Whether a commit is later than a stamp.
+pub(crate) fn is_later(commit: &Commit, stamp: u64) -> bool
+    ensures { result ≡ is_later stamp commit.now }
+{
+    commit.stamp > stamp
+}

@@ -1,0 +1,9 @@
+pub mod NewRows
+pub mod Inserting
+pub mod Binding
+pub mod Rebound
+pub mod Assigning
+pub mod Updating
+pub mod Deleting
+pub mod TableAt
+pub mod Matching

@@ -1,0 +1,16 @@
+-- The rows that UPDATE and DELETE are about.
+use Rattle.std.specs.Prelude.{ℕ, Bool, List, [], ◌∷◌, ◌&&◌, Option}
+use Rattle.std.specs.Borrow.{Bor}
+use Rattle.ifdb_label.specs.Tags.{MadeTag}
+use Rattle.ifdb_label.specs.Label.{flows}
+use Rattle.ifdb_row.specs.declared.row.Row.{Row}
+use Rattle.ifdb_bound.specs.declared.condition.BoundCond.{BoundCond}
+use Rattle.ifdb_bound.specs.Conditions.{passes}
+
+-- the label sees the row, and the condition holds
+abbrev pub is_wanted : List MadeTag → Option BoundCond → List ℕ → Row → Bool
+is_wanted tags cond label r = flows tags r.slot.label label && passes cond (r.values ∷ [])
+
+-- the row that is referred to
+abbrev pub now_of : Bor Row → Row
+now_of r = r.now

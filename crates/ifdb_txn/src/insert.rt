@@ -1,0 +1,135 @@
+// INSERT.
+ghost use Rattle.std.specs.Prelude.{◌≡◌, [], Ok, IfOk, IsTrue, OnOk, false, not};
+ghost use Rattle.ifdb_row.specs.Content.{after};
+ghost use Rattle.ifdb_row.specs.Seen.{clash};
+ghost use Rattle.ifdb_foreign.specs.Parents.{IsMade};
+ghost use Rattle.ifdb_model.specs.Writes.{insert_all, insert_one, new_slot, new_write};
+ghost use Rattle.ifdb_txn.specs.Answers.{Fills, Gives};
+ghost use Rattle.ifdb_txn.specs.Inserted.{are_new};
+ghost use Rattle.ifdb_txn.specs.Scenes.{scene_of};
+
+use crate::OutOfMemory;
+use crate::assigned::copied;
+use crate::parents::{bind_parents, values_at};
+use crate::target::Target;
+use ifdb_key::is_free;
+use ifdb_row::{Refs, Row, Rows, Slot, Values, Write, Writes};
+use ifdb_value::{Shared, Value, ValueRow};
+use ifdb_wire::Fault;
+use std::alloc::Global;
+
+/// What an INSERT of rows writes, or its first refusal: the first row's that is refused, and of that DuplicateKey before NoReference.
+pub(crate) fn insert_all<R: Rows>(
+    target: &Target<'_>,
+    rows: &R,
+    values: &[ValueRow],
+) -> Result<Writes, Fault>
+    requires made { IsMade target.now.from (R.rows rows.now) }
+    ensures { Gives (insert_all (scene_of target.now.from (R.rows rows.now)) target.now.table target.now.schema.now values.now (Ok [])) result }
+{
+    let mut writes = Writes::new(target.alloc);
+    insert_into(target, rows, values, &mut writes)?;
+    Ok(writes)
+}
+
+/// Inserts the rows one by one, up to the first refusal.
+#[tactic(auto, using(crate::proofs::Inserting::one_more, crate::proofs::Inserting::all_refused))]
+fn insert_into<R: Rows>(
+    target: &Target<'_>,
+    rows: &R,
+    values: &[ValueRow],
+    writes: &mut Writes,
+) -> Result<(), Fault>
+    requires made { IsMade target.now.from (R.rows rows.now) }
+    requires empty { writes.old ≡ [] }
+    ensures fills { Fills (insert_all (scene_of target.now.from (R.rows rows.now)) target.now.table target.now.schema.now values.now (Ok []))
+        result writes.new }
+    ensures fresh { OnOk result (IsTrue (are_new (R.rows rows.now) target.now.table target.now.from.label.now writes.new)) }
+{
+    for row in values {
+        match insert_one(target, rows, row, writes) {
+            Ok(()) => {}
+            Err(fault) => return Err(fault),
+        }
+    }
+    Ok(())
+}
+
+/// Inserts one row beside the rows before the statement and its earlier rows.
+#[tactic(auto, using(crate::proofs::Inserting::inserted_put, crate::proofs::Inserting::key_refused, crate::proofs::Inserting::parent_refused, crate::proofs::Inserting::new_put))]
+fn insert_one<R: Rows>(
+    target: &Target<'_>,
+    rows: &R,
+    values: &ValueRow,
+    earlier: &mut Writes,
+) -> Result<(), Fault>
+    requires made { IsMade target.now.from (R.rows rows.now) }
+    requires fresh { IsTrue (are_new (R.rows rows.now) target.now.table target.now.from.label.now earlier.old) }
+    ensures fills { Fills (insert_one (scene_of target.now.from (R.rows rows.now)) target.now.table target.now.schema.now earlier.old values.now)
+        result earlier.new }
+    ensures fresh { OnOk result (IsTrue (are_new (R.rows rows.now) target.now.table target.now.from.label.now earlier.new)) }
+{
+    let slot = slot_of(target, values.items())?;
+    if !is_free_beside(target, rows, earlier, &slot) {
+        return Err(Fault::DuplicateKey);
+    }
+    let refs = bind_parents(target, rows, values.items())?;
+    let values = copied(target.alloc, values.items())?;
+    let write = write_of(target.alloc, &slot, values, refs)?;
+    earlier.put(write)?;
+    Ok(())
+}
+
+/// Whether a slot's key is free, among the rows before the statement and its earlier rows.
+#[tactic(auto, using(crate::proofs::NewRows::clash_after))]
+fn is_free_beside<R: Rows>(target: &Target<'_>, rows: &R, earlier: &Writes, slot: &Slot) -> bool
+    requires made { IsMade target.now.from (R.rows rows.now) }
+    requires label { slot.now.label ≡ target.now.from.label.now }
+    requires fresh { IsTrue (are_new (R.rows rows.now) slot.now.table slot.now.label earlier.now) }
+    ensures free { result ≡ not (clash target.now.from.tags.now (after (R.rows rows.now) earlier.now) slot.now.table slot.now.key slot.now.label) }
+    ensures before { IsTrue result → clash target.now.from.tags.now (R.rows rows.now) slot.now.table slot.now.key slot.now.label ≡ false }
+{
+    let _ = earlier.items();
+    let before = is_free(
+        rows,
+        target.from.tags,
+        slot.table,
+        slot.key.items(),
+        &slot.label,
+    );
+    let written = earlier.is_written(slot);
+    before && !written
+}
+
+/// Where a new row stands.
+fn slot_of(target: &Target<'_>, values: &[Value]) -> Result<Slot, OutOfMemory>
+    ensures { IfOk result (λ slot. slot ≡ new_slot target.now.table target.now.schema.now values.now target.now.from.label.now) }
+{
+    let key = values_at(target.alloc, values, target.schema.key.items())?;
+    let label = target.from.label.copy(target.alloc)?;
+    Ok(Slot {
+        table: target.table,
+        key,
+        label,
+    })
+}
+
+/// A row that is written.
+pub(crate) fn write_of(
+    alloc: Global,
+    slot: &Slot,
+    values: Values,
+    refs: Refs,
+) -> Result<Write, OutOfMemory>
+    ensures { IfOk result (λ write. write ≡ new_write slot.now values refs) }
+{
+    let row = Row {
+        slot: slot.copy(alloc)?,
+        values,
+        refs,
+    };
+    Ok(Write {
+        slot: slot.copy(alloc)?,
+        row: Some(Shared::new(alloc, row)?),
+    })
+}

@@ -1,0 +1,119 @@
+// The rows that UPDATE and DELETE are about.
+ghost use Rattle.std.specs.Prelude.{◌≡◌, ◌∷◌, ◌++◌, [], IfOk, OnOk, IsTrue, filter, length, map};
+ghost use Rattle.std.specs.Option.{option_copied};
+ghost use Rattle.ifdb_label.specs.Tags.{AreMade};
+ghost use Rattle.ifdb_bound.specs.Conditions.{passes};
+ghost use Rattle.ifdb_row.specs.Content.{rising};
+ghost use Rattle.ifdb_row.specs.Seen.{are_rows_made};
+ghost use Rattle.ifdb_row.specs.Slots.{is_same_label};
+ghost use Rattle.ifdb_foreign.specs.Parents.{IsMade};
+ghost use Rattle.ifdb_model.specs.Writes.{are_writable, deletion, matched};
+ghost use Rattle.ifdb_txn.specs.Matches.{is_wanted, now_of};
+
+use crate::OutOfMemory;
+use crate::target::Target;
+use ifdb_bound::BoundCond;
+use ifdb_expr::{Frame, SeenRow, holds};
+use ifdb_foreign::Standpoint;
+use ifdb_label::Label;
+use ifdb_row::{Row, Rows, Slot, Write};
+use ifdb_value::{Shared, Value};
+use std::alloc::Global;
+
+/// The rows of the table that the session's label sees and of which the condition holds, in the order of slots.
+pub(crate) fn matched<'a, R: Rows>(
+    target: &Target<'_>,
+    rows: &'a R,
+    cond: &Option<BoundCond>,
+) -> Result<Vec<&'a Row>, OutOfMemory>
+    requires made { IsMade target.now.from (R.rows rows.now) }
+    ensures rows { IfOk result (λ found. map now_of found.items
+        ≡ matched target.now.from.tags.now (R.rows rows.now) target.now.table cond.now target.now.from.label.now) }
+    ensures rising { IfOk result (λ found. IsTrue (rising (map now_of found.items))) }
+{
+    let mut found: Vec<&'a Row> = Vec::new(target.alloc);
+    let mut after: Option<&'a Slot> = None;
+    loop {
+        let run = rows.run(target.table, after);
+        let Some((last, _)) = run.split_last() else {
+            return Ok(found);
+        };
+        keep_matched(target.from, run, cond, &mut found)?;
+        after = Some(&last.get().slot);
+    }
+}
+
+/// Adds those of some rows that the label sees and of which the condition holds.
+fn keep_matched<'a>(
+    from: Standpoint<'_>,
+    run: &'a [Shared<Row>],
+    cond: &Option<BoundCond>,
+    found: &mut Vec<&'a Row>,
+) -> Result<(), OutOfMemory>
+    requires rows_made { IsTrue (are_rows_made (length from.tags.now) run.now) }
+    requires label_made { AreMade (length from.tags.now) from.label.now }
+    ensures { OnOk result (map now_of found.new.items
+        ≡ map now_of found.old.items ++ filter (is_wanted from.entry.tags.now cond.now from.entry.label.now) run.now) }
+{
+    for row in run {
+        let row = row.get();
+        if is_wanted(from, row, cond) {
+            found.push(row)?;
+        }
+    }
+    Ok(())
+}
+
+/// Whether the label sees the row, and the condition holds.
+fn is_wanted(from: Standpoint<'_>, row: &Row, cond: &Option<BoundCond>) -> bool
+    requires row_made { AreMade (length from.tags.now) row.now.slot.label }
+    requires label_made { AreMade (length from.tags.now) from.label.now }
+    ensures { result ≡ is_wanted from.entry.tags.now cond.now from.entry.label.now row.now }
+{
+    row.slot.label.flows(from.tags, from.label) && passes(cond, row.values.items())
+}
+
+/// Whether a condition that may be left out holds of one row.
+fn passes(cond: &Option<BoundCond>, values: &[Value]) -> bool
+    ensures { result ≡ passes cond.now (values.now ∷ []) }
+{
+    match cond {
+        Some(cond) => {
+            let row = SeenRow { values, label: &[] };
+            holds(cond, &Frame::empty().with(row))
+        }
+        None => true,
+    }
+}
+
+/// Whether each row has the label.
+#[tactic(auto, using(crate::proofs::Matching::all_map))]
+pub(crate) fn are_writable(label: &Label, rows: &[&Row]) -> bool
+    ensures { result ≡ are_writable label.now (map now_of rows.now) }
+{
+    for row in rows {
+        if !is_same_label(&row.slot.label, label) {
+            return false;
+        }
+    }
+    true
+}
+
+/// Whether two labels are the same.
+fn is_same_label(label: &Label, other: &Label) -> bool
+    ensures { result ≡ is_same_label label.now other.now }
+{
+    label.tags().cmp(other.tags()).is_eq()
+}
+
+/// The deletions of some rows.
+pub(crate) fn deletions(alloc: Global, rows: &[&Row]) -> Result<Vec<Write>, OutOfMemory>
+    ensures { IfOk result (λ writes. writes.items ≡ map deletion (map now_of rows.now)) }
+{
+    let mut writes = Vec::with_capacity(alloc, rows.len())?;
+    for row in rows {
+        let slot = row.slot.copy(alloc)?;
+        writes.push(Write { slot, row: None })?;
+    }
+    Ok(writes)
+}

@@ -1,0 +1,126 @@
+// The parents that a row is bound to.
+ghost use Rattle.std.specs.Prelude.{◌≡◌, IfOk};
+ghost use Rattle.std.specs.Option.{option_copied};
+ghost use Rattle.ifdb_bound.specs.Expressions.{value_at};
+ghost use Rattle.ifdb_model.specs.Writes.{bound_parent, bound_parents, rebound, values_at};
+ghost use Rattle.ifdb_foreign.specs.Parents.{Binds, IsMade};
+ghost use Rattle.ifdb_txn.specs.Scenes.{scene_of};
+ghost use Rattle.ifdb_txn.specs.Rebinding.{kept_of, kept_or_bound};
+
+use crate::OutOfMemory;
+use crate::assigned::is_assigned;
+use crate::target::Target;
+use ifdb_bound::{BoundAssignment, Foreign};
+use ifdb_expr::value_in;
+use ifdb_foreign::bind_parent;
+use ifdb_row::{Refs, Rows, Slot, Values};
+use ifdb_value::Value;
+use ifdb_wire::Fault;
+use std::alloc::Global;
+
+/// The parents of a row with these values, by each of the table's foreign keys in their order.
+#[tactic(auto, using(crate::proofs::Binding::with_parent, crate::proofs::Binding::without_parent))]
+pub(crate) fn bind_parents<R: Rows>(
+    target: &Target<'_>,
+    rows: &R,
+    values: &[Value],
+) -> Result<Refs, Fault>
+    requires made { IsMade target.now.from (R.rows rows.now) }
+    ensures { Binds (bound_parents (scene_of target.now.from (R.rows rows.now)) values.now target.now.schema.now.foreign) result }
+{
+    let mut refs = Refs::new(target.alloc);
+    for foreign in target.schema.foreign.items() {
+        refs.push(parent_by(target, rows, values, foreign)?)?;
+    }
+    Ok(refs)
+}
+
+/// The parents of a row that is updated: those of the foreign keys with an assigned column are bound anew, and the others stay.
+#[tactic(auto, using(crate::proofs::Rebound::with_rebound, crate::proofs::Rebound::without_rebound))]
+pub(crate) fn rebind_parents<R: Rows>(
+    target: &Target<'_>,
+    rows: &R,
+    assignments: &[BoundAssignment],
+    values: &[Value],
+    refs: &[Slot],
+) -> Result<Refs, Fault>
+    requires made { IsMade target.now.from (R.rows rows.now) }
+    ensures { Binds (rebound (scene_of target.now.from (R.rows rows.now)) assignments.now values.now target.now.schema.now.foreign refs.now) result }
+{
+    let mut found = Refs::new(target.alloc);
+    for (at, foreign) in target.schema.foreign.items().iter().enumerate() {
+        let kept = kept(assignments, foreign, refs.get(at));
+        found.push(kept_or_bound(target, rows, values, foreign, kept)?)?;
+    }
+    Ok(found)
+}
+
+/// The slot that a row was bound to, if no column of the foreign key is assigned.
+fn kept<'a>(
+    assignments: &[BoundAssignment],
+    foreign: &Foreign,
+    bound: Option<&'a Slot>,
+) -> Option<&'a Slot>
+    ensures { option_copied result ≡ kept_of assignments.now foreign.now (option_copied bound.entry) }
+{
+    if is_assigned(assignments, foreign) {
+        return None;
+    }
+    bound
+}
+
+/// The slot that is kept, or else the parent of a row with these values.
+fn kept_or_bound<R: Rows>(
+    target: &Target<'_>,
+    rows: &R,
+    values: &[Value],
+    foreign: &Foreign,
+    kept: Option<&Slot>,
+) -> Result<Slot, Fault>
+    requires made { IsMade target.now.from (R.rows rows.now) }
+    ensures { Binds (kept_or_bound (scene_of target.now.from (R.rows rows.now)) values.now foreign.now (option_copied kept.entry)) result }
+{
+    match kept {
+        Some(slot) => {
+            let copy = slot.copy(target.alloc)?;
+            Ok(copy)
+        }
+        None => parent_by(target, rows, values, foreign),
+    }
+}
+
+/// The parent of a row with these values, by one foreign key.
+fn parent_by<R: Rows>(
+    target: &Target<'_>,
+    rows: &R,
+    values: &[Value],
+    foreign: &Foreign,
+) -> Result<Slot, Fault>
+    requires made { IsMade target.now.from (R.rows rows.now) }
+    ensures { Binds (bound_parent (scene_of target.now.from (R.rows rows.now)) values.now foreign.now) result }
+{
+    let key = values_at(target.alloc, values, foreign.columns.items())?;
+    bind_parent(target.alloc, target.from, rows, foreign.parent, key.items())
+}
+
+/// The values at some places; 0 where there is none.
+pub(crate) fn values_at(
+    alloc: Global,
+    values: &[Value],
+    places: &[usize],
+) -> Result<Values, OutOfMemory>
+    ensures { IfOk result (λ found. found ≡ values_at values.now places.now) }
+{
+    let mut found = Values::with_capacity(alloc, places.len())?;
+    for place in places {
+        found.push(value_at(alloc, values, *place)?)?;
+    }
+    Ok(found)
+}
+
+/// The value at a place; 0 where there is none.
+fn value_at(alloc: Global, values: &[Value], place: usize) -> Result<Value, OutOfMemory>
+    ensures { IfOk result (λ value. value ≡ value_at values.now place) }
+{
+    value_in(values, place).to_value(alloc)
+}

@@ -1,0 +1,83 @@
+// UPDATE.
+ghost use Rattle.std.specs.Prelude.{◌≡◌, ◌++◌, ◌∷◌, [], OnOk, map, IsTrue};
+ghost use Rattle.ifdb_row.specs.Content.{rising};
+ghost use Rattle.ifdb_foreign.specs.Parents.{IsMade};
+ghost use Rattle.ifdb_model.specs.Writes.{update_all, update_one};
+ghost use Rattle.ifdb_txn.specs.Answers.{Fills, Gives};
+ghost use Rattle.ifdb_txn.specs.Matches.{now_of};
+ghost use Rattle.ifdb_txn.specs.Scenes.{scene_of};
+
+use crate::OutOfMemory;
+use crate::assigned::assigned;
+use crate::insert::write_of;
+use crate::parents::rebind_parents;
+use crate::target::Target;
+use ifdb_bound::BoundAssignment;
+use ifdb_row::{Row, Rows, Write, Writes};
+use ifdb_wire::Fault;
+
+/// What an UPDATE of rows writes, in their order, or its first refusal: the first row's that is refused, and of that OutOfRange before
+/// NoReference.
+#[tactic(auto, using(crate::proofs::Updating::updated_rising, crate::proofs::Updating::updated_fitting))]
+pub(crate) fn update_all<R: Rows>(
+    target: &Target<'_>,
+    rows: &R,
+    assignments: &[BoundAssignment],
+    matched: &[&Row],
+) -> Result<Writes, Fault>
+    requires made { IsMade target.now.from (R.rows rows.now) }
+    requires rising { IsTrue (rising (map now_of matched.now)) }
+    ensures { Gives (update_all (scene_of target.now.from (R.rows rows.now)) target.now.schema.now assignments.now (map now_of matched.now)) result }
+{
+    let mut writes = Vec::new(target.alloc);
+    update_into(target, rows, assignments, matched, &mut writes)?;
+    Ok(Writes::from_vec(writes))
+}
+
+/// Updates the rows one by one, up to the first refusal.
+#[tactic(auto, using(crate::proofs::Updating::one_more))]
+fn update_into<R: Rows>(
+    target: &Target<'_>,
+    rows: &R,
+    assignments: &[BoundAssignment],
+    matched: &[&Row],
+    writes: &mut Vec<Write>,
+) -> Result<(), Fault>
+    requires made { IsMade target.now.from (R.rows rows.now) }
+    requires empty { writes.old.items ≡ [] }
+    ensures { Fills (update_all (scene_of target.now.from (R.rows rows.now)) target.now.schema.now assignments.now (map now_of matched.now))
+        result writes.new.items }
+{
+    for row in matched {
+        match update_one(target, rows, assignments, row) {
+            Ok(write) => push(writes, write)?,
+            Err(fault) => return Err(fault),
+        }
+    }
+    Ok(())
+}
+
+/// A row updated.
+#[tactic(auto, using(crate::proofs::Rebound::updated_is, crate::proofs::Rebound::updated_range, crate::proofs::Rebound::updated_ref))]
+fn update_one<R: Rows>(
+    target: &Target<'_>,
+    rows: &R,
+    assignments: &[BoundAssignment],
+    row: &Row,
+) -> Result<Write, Fault>
+    requires made { IsMade target.now.from (R.rows rows.now) }
+    ensures { Gives (update_one (scene_of target.now.from (R.rows rows.now)) target.now.schema.now assignments.now row.now) result }
+{
+    let values = assigned(target.alloc, row.values.items(), assignments)?;
+    let refs = rebind_parents(target, rows, assignments, values.items(), row.refs.items())?;
+    let write = write_of(target.alloc, &row.slot, values, refs)?;
+    Ok(write)
+}
+
+/// One more write.
+fn push(writes: &mut Vec<Write>, write: Write) -> Result<(), OutOfMemory>
+    ensures { OnOk result (writes.new.items ≡ writes.old.items ++ write ∷ []) }
+{
+    writes.push(write)?;
+    Ok(())
+}

@@ -1,0 +1,100 @@
+// Where the rows of a SELECT's sources are.
+ghost use Rattle.std.specs.Prelude.{◌≡◌, IsTrue, IfOk, List, ℕ, length, map};
+ghost use Rattle.std.specs.List.{list_all};
+ghost use Rattle.ifdb_label.specs.Tags.{AreMade, MadeTag};
+ghost use Rattle.ifdb_bound.specs.declared.select.BoundSource.{BoundSource as AnySource};
+ghost use Rattle.ifdb_bound.specs.Query.{all_some};
+ghost use Rattle.ifdb_expr.specs.Query.{is_allowed, source_rows};
+ghost use Rattle.ifdb_exec.specs.Given.{are_rows_made, rows_given};
+ghost use Rattle.ifdb_view.specs.Faults.{TellsBy};
+ghost use Rattle.ifdb_view.specs.Made.{are_views_made, setting};
+
+use crate::OutOfMemory;
+use crate::view_rows::rows_of;
+use crate::views::Views;
+use ifdb_bound::{BoundSource, Relation};
+use ifdb_exec::{Given, Reading, ViewRows};
+use ifdb_expr::ExprFault;
+use ifdb_row::Rows;
+use ifdb_value::Sequence;
+
+/// Whether each source is a table, or a view whose owner holds each tag that the view declassifies.
+pub(crate) fn all_allowed<V: Views>(views: &V, sources: &[BoundSource]) -> Result<bool, OutOfMemory>
+    ensures { IfOk result (λ allowed. (tags : List MadeTag) (names : List (List ℕ)) → allowed ≡ list_all
+        (λ (x : AnySource). is_allowed (setting tags names (V.views views.now) (V.allows views.now)) x.relation)
+        sources.now) }
+{
+    for source in sources {
+        let is_allowed = allowed(views, source.relation)?;
+        if !is_allowed {
+            return Ok(false);
+        }
+    }
+    Ok(true)
+}
+
+/// Whether a source is a table, or a view whose owner holds each tag that the view declassifies.
+fn allowed<V: Views>(views: &V, relation: Relation) -> Result<bool, OutOfMemory>
+    ensures { IfOk result (λ allowed. (tags : List MadeTag) (names : List (List ℕ))
+        → allowed ≡ is_allowed (setting tags names (V.views views.now) (V.allows views.now)) relation) }
+{
+    match relation {
+        Relation::Table(_) => Ok(true),
+        Relation::View(id) => match views.view(id) {
+            None => Ok(true),
+            Some(view) => views.is_allowed(view),
+        },
+    }
+}
+
+/// Where the rows of some sources are; those of a view are computed.
+pub(crate) fn given<R: Rows, V: Views>(
+    reading: &Reading<'_>,
+    rows: &R,
+    views: &V,
+    sources: &[BoundSource],
+) -> Result<Sequence<Given>, ExprFault>
+    requires rows_made { IsTrue (are_rows_made (length reading.now.tags.now) (R.rows rows.now)) }
+    requires label_made { AreMade (length reading.now.tags.now) reading.now.label.now }
+    requires views_made { IsTrue (are_views_made (length reading.now.tags.now) (V.views views.now)) }
+    ensures { TellsBy (map (rows_given reading.now.tags.now (R.rows rows.now) reading.now.label.now))
+        (all_some (map (λ (x : AnySource). source_rows
+        (setting reading.now.tags.now reading.now.names.now (V.views views.now) (V.allows views.now))
+        (R.rows rows.now) reading.now.label.now x.relation) sources.now)) result }
+{
+    let mut all = Sequence::new(reading.alloc);
+    for source in sources {
+        match given_of(reading, rows, views, source.relation) {
+            Ok(one) => all.push(one)?,
+            Err(fault) => return Err(fault),
+        }
+    }
+    Ok(all)
+}
+
+/// Where the rows of a source are.
+fn given_of<R: Rows, V: Views>(
+    reading: &Reading<'_>,
+    rows: &R,
+    views: &V,
+    relation: Relation,
+) -> Result<Given, ExprFault>
+    requires rows_made { IsTrue (are_rows_made (length reading.now.tags.now) (R.rows rows.now)) }
+    requires label_made { AreMade (length reading.now.tags.now) reading.now.label.now }
+    requires views_made { IsTrue (are_views_made (length reading.now.tags.now) (V.views views.now)) }
+    ensures { TellsBy (rows_given reading.now.tags.now (R.rows rows.now) reading.now.label.now)
+        (source_rows
+        (setting reading.now.tags.now reading.now.names.now (V.views views.now) (V.allows views.now))
+        (R.rows rows.now) reading.now.label.now relation) result }
+{
+    match relation {
+        Relation::Table(table) => Ok(Given::Table(table)),
+        Relation::View(id) => match views.view(id) {
+            None => Ok(Given::View(ViewRows::new(reading.alloc))),
+            Some(view) => match rows_of(reading, rows, view) {
+                Ok(shown) => Ok(Given::View(shown)),
+                Err(fault) => Err(fault),
+            },
+        },
+    }
+}
