@@ -1,5 +1,5 @@
 -- The kinds of a scope's columns.
-use Rattle.std.proofs.Common.{◌≡◌, refl, ap, sym, ◌∙◌, ℕ, zero, suc, List, [], ◌∷◌, length, map, Option, Some, None, cond, arith}
+use Rattle.std.proofs.Common.{◌≡◌, refl, ap, sym, ◌∙◌, ℕ, zero, suc, List, [], ◌∷◌, length, map, Some, None, arith}
 use Rattle.std.specs.Prelude.{slice_get, slice_index_or, bytes_eq, position}
 use Rattle.std.proofs.lemmas.List.{length-map}
 use Rattle.ifdb_value.specs.declared.column.Column.{Column}

@@ -27,7 +27,6 @@ use Rattle.ifdb_bound.specs.declared.condition.BoundCond.TheViews.{roll-BoundCon
 use Rattle.ifdb_bound.specs.declared.condition.BoundCond.TheBlock as bound_block
 use Rattle.ifdb_bound.specs.declared.condition.BoundCond.TheFolds as bound_folds
 use Rattle.ifdb_bound.specs.Folds as bound
-use Rattle.ifdb_bound.specs.Conditions as conditions
 use Rattle.ifdb_bound.specs.Kinds.{agree, arithmetic_kind, column_kind, cond_fits, expr_kind, fits_step, operand_kind}
 use Rattle.ifdb_catalog.specs.Scope.{Scope, column_at, is_column}
 use Rattle.ifdb_catalog.specs.Folds.{fold_expr, fold_cond}

@@ -1,5 +1,5 @@
 -- What a name may mean among columns that stand behind one another.
-use Rattle.std.proofs.Common.{◌≡◌, refl, ap, ℕ, ◌+◌, Bool, true, false, List, [], ◌∷◌, ◌++◌, map, cond, Some, None}
+use Rattle.std.proofs.Common.{◌≡◌, refl, ap, ℕ, ◌+◌, List, [], ◌∷◌, ◌++◌, map, cond}
 use Rattle.std.specs.Prelude.{bytes_eq}
 use Rattle.ifdb_value.specs.declared.column.Column.{Column}
 use Rattle.ifdb_bound.specs.declared.expression.BoundColumn.{BoundColumn}

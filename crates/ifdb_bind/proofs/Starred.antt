@@ -1,5 +1,5 @@
 -- The columns that `*` gives, one behind the other.
-use Rattle.std.proofs.Common.{◌≡◌, refl, ap, sym, ◌∙◌, append_assoc, ℕ, zero, suc, ◌+◌, ◌<◌, List, [], ◌∷◌, ◌++◌, length, take, arith}
+use Rattle.std.proofs.Common.{◌≡◌, ap, sym, ◌∙◌, append_assoc, ℕ, zero, suc, ◌+◌, ◌<◌, List, [], ◌∷◌, ◌++◌, length, take, arith}
 use Rattle.ifdb_value.specs.declared.column.Column.{Column}
 use Rattle.ifdb_bound.specs.declared.expression.BoundColumn.{BoundColumn}
 use Rattle.std.proofs.lemmas.List.{map-append}

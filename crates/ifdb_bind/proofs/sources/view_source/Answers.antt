@@ -1,7 +1,6 @@
 use Rattle.std.proofs.Common.{◌≡◌, IfOk, ap, sym, subst, ◌∙◌}
 use Rattle.ifdb_bound.specs.declared.schema.ViewDef.{ViewDef}
-use Rattle.ifdb_catalog.specs.Public.{view_at}
-use Rattle.ifdb_catalog.specs.Scope.{ScopeSource, view_columns}
+use Rattle.ifdb_catalog.specs.Scope.{view_columns}
 use Rattle.ifdb_bind.proofs.Columns.{made_is_even, made_view, no_view_at}
 use Rattle.ifdb_bind.proofs.sources.view_source.Goals as goal
 

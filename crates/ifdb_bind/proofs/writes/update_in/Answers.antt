@@ -1,9 +1,8 @@
-use Rattle.std.proofs.Common.{◌≡◌, ℕ, Bool, true, false, List, [], ◌∷◌, ◌&&◌, map, Option, inr, Ok, ap, sym, subst, ◌∙◌}
+use Rattle.std.proofs.Common.{◌≡◌, true, false, List, [], ◌∷◌, ◌&&◌, map, inr, Ok, ap, sym, subst, ◌∙◌}
 use Rattle.std.specs.List.{list_all, list_any}
 use Rattle.std.proofs.lemmas.Result.{err_from_is_err_and}
 use Rattle.ifdb_syntax.specs.declared.request.Assignment.{Assignment}
 use Rattle.ifdb_bound.specs.Kinds.{where_fits}
-use Rattle.ifdb_bound.specs.declared.condition.BoundCond.{BoundCond}
 use Rattle.ifdb_bound.specs.declared.request.BoundAssignment.{BoundAssignment}
 use Rattle.ifdb_bound.specs.declared.request.Bound.TheVariants as b
 use Rattle.ifdb_catalog.specs.Public.{table_at}
@@ -16,7 +15,7 @@ use Rattle.ifdb_catalog.proofs.Tests.{both_of}
 use Rattle.ifdb_bind.specs.Lacks.{Lacks}
 use Rattle.ifdb_bind.specs.Written.{is_of_key}
 use Rattle.ifdb_bind.proofs.Lacking.{lacks_first, lacks_second, refused}
-use Rattle.ifdb_bind.proofs.WriteChecks.{update_known, update_fits, update_unknown, update_viewed, update_keyed, update_mismatched, update_accepted, not_a_table}
+use Rattle.ifdb_bind.proofs.WriteChecks.{update_known, update_unknown, update_viewed, update_keyed, update_mismatched, update_accepted, not_a_table}
 use Rattle.ifdb_bind.proofs.writes.update_in.Goals as goal
 
 pub returns-in_err-assignments-clause-refused : goal.returns-in_err-assignments-clause-refused

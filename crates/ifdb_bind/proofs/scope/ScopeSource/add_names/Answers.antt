@@ -4,7 +4,6 @@ use Rattle.std.proofs.lemmas.List.{map-id}
 use Rattle.ifdb_value.specs.declared.column.Column.{Column}
 use Rattle.ifdb_catalog.specs.Scope.{ScopeSource, columns_of}
 use Rattle.ifdb_bind.specs.Sources.{are_even, listed}
-use Rattle.ifdb_bind.specs.declared.scope.Listed.TheVariants as l
 use Rattle.ifdb_bind.proofs.ColumnKinds.{names_of_columns}
 use Rattle.ifdb_bind.proofs.scope.ScopeSource.add_names.Goals as goal
 

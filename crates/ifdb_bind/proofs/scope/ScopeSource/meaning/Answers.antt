@@ -1,9 +1,8 @@
-use Rattle.std.proofs.Common.{◌≡◌, ℕ, List, Option, ap, sym, subst, ◌∙◌, length}
+use Rattle.std.proofs.Common.{◌≡◌, ℕ, List, ap, sym, subst, ◌∙◌, length}
 use Rattle.std.proofs.lemmas.List.{map-id}
 use Rattle.ifdb_value.specs.declared.column.Column.{Column}
 use Rattle.ifdb_catalog.specs.Scope.{ScopeSource, columns_of}
 use Rattle.ifdb_bind.specs.Sources.{are_even, listed}
-use Rattle.ifdb_bind.specs.declared.scope.Listed.TheVariants as l
 use Rattle.ifdb_catalog.specs.Scope.{places_named}
 use Rattle.ifdb_bind.specs.Meaning.{columns_called, meaning}
 use Rattle.ifdb_bind.proofs.ColumnKinds.{names_of_columns}

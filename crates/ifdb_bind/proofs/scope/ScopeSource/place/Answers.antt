@@ -1,8 +1,7 @@
-use Rattle.std.proofs.Common.{◌≡◌, ℕ, List, Option, ap, sym, subst, ◌∙◌, length}
+use Rattle.std.proofs.Common.{◌≡◌, ℕ, List, ap, sym, subst, ◌∙◌, length}
 use Rattle.ifdb_value.specs.declared.column.Column.{Column}
 use Rattle.ifdb_catalog.specs.Scope.{ScopeSource, columns_of}
 use Rattle.ifdb_bind.specs.Sources.{are_even, listed}
-use Rattle.ifdb_bind.specs.declared.scope.Listed.TheVariants as l
 use Rattle.std.specs.Prelude.{bytes_eq, position}
 use Rattle.ifdb_catalog.specs.Statements.{place_named}
 use Rattle.ifdb_bind.proofs.ColumnKinds.{names_of_columns, place_by_names}

@@ -1,8 +1,7 @@
-use Rattle.std.proofs.Common.{◌≡◌, ℕ, List, Option, ap, sym, subst, ◌∙◌, length}
+use Rattle.std.proofs.Common.{◌≡◌, List, ap, sym, subst, ◌∙◌, length}
 use Rattle.ifdb_value.specs.declared.column.Column.{Column}
 use Rattle.ifdb_catalog.specs.Scope.{ScopeSource, columns_of}
 use Rattle.ifdb_bind.specs.Sources.{are_even, listed}
-use Rattle.ifdb_bind.specs.declared.scope.Listed.TheVariants as l
 use Rattle.ifdb_bind.proofs.ColumnKinds.{width_of_columns}
 use Rattle.ifdb_bind.proofs.scope.ScopeSource.width.Goals as goal
 
