@@ -2,7 +2,7 @@ use Rattle.std.proofs.Common.{◌≡◌, ◌∙◌, ap, sym, true, false, rules}
 use Rattle.std.specs.Prelude.{◌&&◌, Some}
 use Rattle.std.specs.Option.{option_copied}
 use Rattle.ifdb_row.specs.declared.row.Row.{Row}
-use Rattle.ifdb_row.specs.Questions.{is_child_of, is_past, row_bound_to}
+use Rattle.ifdb_row.specs.Questions.{is_child_of, is_past}
 use Rattle.ifdb_row.proofs.Reaches.{find_here, none_here}
 use Rattle.ifdb_row.proofs.list_rows.first_bound.Goals as goal
 
