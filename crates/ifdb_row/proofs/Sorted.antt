@@ -1,6 +1,6 @@
 -- Lists that rise by slots: where a slot stands in one, and what an item put there leaves.
 use Rattle.std.proofs.Common.{◌≡◌, ℕ, ◌<◌, ◌≤◌, Bool, true, false, List, [], ◌∷◌, ◌∙◌, length, get_or, set, refl, sym, ap, arith, Some, None}
-use Rattle.std.specs.Prelude.{not, ◌&&◌, insert, remove, if◌then◌else◌}
+use Rattle.std.specs.Prelude.{not, ◌++◌, ◌&&◌, insert, remove, if◌then◌else◌}
 use Rattle.std.specs.List.{list_all, list_any}
 use Rattle.std.proofs.lemmas.Bool.{false≢true}
 use Rattle.std.proofs.lemmas.Bool.Decides.{nat_tests}
@@ -9,7 +9,7 @@ use Rattle.ifdb_row.specs.declared.slot.Slot.{Slot}
 use Rattle.ifdb_row.specs.declared.row.Row.{Row}
 use Rattle.ifdb_row.specs.declared.write.Write.{Write}
 use Rattle.ifdb_row.specs.Slots.{is_same_slot, slot_lt}
-use Rattle.ifdb_row.specs.Writes.{is_fitting, are_fitting, are_rising, put}
+use Rattle.ifdb_row.specs.Writes.{is_fitting, are_fitting, are_rising, merged, put}
 use Rattle.ifdb_row.specs.Content.{place, rising}
 use Rattle.ifdb_row.specs.Reach.{reach, is_parted}
 use Rattle.ifdb_row.proofs.SlotOrder.{slot_same, slot_lt_trans, slot_lt_itself}
@@ -182,3 +182,15 @@ put_rises w (v ∷ ws) h = by (put_rises w ws) (is_same_slot w.slot v.slot) refl
       back : (c : Bool) → slot_lt v.slot w.slot ≡ c → slot_lt v.slot w.slot ≡ true
       back true u = u
       back false u = absurd (false≢true (sym k ∙ lt_from w.slot v.slot e u))
+
+pub merged_fits : (own ws : List Write) → are_fitting own ≡ true → are_fitting ws ≡ true → are_fitting (merged own ws) ≡ true
+merged_fits own [] f g = f
+merged_fits own (w ∷ ws) f g = merged_fits (put w own) ws (put_fits w own (grind (arith, nat_tests)) f) (grind (arith, nat_tests))
+
+pub merged_rises : (own ws : List Write) → are_rising own ≡ true → are_rising (merged own ws) ≡ true
+merged_rises own [] h = h
+merged_rises own (w ∷ ws) h = merged_rises (put w own) ws (put_rises w own h)
+
+pub merged_more : (own ws : List Write) (w : Write) → merged own (ws ++ w ∷ []) ≡ put w (merged own ws)
+merged_more own [] w = refl
+merged_more own (v ∷ ws) w = merged_more (put v own) ws w

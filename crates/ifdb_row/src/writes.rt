@@ -1,9 +1,9 @@
 // Writes, each slot once.
-ghost use Rattle.std.specs.Prelude.{◌≡◌, ◌≤◌, [], length, find, slice_get, IsTrue, OnErr, OnOk};
+ghost use Rattle.std.specs.Prelude.{◌≡◌, ◌≤◌, ◌<◌, ◌+◌, [], length, find, slice_get, vec_len, vec_capacity, IsTrue, OnErr, OnOk};
 ghost use Rattle.std.specs.List.{list_any};
 ghost use Rattle.std.specs.Option.{option_copied};
 ghost use Rattle.ifdb_row.specs.Slots.{is_same_slot, slot_lt};
-ghost use Rattle.ifdb_row.specs.Writes.{are_fitting, are_rising, if_of, is_fitting, is_written, put};
+ghost use Rattle.ifdb_row.specs.Writes.{are_fitting, are_rising, if_of, is_fitting, is_written, merged, put};
 ghost use Rattle.ifdb_row.specs.Reach.{reach};
 
 use crate::OutOfMemory;
@@ -102,6 +102,48 @@ impl Writes {
     {
         put(&mut self.items, write)?;
         Ok(())
+    }
+
+    /// Adds later writes, which take the place of earlier ones of their slots. Where an allocation is refused, the writes are
+    /// as before.
+    ///
+    /// Finds each place by binary search, and moves the writes behind it: none, where the later ones stand behind.
+    #[tactic(auto, using(crate::proofs::Sorted::merged_rises, crate::proofs::Sorted::merged_fits))]
+    pub fn merge(&mut self, later: Writes) -> Result<(), OutOfMemory>
+        ensures ok { OnOk result (self.new ≡ merged self.old later) }
+        ensures err { OnErr result (self.new ≡ self.old) }
+    {
+        let Writes { items: later } = later;
+        self.items.reserve(later.len())?;
+        put_all(&mut self.items, later);
+        Ok(())
+    }
+}
+
+/// Adds writes, for which there is room, in place of earlier ones of their slots.
+fn put_all(items: &mut Vec<Write>, later: Vec<Write>)
+    requires rising { IsTrue (are_rising items.old.items) }
+    requires room { vec_len items.old + vec_len later ≤ vec_capacity items.old }
+    ensures { items.new.items ≡ merged items.old.items later.items }
+{
+    for write in later {
+        put_reserved(items, write);
+    }
+}
+
+/// Adds a write, for which there is room, in place of an earlier one of its slot.
+fn put_reserved(items: &mut Vec<Write>, write: Write)
+    requires rising { IsTrue (are_rising items.old.items) }
+    requires room { vec_len items.old < vec_capacity items.old }
+    ensures items { items.new.items ≡ put write items.old.items }
+    ensures room { vec_capacity items.old ≤ vec_capacity items.new }
+    ensures few { vec_len items.new ≤ vec_len items.old + 1 }
+{
+    let at = place_of(items, &write.slot);
+    if is_at(items, at, &write.slot) {
+        items[at] = write;
+    } else {
+        let _ = items.insert(at, write);
     }
 }
 

@@ -1,0 +1,86 @@
+//! Times a store of many rows: snapshots, commits of one write, look-ups by slot and walks through a table.
+//!
+//! With a word, as `time`, it prints what each call takes at 10,000, 100,000 and 1,000,000 rows. Without one it fills a small
+//! store and prints how many rows a walk finds, which is the same each time.
+#![tactic(auto)]
+
+mod rows;
+mod work;
+
+use ifdb_store::Store;
+use std::time::Instant;
+use std::{env, io};
+use work::{CALLS, fill, look, make, share, walk};
+
+fn main(rt: HostRuntime) -> io::Result<()> {
+    if env::args(&rt)?.nth(1).is_some() {
+        time(&rt, 10_000)?;
+        time(&rt, 100_000)?;
+        time(&rt, 1_000_000)?;
+    } else {
+        show(&rt, 200)?;
+    }
+    Ok(())
+}
+
+/// Prints how many rows a walk finds in a store of so many.
+fn show(rt: &HostRuntime, rows: u32) -> io::Result<()> {
+    let mut store = Store::new(rt.alloc())?;
+    fill(rt.alloc(), &mut store, rows, rows)?;
+    let found = walk(store.content());
+    println!(rt; "{rows} commits of one write: {found} rows")
+}
+
+/// Fills a store, and times it.
+fn time(rt: &HostRuntime, rows: u32) -> io::Result<()> {
+    println!(rt; "{rows} rows")?;
+    let mut store = Store::new(rt.alloc())?;
+    fill(rt.alloc(), &mut store, rows, rows)?;
+    time_make(rt, rows)?;
+    time_look(rt, &store, rows)?;
+    time_share(rt, &store)?;
+    time_fill(rt, &mut store, rows)?;
+    time_walk(rt, &store, rows)
+}
+
+/// Times the making of slots, which is a part of a look-up's time.
+fn time_make(rt: &HostRuntime, rows: u32) -> io::Result<()> {
+    let start = Instant::now(rt)?;
+    make(rt.alloc(), rows)?;
+    tell(rt, "slot alone", start, CALLS)
+}
+
+/// Times look-ups by slot.
+fn time_look(rt: &HostRuntime, store: &Store, rows: u32) -> io::Result<()> {
+    let start = Instant::now(rt)?;
+    look(rt.alloc(), store.content(), rows)?;
+    tell(rt, "look-up by slot", start, CALLS)
+}
+
+/// Times snapshots.
+fn time_share(rt: &HostRuntime, store: &Store) -> io::Result<()> {
+    let start = Instant::now(rt)?;
+    share(store)?;
+    tell(rt, "snapshot", start, CALLS)
+}
+
+/// Times commits of one write.
+fn time_fill(rt: &HostRuntime, store: &mut Store, rows: u32) -> io::Result<()> {
+    let start = Instant::now(rt)?;
+    fill(rt.alloc(), store, CALLS, rows)?;
+    tell(rt, "commit of one write", start, CALLS)
+}
+
+/// Times a walk through all rows.
+fn time_walk(rt: &HostRuntime, store: &Store, rows: u32) -> io::Result<()> {
+    let start = Instant::now(rt)?;
+    let _ = walk(store.content());
+    tell(rt, "row of a walk", start, rows)
+}
+
+/// Prints how long each of some calls took.
+fn tell(rt: &HostRuntime, what: &str, start: Instant, calls: u32) -> io::Result<()> {
+    let time = start.elapsed(rt)?.as_nanos();
+    let each = time.checked_div(u128::from(calls)).unwrap_or(0);
+    println!(rt; "  {what}: {each} ns")
+}

@@ -1,0 +1,79 @@
+// What is timed.
+use crate::rows::{one_write, slot_of};
+use ifdb_row::{OutOfMemory, Rows, Slot};
+use ifdb_store::{Content, Store};
+use ifdb_value::TableId;
+use std::alloc::Global;
+
+/// How often each thing is done.
+pub(crate) const CALLS: u32 = 20_000;
+
+/// Looks slots up.
+pub(crate) fn look(alloc: Global, content: &Content, rows: u32) -> Result<(), OutOfMemory> {
+    for i in 0..CALLS {
+        let slot = slot_of(alloc, spread(i, rows))?;
+        let _ = content.get(&slot).is_some();
+    }
+    Ok(())
+}
+
+/// Makes slots.
+pub(crate) fn make(alloc: Global, rows: u32) -> Result<(), OutOfMemory> {
+    for i in 0..CALLS {
+        let _ = slot_of(alloc, spread(i, rows))?;
+    }
+    Ok(())
+}
+
+/// Takes snapshots.
+pub(crate) fn share(store: &Store) -> Result<(), OutOfMemory> {
+    for _ in 0..CALLS {
+        let _ = store.snapshot()?;
+    }
+    Ok(())
+}
+
+/// Writes rows, each in a commit of its own.
+pub(crate) fn fill(
+    alloc: Global,
+    store: &mut Store,
+    count: u32,
+    rows: u32,
+) -> Result<(), OutOfMemory> {
+    for i in 0..count {
+        set(alloc, store, spread(i, rows))?;
+    }
+    Ok(())
+}
+
+/// How many rows of the table a walk finds, at most 2^32.
+pub(crate) fn walk(content: &Content) -> u64 {
+    let mut found = 0u64;
+    let mut after: Option<&Slot> = None;
+    for _ in 0..u32::MAX {
+        let run = content.run(TableId(0), after);
+        match run.last() {
+            None => break,
+            Some(last) => {
+                found = found.saturating_add(run.len() as u64);
+                after = Some(&last.get().slot);
+            }
+        }
+    }
+    found
+}
+
+/// A number, spread over the numbers below the number of rows.
+fn spread(i: u32, rows: u32) -> i64 {
+    let far = u64::from(i).wrapping_mul(7919);
+    i64::from(far.checked_rem(u64::from(rows)).unwrap_or(0) as u32)
+}
+
+/// Writes a row and commits it.
+fn set(alloc: Global, store: &mut Store, number: i64) -> Result<(), OutOfMemory> {
+    let writes = one_write(alloc, number)?;
+    store.reserve(&writes)?;
+    store.install(1, writes);
+    store.trim(1);
+    Ok(())
+}
