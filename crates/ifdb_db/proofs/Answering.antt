@@ -23,7 +23,7 @@ use Rattle.ifdb_db.specs.Rows.{shown_values, with_row}
 use Rattle.ifdb_db.specs.Kept.{IsSound, is_plain_table, is_kept}
 use Rattle.ifdb_db.specs.Numbers.{one_column, one_value}
 use Rattle.ifdb_db.specs.Answer.{with_entry, answered_new, IsRefusal, IsDone, value_row, value_write, inserted}
-use Rattle.ifdb_db.proofs.RowLemmas.{all_at}
+use Rattle.ifdb_value.proofs.Lists.{all_at}
 use Rattle.ifdb_db.proofs.Keeping.{no_txn}
 use Rattle.ifdb_db.proofs.Selecting.{select_one}
 use Rattle.ifdb_db.proofs.Inserting.{insert_one_value}

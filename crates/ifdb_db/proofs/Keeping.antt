@@ -15,11 +15,12 @@ use Rattle.ifdb_bound.specs.declared.request.Change.TheVariants as change
 use Rattle.ifdb_catalog.specs.Public.{Public, changed}
 use Rattle.ifdb_model.specs.Session.{Session, Txn, Seen, closed, in_txn}
 use Rattle.ifdb_model.specs.Log.{Entry, changes, commits}
-use Rattle.ifdb_db.specs.Rows.{are_rows_made, with_row}
+use Rattle.ifdb_row.specs.Seen.{are_rows_made}
+use Rattle.ifdb_db.specs.Rows.{with_row}
 use Rattle.ifdb_db.specs.Kept.{is_plain_table, IsSound, is_kept}
 use Rattle.ifdb_db.specs.Numbers.{is_plain_change}
 use Rattle.ifdb_db.specs.Answer.{with_entry}
-use Rattle.ifdb_db.proofs.RowLemmas.{all_at}
+use Rattle.ifdb_value.proofs.Lists.{all_at}
 
 -- ---- tags that are made stay made
 

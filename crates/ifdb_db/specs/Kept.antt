@@ -8,7 +8,7 @@ use Rattle.ifdb_bound.specs.declared.schema.Foreign.{Foreign}
 use Rattle.ifdb_bound.specs.declared.schema.Schema.{Schema}
 use Rattle.ifdb_catalog.specs.Public.{Public}
 use Rattle.ifdb_model.specs.Session.{Session, in_txn}
-use Rattle.ifdb_db.specs.Rows.{are_rows_made}
+use Rattle.ifdb_row.specs.Seen.{are_rows_made}
 
 -- the first place alone
 abbrev pub is_first : List ℕ → Bool

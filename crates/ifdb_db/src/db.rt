@@ -17,7 +17,7 @@ use crate::reading::read_line;
 use crate::session::Session;
 use ifdb_catalog::Catalog;
 use ifdb_label::Tags;
-use ifdb_row::Row;
+use ifdb_store::Content;
 use ifdb_wire::{Fault, Reply};
 use std::alloc::Global;
 use std::marker::Model;
@@ -27,7 +27,7 @@ use std::marker::Model;
 pub struct Db {
     alloc: Global,
     catalog: Catalog,
-    rows: Vec<Row>,
+    rows: Content,
 }
 
 impl Model for Db {
@@ -42,9 +42,9 @@ impl Model for Db {
 
     ghost coded = { Prim.hlevel (codes, cond.the_row.coded, expr.the_row.coded) };
 
-    ghost view = { λ d. record { public = d.catalog; rows = d.rows.items } };
+    ghost view = { λ d. record { public = d.catalog; rows = d.rows } };
 
-    ghost invariant = { λ d. IsSound d.catalog d.rows.items };
+    ghost invariant = { λ d. IsSound d.catalog d.rows };
 }
 
 impl Db {
@@ -56,7 +56,7 @@ impl Db {
         Ok(Db {
             alloc,
             catalog: Catalog::opening(alloc)?,
-            rows: Vec::new(alloc),
+            rows: Content::new(alloc)?,
         })
     }
 

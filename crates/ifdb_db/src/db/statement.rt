@@ -1,5 +1,5 @@
 // SELECT and INSERT.
-ghost use Rattle.std.specs.Prelude.{◌≡◌, ◌∷◌, [], false, IfOk, IfErr, IsTrue, OnErr, OnOk, length};
+ghost use Rattle.std.specs.Prelude.{◌≡◌, ◌∷◌, [], Some, IfOk, IfErr, IsTrue, OnErr, OnOk, length};
 ghost use Rattle.ifdb_label.specs.Tags.{AreMade};
 ghost use Rattle.ifdb_wire.specs.declared.reply.Reply.TheVariants.{Count, Rows};
 ghost use Rattle.ifdb_catalog.specs.Public.{tags_of};
@@ -7,6 +7,7 @@ ghost use Rattle.ifdb_catalog.specs.Binding.{bound};
 ghost use Rattle.ifdb_model.specs.Step.{looks, writes, form_of, look, write_bound, tells};
 ghost use Rattle.ifdb_bind.specs.Built.{is_built};
 ghost use Rattle.ifdb_row.specs.Seen.{clash};
+ghost use Rattle.ifdb_row.specs.Writes.{is_fitting};
 ghost use Rattle.ifdb_db.specs.Rows.{with_row};
 ghost use Rattle.ifdb_db.specs.Kept.{is_kept};
 ghost use Rattle.ifdb_db.specs.Answer.{shown_table, value_row, inserted, IsDone, IsRefusal};
@@ -14,12 +15,14 @@ ghost use Rattle.ifdb_db.specs.Answer.{shown_table, value_row, inserted, IsDone,
 use super::Db;
 use super::binding::{NewValue, TableColumn, bind_insert, bind_select};
 use crate::OutOfMemory;
-use crate::rows::{clashes, place, shown_values};
+use crate::rows::shown_values;
 use crate::session::Session;
+use ifdb_key::is_free;
 use ifdb_label::Label;
-use ifdb_row::{Refs, Row, Slot, Values};
+use ifdb_row::{Refs, Row, Slot, Values, Write, Writes};
+use ifdb_store::Content;
 use ifdb_syntax::Request;
-use ifdb_value::{Principal, Value};
+use ifdb_value::{Principal, Shared, Value};
 use ifdb_wire::{Fault, Reply, Table};
 use std::alloc::Global;
 
@@ -136,26 +139,44 @@ impl Db {
         ensures { result ≡ clash (tags_of self.now.public) self.now.rows row.now.slot.table row.now.slot.key row.now.slot.label }
     {
         let slot = &row.slot;
-        clashes(
-            self.catalog.tags(),
-            &self.rows,
-            slot.table,
-            slot.key.items(),
-            &slot.label,
-        )
+        let tags = self.catalog.tags();
+        !is_free(&self.rows, tags, slot.table, slot.key.items(), &slot.label)
     }
 
-    /// Keeps a row that is seen beside no other of its key.
-    #[tactic(auto, using(crate::proofs::RowLemmas::free_slot, crate::proofs::Keeping::sound_placed))]
+    /// Keeps a row in its place.
+    #[tactic(auto, using(crate::proofs::Keeping::sound_placed))]
     fn keep(&mut self, row: Row) -> Result<(), OutOfMemory>
-        requires made { AreMade (length self.old.public.tags) row.slot.label }
-        requires free { clash (tags_of self.old.public) self.old.rows row.slot.table row.slot.key row.slot.label ≡ false }
+        requires { AreMade (length self.old.public.tags) row.slot.label }
         ensures ok { OnOk result (self.new ≡ record self.old { rows = with_row row self.old.rows }) }
         ensures err { OnErr result (self.new ≡ self.old) }
     {
-        place(&mut self.rows, row)?;
+        self.rows = self.with_row(row)?;
         Ok(())
     }
+
+    /// The rows with one more in its place.
+    fn with_row(&self, row: Row) -> Result<Content, OutOfMemory>
+        ensures { IfOk result (λ rows. rows ≡ with_row row self.now.rows) }
+    {
+        let mut writes = Writes::new(self.alloc);
+        writes.put(row_write(self.alloc, row)?)?;
+        self.rows.after(self.alloc, &writes)
+    }
+}
+
+/// The write that puts a row in its slot.
+#[tactic(auto, using(ifdb_row::proofs::SlotOrder::slot_itself))]
+fn row_write(alloc: Global, row: Row) -> Result<Write, OutOfMemory>
+    ensures slot { IfOk result (λ write. write.slot ≡ row.slot) }
+    ensures row { IfOk result (λ write. write.row ≡ Some row) }
+    ensures fits { IfOk result (λ write. IsTrue (is_fitting write.slot write.row)) }
+{
+    let slot = row.slot.copy(alloc)?;
+    let row = Shared::new(alloc, row)?;
+    Ok(Write {
+        slot,
+        row: Some(row),
+    })
 }
 
 /// The row of one value, which is its key, at a label.

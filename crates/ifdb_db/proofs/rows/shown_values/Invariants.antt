@@ -1,7 +1,12 @@
-use Rattle.std.proofs.Common.{◌≡◌, take}
-use Rattle.ifdb_db.specs.Rows.{shown_values}
+use Rattle.std.proofs.Common.{◌≡◌, ◌++◌, length}
+use Rattle.std.specs.Option.{option_copied}
+use Rattle.ifdb_row.specs.Questions.{later_rows}
+use Rattle.ifdb_db.specs.Rows.{seen_values, shown_values}
 use Rattle.ifdb_db.proofs.rows.shown_values.Given as goal
 
--- the values of the rows so far that the label sees
-abbrev pub invariant-loop-row : goal.invariant-loop-row
-invariant-loop-row l = l.shown ≡ shown_values l.tags (take l.row-index l.rows) l.table l.column l.label
+-- what is shown and what the label sees of the rows to come is all
+abbrev pub invariant-runs : goal.invariant-runs
+invariant-runs g l = l.shown ++ seen_values l.tags (later_rows l.table (option_copied l.after) (g.R.Rows.rows l.rows)) l.column l.label ≡ shown_values l.tags (g.R.Rows.rows l.rows) l.table l.column l.label
+
+abbrev pub decreases-runs : goal.decreases-runs
+decreases-runs g l = length (later_rows l.table (option_copied l.after) (g.R.Rows.rows l.rows))
