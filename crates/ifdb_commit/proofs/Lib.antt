@@ -1,0 +1,4 @@
+pub mod KeyLemmas
+pub mod LogLemmas
+pub mod MeetLemmas
+pub mod JudgeLemmas
