@@ -11,3 +11,6 @@ mod laws;
 pub use judge::{Judged, verdict};
 pub use later::{LaterWrite, newer};
 pub use laws::judged_over_a_log;
+
+#[cfg(test)]
+mod tests;
