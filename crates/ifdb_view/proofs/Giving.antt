@@ -1,8 +1,7 @@
 -- Where the rows of sources are.
-use Rattle.std.proofs.Common.{◌≡◌, ℕ, zero, suc, add-one, ◌+◌, ◌<◌, ◌≤◌, arith, drop, List, [], ◌∷◌, ◌++◌, length, get_or, map, take, refl, sym, ap, ◌∙◌, Bool, true, false, Option, Some, None, Ok, Err}
+use Rattle.std.proofs.Common.{◌≡◌, ℕ, zero, suc, add-one, ◌+◌, ◌<◌, ◌≤◌, arith, drop, List, [], ◌∷◌, length, get_or, map, refl, sym, ap, ◌∙◌, Bool, true, false, Option, Some, None, Err}
 use Rattle.std.specs.Prelude.{Result, option_and_then, slice_get}
 use Rattle.std.specs.List.{list_all}
-use Rattle.std.proofs.lemmas.Grind.{common_steps}
 use Rattle.std.proofs.lemmas.List.{length-map}
 use Rattle.ifdb_bound.specs.declared.schema.ViewDef.{ViewDef}
 use Rattle.ifdb_bound.specs.declared.select.Relation.{Relation}
@@ -11,15 +10,12 @@ use Rattle.ifdb_value.specs.declared.value.Value.{Value}
 use Rattle.ifdb_bound.specs.declared.select.BoundSelect.{BoundSelect}
 use Rattle.ifdb_bound.specs.declared.select.BoundSource.{BoundSource}
 use Rattle.ifdb_bound.specs.Query.{SourceRow, all_some, both, select}
-use Rattle.ifdb_label.specs.Tags.{MadeTag}
 use Rattle.ifdb_row.specs.declared.row.Row.{Row}
 use Rattle.ifdb_expr.specs.declared.fault.ExprFault.{ExprFault}
 use Rattle.ifdb_expr.specs.declared.fault.ExprFault.TheVariants as expr
 use Rattle.ifdb_expr.specs.Tells.{Tells}
 use Rattle.ifdb_expr.specs.View.{Setting, view_rows}
 use Rattle.ifdb_expr.specs.Query.{QueryFault, view_authority, out_of_range, is_allowed, answered, over_sources, query, rows_of_view, source_rows}
-use Rattle.ifdb_group.proofs.Collecting.{all_there, one_missing, one_more}
-use Rattle.ifdb_view.specs.declared.fault.ViewFault.{ViewFault}
 use Rattle.ifdb_view.specs.Faults.{as_view_fault, TellsBy, TellsQuery}
 
 -- a fault goes on where what has none makes the whole have none
