@@ -7,3 +7,6 @@
 mod free;
 
 pub use free::is_free;
+
+#[cfg(test)]
+mod tests;
