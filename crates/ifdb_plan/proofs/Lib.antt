@@ -1,2 +1,3 @@
 pub mod Testing
 pub mod Equating
+pub mod Keying

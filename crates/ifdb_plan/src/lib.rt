@@ -3,8 +3,10 @@
 #![tactic(auto)]
 
 mod equation;
+mod source_key;
 mod test;
 
 pub use equation::{Equation, equation_in};
+pub use source_key::{key_beside, key_operands, whole_key};
 pub use std::alloc::AllocError as OutOfMemory;
 pub use test::{Test, hold_at, hold_from, tests};
