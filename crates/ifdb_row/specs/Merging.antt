@@ -1,10 +1,15 @@
 -- Writes and later ones, merged from the front.
-use Rattle.std.specs.Prelude.{◌≡◌, ◌≤◌, ◌+◌, List, [], ◌++◌, length, Option, Some, None, option_to_list, IsTrue}
+use Rattle.std.specs.Prelude.{◌≡◌, ◌≤◌, ◌+◌, List, [], ◌++◌, length, take, drop, vec_len, vec_capacity, ℕ, Option, Some, None, option_to_list, IsTrue}
+use Rattle.std.specs.Global.{Vec}
 use Rattle.std.specs.declared.cmp.Ordering.{Ordering}
 use Rattle.std.specs.declared.cmp.Ordering.TheVariants as order
 use Rattle.ifdb_row.specs.declared.write.Write.{Write}
 use Rattle.ifdb_row.specs.Slots.{slot_cmp}
 use Rattle.ifdb_row.specs.Writes.{are_rising, merged}
+
+-- later writes are merged behind so many of the own
+abbrev pub merged_behind : ℕ → List Write → List Write → List Write
+merged_behind n own later = take n own ++ merged (drop n own) later
 
 -- which of two writes stands first; none stands last
 abbrev pub fronts_cmp : Option Write → Option Write → Ordering
@@ -20,3 +25,7 @@ pub record IsFirstTaken (own later : List Write) (first : Option Write) (own_lef
   pub rising : IsTrue (are_rising own_left)
   pub later_rising : IsTrue (are_rising later_left)
   pub fewer : length (option_to_list first) + length own_left + length later_left ≤ length own + length later
+
+-- there is room for so many items more
+abbrev pub HasRoomFor : ℕ → Vec Write → Type 0
+HasRoomFor n items = vec_len items + n ≤ vec_capacity items

@@ -5,7 +5,7 @@ ghost use Rattle.std.specs.Option.{option_copied};
 ghost use Rattle.ifdb_row.specs.Slots.{is_same_slot, slot_lt};
 ghost use Rattle.ifdb_row.specs.Writes.{are_fitting, are_rising, if_of, is_fitting, is_written, merged, put};
 ghost use Rattle.ifdb_row.specs.Reach.{reach};
-ghost use Rattle.ifdb_row.specs.Merging.{IsFirstTaken, fronts_cmp};
+ghost use Rattle.ifdb_row.specs.Merging.{HasRoomFor, IsFirstTaken, fronts_cmp, merged_behind};
 
 use crate::OutOfMemory;
 use crate::slot::Slot;
@@ -134,7 +134,7 @@ impl Writes {
 fn place_of_first(items: &[Write], later: &[Write]) -> usize
     requires rising { IsTrue (are_rising items.now) }
     requires later_rising { IsTrue (are_rising later.now) }
-    ensures cut { merged items.now later.now ≡ take result items.now ++ merged (drop result items.now) later.now }
+    ensures cut { merged items.now later.now ≡ merged_behind result items.now later.now }
     ensures within { result ≤ length items.now }
 {
     match later {
@@ -147,7 +147,7 @@ fn place_of_first(items: &[Write], later: &[Write]) -> usize
 fn put_merged(items: &mut Vec<Write>, mut own: VecDeque<Write>, mut later: VecDeque<Write>)
     requires rising { IsTrue (are_rising own.items) }
     requires later_rising { IsTrue (are_rising later.items) }
-    requires room { vec_len items.old + length own.items + length later.items ≤ vec_capacity items.old }
+    requires room { HasRoomFor (length own.items + length later.items) items.old }
     ensures { items.new.items ≡ items.old.items ++ merged own.items later.items }
 {
     while let Some(write) = take_first(&mut own, &mut later) {
