@@ -58,10 +58,10 @@ none_before_first (v ∷ ws) w e h =
     ap (λ (x : Write). list_all (λ (u : Write). not (slot_lt u.slot x.slot)) (v ∷ ws)) same ∙ none_before v ws h
 
 -- what is left of rising writes rises
-pub drop_rises : (n : ℕ) (ws : List Write) → are_rising ws ≡ true → are_rising (drop n ws) ≡ true
-drop_rises zero ws h = h
-drop_rises (suc n) [] h = refl
-drop_rises (suc n) (w ∷ ws) h = drop_rises n ws (grind (arith, nat_tests))
+pub rising_drop : (n : ℕ) (ws : List Write) → are_rising ws ≡ true → are_rising (drop n ws) ≡ true
+rising_drop zero ws h = h
+rising_drop (suc n) [] h = refl
+rising_drop (suc n) (w ∷ ws) h = rising_drop n ws (grind (arith, nat_tests))
 
 -- ---- one write taken
 
