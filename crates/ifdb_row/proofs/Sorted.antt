@@ -1,6 +1,6 @@
 -- Lists that rise by slots: where a slot stands in one, and what an item put there leaves.
 use Rattle.std.proofs.Common.{◌≡◌, ℕ, ◌<◌, ◌≤◌, Bool, true, false, List, [], ◌∷◌, ◌∙◌, length, get_or, set, refl, sym, ap, arith, Some, None}
-use Rattle.std.specs.Prelude.{not, ◌++◌, ◌&&◌, insert, remove, if◌then◌else◌}
+use Rattle.std.specs.Prelude.{not, ◌&&◌, insert, remove, if◌then◌else◌}
 use Rattle.std.specs.List.{list_all, list_any}
 use Rattle.std.proofs.lemmas.Bool.{false≢true}
 use Rattle.std.proofs.lemmas.Bool.Decides.{nat_tests}
@@ -14,6 +14,7 @@ use Rattle.ifdb_row.specs.Content.{place, rising}
 use Rattle.ifdb_row.specs.Reach.{reach, is_parted}
 use Rattle.ifdb_row.proofs.SlotOrder.{slot_same, slot_lt_trans, slot_lt_itself}
 use Rattle.ifdb_row.proofs.Rising.{lt_not_same, lt_not_back, lt_from}
+use Rattle.ifdb_row.proofs.LiveLaws.{put_all, merged_all}
 
 module _ {X : Type 0} (slot : X → Slot) where
   -- the items rise by their slots
@@ -154,10 +155,6 @@ pub put_is : (w : Write) (ws : List Write) → put w ws ≡ put_in (λ (v : Writ
 put_is w [] = refl
 put_is w (v ∷ ws) = grind (arith, nat_tests, put_is w ws)
 
-put_all : (q : Write → Bool) (v : Write) (ws : List Write) → q v ≡ true → list_all q ws ≡ true → list_all q (put v ws) ≡ true
-put_all q v [] h k = grind (arith, nat_tests)
-put_all q v (w ∷ ws) h k = grind (arith, nat_tests, put_all q v ws)
-
 pub put_fits : (w : Write) (ws : List Write) → is_fitting w.slot w.row ≡ true → are_fitting ws ≡ true → are_fitting (put w ws) ≡ true
 put_fits w ws f h = put_all (λ (v : Write). is_fitting v.slot v.row) w ws f h
 
@@ -184,13 +181,8 @@ put_rises w (v ∷ ws) h = by (put_rises w ws) (is_same_slot w.slot v.slot) refl
       back false u = absurd (false≢true (sym k ∙ lt_from w.slot v.slot e u))
 
 pub merged_fits : (own ws : List Write) → are_fitting own ≡ true → are_fitting ws ≡ true → are_fitting (merged own ws) ≡ true
-merged_fits own [] f g = f
-merged_fits own (w ∷ ws) f g = merged_fits (put w own) ws (put_fits w own (grind (arith, nat_tests)) f) (grind (arith, nat_tests))
+merged_fits own ws f g = merged_all (λ (v : Write). is_fitting v.slot v.row) own ws f g
 
 pub merged_rises : (own ws : List Write) → are_rising own ≡ true → are_rising (merged own ws) ≡ true
 merged_rises own [] h = h
 merged_rises own (w ∷ ws) h = merged_rises (put w own) ws (put_rises w own h)
-
-pub merged_more : (own ws : List Write) (w : Write) → merged own (ws ++ w ∷ []) ≡ put w (merged own ws)
-merged_more own [] w = refl
-merged_more own (v ∷ ws) w = merged_more (put v own) ws w

@@ -1,6 +1,8 @@
 -- Questions to rows.
-use Rattle.std.specs.Prelude.{◌≡◌, ℕ, Bool, true, List, [], ◌==◌, ◌++◌, ◌&&◌, find, filter, Option, Some, None, if◌then◌else◌}
+use Rattle.std.specs.Prelude.{◌≡◌, ℕ, Bool, true, List, [], ◌==◌, ◌++◌, ◌&&◌, find, filter, not, Option, Some, None, if◌then◌else◌}
 use Rattle.std.specs.List.{list_any}
+use Rattle.std.specs.Borrow.{Bor}
+use Rattle.std.specs.Option.{option_copied}
 use Rattle.std.specs.Ordering.{is_lt}
 use Rattle.ifdb_value.specs.declared.value.Value.{Value}
 use Rattle.ifdb_row.specs.declared.slot.Slot.{Slot}
@@ -32,6 +34,10 @@ is_further table key after r = is_of_key table key r.slot && is_past_label after
 abbrev pub is_child_of : Slot → Row → Bool
 is_child_of s r = list_any (is_same_slot s) r.refs
 
+-- the row is bound to a slot, and stands behind another
+abbrev pub is_next_child : Slot → Option Slot → Row → Bool
+is_next_child s after r = is_child_of s r && is_past after r.slot
+
 -- the table's first row behind the slot
 abbrev pub next_row : ℕ → Option Slot → List Row → Option Row
 next_row table after rows = find (is_later table after) rows
@@ -46,7 +52,7 @@ row_of_key table key after rows = find (is_further table key after) rows
 
 -- the first row behind the slot that is bound to another slot
 abbrev pub row_bound_to : Slot → Option Slot → List Row → Option Row
-row_bound_to s after rows = find (λ (r : Row). is_child_of s r && is_past after r.slot) rows
+row_bound_to s after rows = find (is_next_child s after) rows
 
 -- the table's rows behind the slot
 abbrev pub later_rows : ℕ → Option Slot → List Row → List Row
@@ -55,6 +61,24 @@ later_rows table after rows = filter (is_later table after) rows
 -- the rows from an edge on
 abbrev pub rows_from : Edge → List Row → List Row
 rows_from e rows = skip (λ (r : Row). lies_before e r.slot) rows
+
+-- the first row from an edge on
+abbrev pub first_row_from : Edge → List Row → Option Row
+first_row_from e rows = find (λ (r : Row). not (lies_before e r.slot)) rows
+
+-- ---- the same questions, behind a slot or a label that is lent, if one is
+
+abbrev pub next_behind : ℕ → Option (Bor Slot) → List Row → Option Row
+next_behind table after rows = next_row table (option_copied after) rows
+
+abbrev pub of_key_behind : ℕ → List Value → Option (Bor (List ℕ)) → List Row → Option Row
+of_key_behind table key after rows = row_of_key table key (option_copied after) rows
+
+abbrev pub bound_behind : Slot → Option (Bor Slot) → List Row → Option Row
+bound_behind s after rows = row_bound_to s (option_copied after) rows
+
+abbrev pub rows_behind : ℕ → Option (Bor Slot) → List Row → List Row
+rows_behind table after rows = later_rows table (option_copied after) rows
 
 -- the first rows of a list: at least one, where it has any
 pub record IsRun (run : List Row) (rows : List Row) : Type 0 where
@@ -66,6 +90,14 @@ pub record IsRun (run : List Row) (rows : List Row) : Type 0 where
 abbrev pub if_passes : (Row → Bool) → Option Row → Option Row
 if_passes t None = None
 if_passes t (Some r) = if t r then Some r else None
+
+-- the row stands in the slot
+abbrev pub stands_in : Slot → Row → Bool
+stands_in s r = is_same_slot s r.slot
+
+-- the row is of the table's key
+abbrev pub has_key : ℕ → List Value → Row → Bool
+has_key table key r = is_of_key table key r.slot
 
 -- of two rows that may be there, the one that stands first
 abbrev pub earlier : Option Row → Option Row → Option Row

@@ -7,6 +7,7 @@ use crate::order::compare_keys;
 use crate::slot::{Key, Slot};
 use ifdb_label::Label;
 use ifdb_value::{TableId, Value};
+use std::cmp::Ordering;
 
 /// A place between slots, from which rows are looked up.
 #[derive(Clone, Copy)]
@@ -46,7 +47,12 @@ impl<'a> Edge<'a> {
 fn stands_behind(slot: &Slot, table: TableId, key: &[Value], label: &Label) -> bool
     ensures { result ≡ slot_lt (slot_at table key.now label.now) slot.now }
 {
-    let labels = label.tags().cmp(slot.label.tags());
-    let keys = compare_keys(key, slot.key.items());
-    table.cmp(&slot.table).then(keys.then(labels)).is_lt()
+    let order = match table.cmp(&slot.table) {
+        Ordering::Equal => match compare_keys(key, slot.key.items()) {
+            Ordering::Equal => label.tags().cmp(slot.label.tags()),
+            order => order,
+        },
+        order => order,
+    };
+    order.is_lt()
 }

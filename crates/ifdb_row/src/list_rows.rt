@@ -1,9 +1,9 @@
 // Rows in one list.
-ghost use Rattle.std.specs.Prelude.{◌≡◌, ◌&&◌, IsTrue};
+ghost use Rattle.std.specs.Prelude.{◌≡◌, IsTrue};
 ghost use Rattle.std.specs.Option.{option_copied};
 ghost use Rattle.ifdb_row.specs.Content.{rising};
 ghost use Rattle.ifdb_row.specs.Edges.{lies_before};
-ghost use Rattle.ifdb_row.specs.Questions.{is_child_of, is_past, row_bound_to, rows_from};
+ghost use Rattle.ifdb_row.specs.Questions.{bound_behind, is_next_child, is_past, rows_from};
 
 use crate::edge::Edge;
 use crate::row::Row;
@@ -76,7 +76,7 @@ pub fn first_bound<'a>(
     slot: &Slot,
     after: Option<&Slot>,
 ) -> Option<&'a Row>
-    ensures { option_copied result ≡ row_bound_to slot.now (option_copied after.entry) rows.now }
+    ensures { option_copied result ≡ bound_behind slot.now after.entry rows.now }
 {
     for row in rows {
         let row = row.get();
@@ -89,7 +89,7 @@ pub fn first_bound<'a>(
 
 /// Whether a row behind a slot is bound to another.
 fn is_bound(row: &Row, slot: &Slot, after: Option<&Slot>) -> bool
-    ensures { result ≡ is_child_of slot.now row.now && is_past (option_copied after.entry) row.now.slot }
+    ensures { result ≡ is_next_child slot.now (option_copied after.entry) row.now }
 {
     row.is_child_of(slot) && is_past(&row.slot, after)
 }

@@ -13,9 +13,13 @@ impl Slot {
     pub fn compare(&self, other: &Slot) -> Ordering
         ensures { result ≡ slot_cmp self.now other.now }
     {
-        let labels = self.label.tags().cmp(other.label.tags());
-        let keys = compare_keys(self.key.items(), other.key.items());
-        self.table.cmp(&other.table).then(keys.then(labels))
+        match self.table.cmp(&other.table) {
+            Ordering::Equal => match compare_keys(self.key.items(), other.key.items()) {
+                Ordering::Equal => self.label.tags().cmp(other.label.tags()),
+                order => order,
+            },
+            order => order,
+        }
     }
 
     /// Whether the slot stands before another.
@@ -51,7 +55,10 @@ pub fn compare_keys(key: &[Value], other: &[Value]) -> Ordering
         },
         [first, rest @ ..] => match other {
             [] => Ordering::Greater,
-            [second, others @ ..] => first.compare(second).then(compare_keys(rest, others)),
+            [second, others @ ..] => match first.compare(second) {
+                Ordering::Equal => compare_keys(rest, others),
+                order => order,
+            },
         },
     }
 }

@@ -1,12 +1,11 @@
 // Questions to rows.
-ghost use Rattle.std.specs.Prelude.{◌≡◌, ◌==◌, List, None, Some, IsTrue, find, not, slice_get, take_while};
+ghost use Rattle.std.specs.Prelude.{◌≡◌, ◌==◌, List, None, Some, IsTrue, slice_get, take_while};
 ghost use Rattle.std.specs.Option.{option_copied};
 ghost use Rattle.ifdb_row.specs.declared.row.Row.{Row as AnyRow};
-ghost use Rattle.ifdb_row.specs.Slots.{is_of_key, is_same_slot};
 ghost use Rattle.ifdb_row.specs.Content.{rising};
-ghost use Rattle.ifdb_row.specs.Edges.{lies_before};
 ghost use Rattle.ifdb_row.specs.Reach.{is_parted};
-ghost use Rattle.ifdb_row.specs.Questions.{IsRun, if_passes, later_rows, next_row, row_at, row_bound_to, row_of_key, rows_from};
+ghost use Rattle.ifdb_row.specs.Questions.{IsRun, bound_behind, first_row_from, has_key, if_passes, later_rows, next_behind};
+ghost use Rattle.ifdb_row.specs.Questions.{of_key_behind, row_at, rows_behind, rows_from, stands_in};
 
 use crate::edge::Edge;
 use crate::row::Row;
@@ -28,12 +27,12 @@ pub trait Rows {
 
     /// The first row bound to a slot whose own slot is behind another, or the first row bound to it.
     fn bound_to(&self, slot: &Slot, after: Option<&Slot>) -> Option<&Row>
-        ensures row { option_copied result ≡ row_bound_to slot.now (option_copied after.entry) (rows self.now) }
+        ensures row { option_copied result ≡ bound_behind slot.now after.entry (rows self.now) }
         ensures rising { IsTrue (rising (rows self.now)) };
 
     /// The first row from an edge on.
     final fn first_from(&self, edge: &Edge<'_>) -> Option<&Row>
-        ensures row { option_copied result ≡ find (λ r. not (lies_before edge.now r.slot)) (rows self.now) }
+        ensures row { option_copied result ≡ first_row_from edge.now (rows self.now) }
         ensures rising { IsTrue (rising (rows self.now)) }
     {
         first(self.run_from(edge))
@@ -41,7 +40,7 @@ pub trait Rows {
 
     /// The table's first row behind a slot, or its first.
     final fn next(&self, table: TableId, after: Option<&Slot>) -> Option<&Row>
-        ensures row { option_copied result ≡ next_row table (option_copied after.entry) (rows self.now) }
+        ensures row { option_copied result ≡ next_behind table after.entry (rows self.now) }
         ensures rising { IsTrue (rising (rows self.now)) }
     {
         first(self.run(table, after))
@@ -59,7 +58,7 @@ pub trait Rows {
 
     /// The key's first row behind a label, or its first.
     final fn of_key(&self, table: TableId, key: &[Value], after: Option<&Label>) -> Option<&Row>
-        ensures row { option_copied result ≡ row_of_key table key.now (option_copied after.entry) (rows self.now) }
+        ensures row { option_copied result ≡ of_key_behind table key.now after.entry (rows self.now) }
         ensures rising { IsTrue (rising (rows self.now)) }
     {
         let _slot: Option<&Slot> = None;
@@ -76,7 +75,7 @@ pub trait Rows {
     /// The table's first rows behind a slot, or its first rows: as many as lie side by side in memory, and none exactly where
     /// the table has none there. So a walk pays a search for each run of rows.
     final fn run(&self, table: TableId, after: Option<&Slot>) -> &[Shared<Row>]
-        ensures run { IsRun result.now (later_rows table (option_copied after.entry) (rows self.now)) }
+        ensures run { IsRun result.now (rows_behind table after.entry (rows self.now)) }
         ensures rising { IsTrue (rising (rows self.now)) }
     {
         match after {
@@ -134,7 +133,7 @@ fn of_table(rows: &[Shared<Row>], table: TableId) -> &[Shared<Row>]
 
 /// The row, if it stands in the slot.
 fn if_in<'a>(row: Option<&'a Row>, slot: &Slot) -> Option<&'a Row>
-    ensures { option_copied result ≡ if_passes (λ r. is_same_slot slot.now r.slot) (option_copied row.entry) }
+    ensures { option_copied result ≡ if_passes (stands_in slot.now) (option_copied row.entry) }
 {
     match row {
         Some(row) if slot.is_same(&row.slot) => Some(row),
@@ -144,7 +143,7 @@ fn if_in<'a>(row: Option<&'a Row>, slot: &Slot) -> Option<&'a Row>
 
 /// The row, if it is of the table's key.
 fn if_of_key<'a>(row: Option<&'a Row>, table: TableId, key: &[Value]) -> Option<&'a Row>
-    ensures { option_copied result ≡ if_passes (λ r. is_of_key table key.now r.slot) (option_copied row.entry) }
+    ensures { option_copied result ≡ if_passes (has_key table key.now) (option_copied row.entry) }
 {
     match row {
         Some(row) if row.slot.is_of_key(table, key) => Some(row),

@@ -1,15 +1,18 @@
 // Writes, each slot once.
-ghost use Rattle.std.specs.Prelude.{◌≡◌, ◌≤◌, ◌<◌, ◌+◌, [], length, find, slice_get, vec_len, vec_capacity, IsTrue, OnErr, OnOk};
+ghost use Rattle.std.specs.Prelude.{◌≡◌, ◌≤◌, ◌+◌, ◌++◌, [], length, find, take, drop, slice_get, vec_len, vec_capacity, IsTrue, OnErr, OnOk};
 ghost use Rattle.std.specs.List.{list_any};
 ghost use Rattle.std.specs.Option.{option_copied};
 ghost use Rattle.ifdb_row.specs.Slots.{is_same_slot, slot_lt};
 ghost use Rattle.ifdb_row.specs.Writes.{are_fitting, are_rising, if_of, is_fitting, is_written, merged, put};
 ghost use Rattle.ifdb_row.specs.Reach.{reach};
+ghost use Rattle.ifdb_row.specs.Merging.{HasRoomFor, IsFirstTaken, fronts_cmp, merged_behind};
 
 use crate::OutOfMemory;
 use crate::slot::Slot;
 use crate::write::Write;
 use std::alloc::Global;
+use std::cmp::Ordering;
+use std::collections::VecDeque;
 use std::marker::Model;
 
 /// Writes in the order of their slots, each slot once. Contracts see their list.
@@ -107,43 +110,80 @@ impl Writes {
     /// Adds later writes, which take the place of earlier ones of their slots. Where an allocation is refused, the writes are
     /// as before.
     ///
-    /// Finds each place by binary search, and moves the writes behind it: none, where the later ones stand behind.
+    /// Takes room for the later ones, and moves those that stand from the first later one on: none, where the later ones
+    /// stand behind.
     #[tactic(auto, using(crate::proofs::Sorted::merged_rises, crate::proofs::Sorted::merged_fits))]
     pub fn merge(&mut self, later: Writes) -> Result<(), OutOfMemory>
         ensures ok { OnOk result (self.new ≡ merged self.old later) }
         ensures err { OnErr result (self.new ≡ self.old) }
     {
         let Writes { items: later } = later;
+        let at = place_of_first(&self.items, &later);
         self.items.reserve(later.len())?;
-        put_all(&mut self.items, later);
+        let own = self.items.split_off(at)?;
+        put_merged(
+            &mut self.items,
+            VecDeque::from_vec(own),
+            VecDeque::from_vec(later),
+        );
         Ok(())
     }
 }
 
-/// Adds writes, for which there is room, in place of earlier ones of their slots.
-fn put_all(items: &mut Vec<Write>, later: Vec<Write>)
-    requires rising { IsTrue (are_rising items.old.items) }
-    requires room { vec_len items.old + vec_len later ≤ vec_capacity items.old }
-    ensures { items.new.items ≡ merged items.old.items later.items }
+/// How many writes stand before the first of later ones; all, if there is none.
+fn place_of_first(items: &[Write], later: &[Write]) -> usize
+    requires rising { IsTrue (are_rising items.now) }
+    requires later_rising { IsTrue (are_rising later.now) }
+    ensures cut { merged items.now later.now ≡ merged_behind result items.now later.now }
+    ensures within { result ≤ length items.now }
 {
-    for write in later {
-        put_reserved(items, write);
+    match later {
+        [] => items.len(),
+        [first, ..] => place_of(items, &first.slot),
     }
 }
 
-/// Adds a write, for which there is room, in place of an earlier one of its slot.
-fn put_reserved(items: &mut Vec<Write>, write: Write)
-    requires rising { IsTrue (are_rising items.old.items) }
-    requires room { vec_len items.old < vec_capacity items.old }
-    ensures items { items.new.items ≡ put write items.old.items }
-    ensures room { vec_capacity items.old ≤ vec_capacity items.new }
-    ensures few { vec_len items.new ≤ vec_len items.old + 1 }
+/// Adds writes, and later ones that take the place of those of their slots. There is room for all.
+fn put_merged(items: &mut Vec<Write>, mut own: VecDeque<Write>, mut later: VecDeque<Write>)
+    requires rising { IsTrue (are_rising own.items) }
+    requires later_rising { IsTrue (are_rising later.items) }
+    requires room { HasRoomFor (length own.items + length later.items) items.old }
+    ensures { items.new.items ≡ items.old.items ++ merged own.items later.items }
 {
-    let at = place_of(items, &write.slot);
-    if is_at(items, at, &write.slot) {
-        items[at] = write;
-    } else {
-        let _ = items.insert(at, write);
+    while let Some(write) = take_first(&mut own, &mut later) {
+        items.push_reserved(write);
+    }
+}
+
+/// Takes the first of some writes and later ones; of two of one slot both, of which the later one is the answer.
+fn take_first(own: &mut VecDeque<Write>, later: &mut VecDeque<Write>) -> Option<Write>
+    requires rising { IsTrue (are_rising own.old.items) }
+    requires later_rising { IsTrue (are_rising later.old.items) }
+    ensures { IsFirstTaken own.old.items later.old.items result own.new.items later.new.items }
+{
+    match compare_fronts(own.front(), later.front()) {
+        Ordering::Less => own.pop_front(),
+        Ordering::Greater => later.pop_front(),
+        Ordering::Equal => {
+            let _ = own.pop_front();
+            later.pop_front()
+        }
+    }
+}
+
+/// Which of two writes stands first; none stands last.
+fn compare_fronts(own: Option<&Write>, later: Option<&Write>) -> Ordering
+    ensures { result ≡ fronts_cmp (option_copied own.entry) (option_copied later.entry) }
+{
+    match own {
+        None => match later {
+            None => Ordering::Equal,
+            Some(_) => Ordering::Greater,
+        },
+        Some(own) => match later {
+            None => Ordering::Less,
+            Some(later) => own.slot.compare(&later.slot),
+        },
     }
 }
 

@@ -32,8 +32,3 @@ pub rising_take : (n : ℕ) (ws : List Write) → are_rising ws ≡ true → are
 rising_take zero ws h = refl
 rising_take (suc n) [] h = refl
 rising_take (suc n) (w ∷ ws) h = grind (arith, nat_tests, rising_take n ws, all_take (λ (v : Write). slot_lt w.slot v.slot) n ws)
-
-pub rising_drop : (n : ℕ) (ws : List Write) → are_rising ws ≡ true → are_rising (drop n ws) ≡ true
-rising_drop zero ws h = h
-rising_drop (suc n) [] h = refl
-rising_drop (suc n) (w ∷ ws) h = grind (arith, nat_tests, rising_drop n ws)
