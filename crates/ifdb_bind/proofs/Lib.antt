@@ -1,10 +1,8 @@
 pub mod NamedTags
 pub mod Columns
-pub mod Refs
 pub mod Selects
 pub mod Meanings
 pub mod ColumnKinds
-pub mod Forms
 pub mod Listed
 pub mod Starred
 pub mod OutputNames

@@ -32,7 +32,7 @@ use Rattle.ifdb_catalog.specs.Binding.{select}
 use Rattle.ifdb_catalog.proofs.Computing.{binding}
 use Rattle.ifdb_catalog.proofs.Resolution.{known_stands}
 use Rattle.ifdb_bind.specs.Built.{bare_name, bare_item, bare_source, has_no_clause, is_bare_select}
-use Rattle.ifdb_bind.proofs.Refs.{ref_of-column, ref_of-literal, ref_of-add, ref_of-sub, ref_of-mul}
+use Rattle.ifdb_catalog.proofs.Forms.{ref_of-Column, ref_of-Literal, ref_of-Add, ref_of-Sub, ref_of-Mul}
 use Rattle.ifdb_bind.specs.Bare.{bare_column, bare_select, bound_bare}
 
 -- ---- what binding comes to
@@ -113,13 +113,13 @@ is_ref : (x : Expr) → IsRef x
 unfolding IsRef
 is_ref = each_expr IsRef (record {
   column = λ c r h. ap e.Column (same_ref c r h);
-  literal = λ v r h. absurd (not_ref r (sym (ref_of-literal v) ∙ h));
-  add = λ a b i j r h. absurd (not_ref r (sym (ref_of-add a b) ∙ h));
-  sub = λ a b i j r h. absurd (not_ref r (sym (ref_of-sub a b) ∙ h));
-  mul = λ a b i j r h. absurd (not_ref r (sym (ref_of-mul a b) ∙ h));
+  literal = λ v r h. absurd (not_ref r (sym (ref_of-Literal v) ∙ h));
+  add = λ a b i j r h. absurd (not_ref r (sym (ref_of-Add a b) ∙ h));
+  sub = λ a b i j r h. absurd (not_ref r (sym (ref_of-Sub a b) ∙ h));
+  mul = λ a b i j r h. absurd (not_ref r (sym (ref_of-Mul a b) ∙ h));
 }) where
   same_ref : (c r : ColumnRef) → ref_of (e.Column c) ≡ Some r → c ≡ r
-  same_ref c r h = same_Some c r (sym (ref_of-column c) ∙ h)
+  same_ref c r h = same_Some c r (sym (ref_of-Column c) ∙ h)
 
   not_ref : (r : ColumnRef) → None ≡ Some r → ⊥
   not_ref r h = none-some r h

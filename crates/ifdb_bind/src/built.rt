@@ -90,7 +90,7 @@ pub(crate) fn bare_item(items: &[Item]) -> Option<&Name>
 }
 
 /// The name of the column that an expression is, without an alias.
-#[tactic(auto, using(crate::proofs::Refs::refs))]
+#[tactic(auto, using(ifdb_catalog::proofs::Forms::ref_forms))]
 fn bare_column(expr: &Expr) -> Option<&Name>
     ensures { option_copied result ≡ bare_name (ref_of expr.now) }
 {

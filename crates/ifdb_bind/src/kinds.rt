@@ -41,7 +41,7 @@ pub(crate) fn column_kind(scope: &[ScopeSource<'_>], column: BoundColumn) -> Opt
 }
 
 /// The kind of what an expression gives, or `None` where it doesn't fit.
-#[tactic(auto, using(crate::proofs::Forms::kind_forms))]
+#[tactic(auto, using(ifdb_bound::proofs::KindForms::kind_forms))]
 pub(crate) fn expr_kind(scope: &[ScopeSource<'_>], expr: &BoundExpr) -> Option<ValueKind>
     ensures { result ≡ expr_kind (kinds_in scope.now) expr.now }
 {
@@ -82,7 +82,7 @@ fn operand_kind(scope: &[ScopeSource<'_>], operand: &BoundOperand) -> Option<Val
 
 /// Whether each comparison is of two operands of one kind.
 #[cycle(fits)]
-#[tactic(auto, using(crate::proofs::Forms::kind_forms))]
+#[tactic(auto, using(ifdb_bound::proofs::KindForms::kind_forms))]
 fn cond_fits(scope: &[ScopeSource<'_>], cond: &BoundCond) -> bool
     ensures { result ≡ cond_fits (kinds_in scope.now) cond.now }
 {

@@ -117,7 +117,7 @@ pub(crate) fn add_named<'a, T: Named>(
 }
 
 /// The name that is written, or else that of the column that an expression is.
-#[tactic(auto, using(crate::proofs::Refs::refs))]
+#[tactic(auto, using(ifdb_catalog::proofs::Forms::ref_forms))]
 fn name_or<'a>(name: &'a Option<Name>, expr: &'a Expr) -> Option<&'a Name>
     ensures { option_copied result ≡ name_or name.now (ref_of expr.now) }
 {

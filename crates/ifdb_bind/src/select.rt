@@ -8,7 +8,8 @@ ghost use Rattle.ifdb_bound.specs.Kinds as kinds;
 ghost use Rattle.ifdb_wire.specs.declared.fault.Fault.TheVariants.{OutOfMemory as NoMemory};
 ghost use Rattle.ifdb_catalog.specs.Binding.{select};
 ghost use Rattle.ifdb_catalog.specs.Public.{relation_named};
-ghost use Rattle.ifdb_catalog.specs.Queries.{bound_select, counts_stand, is_aggregate, is_count, is_countable, is_grouped, items_stand, may_count, same_column, select_fits, stand_ungrouped, stands_grouped};
+ghost use Rattle.ifdb_bound.specs.Forms.{same_column};
+ghost use Rattle.ifdb_catalog.specs.Queries.{bound_select, counts_stand, is_aggregate, is_count, is_countable, is_grouped, items_stand, may_count, select_fits, stand_ungrouped, stands_grouped};
 ghost use Rattle.ifdb_catalog.specs.Scope.{column_at, kinds_in, scope_of};
 ghost use Rattle.ifdb_catalog.specs.Terms.{ref_of};
 
@@ -131,7 +132,7 @@ fn stands_grouped(scope: &[ScopeSource<'_>], group: &[ColumnRef], item: &Item) -
 }
 
 /// Whether an expression is a column that stands behind GROUP BY.
-#[tactic(auto, using(crate::proofs::Refs::refs))]
+#[tactic(auto, using(ifdb_catalog::proofs::Forms::ref_forms))]
 fn is_grouped(scope: &[ScopeSource<'_>], group: &[ColumnRef], expr: &Expr) -> bool
     ensures { result ≡ is_grouped scope.now group.now (ref_of expr.now) }
 {

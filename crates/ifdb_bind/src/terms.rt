@@ -12,7 +12,7 @@ use ifdb_wire::Fault;
 use std::alloc::Global;
 
 /// An expression with places for its columns. Costs its size.
-#[tactic(auto, using(crate::proofs::Forms::expr_forms))]
+#[tactic(auto, using(ifdb_catalog::proofs::Forms::expr_forms))]
 pub(crate) fn bound_expr(
     alloc: Global,
     scope: &[ScopeSource<'_>],
@@ -61,7 +61,7 @@ fn bound_operand(
 
 /// A condition with places for its columns. Costs its size.
 #[cycle(binds)]
-#[tactic(auto, using(crate::proofs::Forms::cond_forms))]
+#[tactic(auto, using(ifdb_catalog::proofs::Forms::cond_forms))]
 fn bound_cond(alloc: Global, scope: &[ScopeSource<'_>], cond: &Cond) -> Result<BoundCond, Fault>
     ensures known { IfOk result (λ _. is_known_cond scope.now cond.now ≡ true) }
     ensures tree { IfOk result (λ tree. tree ≡ bound_cond scope.now cond.now) }

@@ -7,12 +7,11 @@ use Rattle.ifdb_value.specs.declared.value.ValueKind.TheVariants as kind
 use Rattle.ifdb_value.specs.Value.{kind_of}
 use Rattle.ifdb_bound.specs.declared.expression.BoundColumn.{BoundColumn}
 use Rattle.ifdb_bound.specs.declared.expression.BoundExpr.{BoundExpr}
-use Rattle.ifdb_bound.specs.declared.expression.BoundExpr.TheVariants as e
-use Rattle.ifdb_bound.specs.Folds.{fold_expr}
 use Rattle.ifdb_bound.specs.Expressions.{column_value, is_in_range, operate, value_of}
 use Rattle.ifdb_bound.specs.Kinds.{same_kind, arithmetic_kind, column_kind, expr_kind}
 use Rattle.ifdb_bound.proofs.Meanings.{value_of-Column, value_of-Literal, value_of-Add, value_of-Sub, value_of-Mul}
 use Rattle.ifdb_bound.proofs.BoundExprs.{each_bound_expr}
+use Rattle.ifdb_bound.proofs.KindForms.{expr_kind-Column, expr_kind-Literal, expr_kind-Add, expr_kind-Sub, expr_kind-Mul}
 
 pub same_kind_exact : (j k : ValueKind) → same_kind j k ≡ true → j ≡ k
 same_kind_exact kind.Int kind.Int h = refl
@@ -23,26 +22,6 @@ same_kind_exact kind.Text kind.Int h = cc
 pub same_kind_itself : (k : ValueKind) → same_kind k k ≡ true
 same_kind_itself kind.Int = refl
 same_kind_itself kind.Text = refl
-
-expr_kind-Column : (kinds : List (List ValueKind)) (c : BoundColumn) → expr_kind kinds (e.Column c) ≡ column_kind kinds c
-unfolding expr_kind fold_expr
-expr_kind-Column kinds c = refl
-
-expr_kind-Literal : (kinds : List (List ValueKind)) (v : Value) → expr_kind kinds (e.Literal v) ≡ Some (kind_of v)
-unfolding expr_kind fold_expr
-expr_kind-Literal kinds v = refl
-
-expr_kind-Add : (kinds : List (List ValueKind)) (a b : BoundExpr) → expr_kind kinds (e.Add a b) ≡ arithmetic_kind (expr_kind kinds a) (expr_kind kinds b)
-unfolding expr_kind fold_expr
-expr_kind-Add kinds a b = refl
-
-expr_kind-Sub : (kinds : List (List ValueKind)) (a b : BoundExpr) → expr_kind kinds (e.Sub a b) ≡ arithmetic_kind (expr_kind kinds a) (expr_kind kinds b)
-unfolding expr_kind fold_expr
-expr_kind-Sub kinds a b = refl
-
-expr_kind-Mul : (kinds : List (List ValueKind)) (a b : BoundExpr) → expr_kind kinds (e.Mul a b) ≡ arithmetic_kind (expr_kind kinds a) (expr_kind kinds b)
-unfolding expr_kind fold_expr
-expr_kind-Mul kinds a b = refl
 
 -- arithmetic gives numbers
 range_kind : (b : Bool) (n : ℤ) (v : Value) → (if b then Some (value.Int n) else None) ≡ Some v → kind_of v ≡ kind.Int

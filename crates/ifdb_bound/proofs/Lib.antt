@@ -3,3 +3,5 @@ pub mod Computing
 pub mod Meanings
 pub mod BoundExprs
 pub mod KindLaws
+pub mod KindForms
+pub mod PlainColumns

@@ -51,7 +51,7 @@ any_of : {X : Type 0} (f : X → Bool) (xs : List X) → list_any itself (map f 
 any_of f [] = refl
 any_of f (x ∷ xs) = ap (λ (b : Bool). f x || b) (any_of f xs)
 
-all_of : {X : Type 0} (f : X → Bool) (xs : List X) → list_all itself (map f xs) ≡ list_all f xs
+pub all_of : {X : Type 0} (f : X → Bool) (xs : List X) → list_all itself (map f xs) ≡ list_all f xs
 all_of f [] = refl
 all_of f (x ∷ xs) = ap (λ (b : Bool). f x && b) (all_of f xs)
 

@@ -3,3 +3,4 @@ pub mod Expressions
 pub mod Conditions
 pub mod Query
 pub mod Kinds
+pub mod Forms

@@ -1,5 +1,5 @@
 -- What a bound change makes has a name that stands for nothing yet.
-use Rattle.std.proofs.Common.{◌≡◌, refl, ℕ, Bool, true, Result, Ok, arith}
+use Rattle.std.proofs.Common.{◌≡◌, refl, ℕ, Bool, true, Ok, arith}
 use Rattle.std.proofs.lemmas.Bool.Decides.{nat_tests}
 use Rattle.ifdb_syntax.specs.declared.request.Request.{Request}
 use Rattle.ifdb_syntax.specs.declared.request.Request.TheVariants as q

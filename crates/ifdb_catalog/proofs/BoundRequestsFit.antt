@@ -20,16 +20,17 @@ use Rattle.ifdb_bound.specs.declared.request.Bound.TheVariants as b
 use Rattle.ifdb_wire.specs.declared.fault.Fault.{Fault}
 use Rattle.ifdb_catalog.specs.Public.{Public, table_named}
 use Rattle.ifdb_catalog.specs.Scope.{scope_of, kinds_of, kinds_in, table_scope}
-use Rattle.ifdb_catalog.specs.Terms.{bound_where}
-use Rattle.ifdb_catalog.specs.Queries.{is_relation, is_view, bound_item, output, select_is_known, select_fits}
-use Rattle.ifdb_catalog.specs.Statements.{is_tag, are_tags, tag_at, label_named, table_number, schema_named, columns_named, is_column_of, are_listed, row_fits, values_fit, arranged, assigns_key, assignment_fits, assignments_fit, bound_assignment}
+use Rattle.ifdb_catalog.specs.Terms.{where_is_known, bound_where}
+use Rattle.ifdb_catalog.specs.Queries.{are_distinct, is_relation, is_view, bound_item, output, select_is_known, select_fits}
+use Rattle.ifdb_catalog.specs.Statements.{is_tag, are_tags, tag_at, label_named, table_number, schema_named, columns_named, is_column_of, are_listed, row_fits, values_fit, arranged, is_known_assignment, assigns_key, assignment_fits, assignments_fit, bound_assignment}
 use Rattle.ifdb_catalog.specs.Definitions.{is_known_foreign, refers_to_view, bound_foreign, foreign_fits, bound_schema, is_from_view, given, names_fit, bound_view}
 use Rattle.ifdb_catalog.specs.Binding.{is_principal, principal_at, bound}
-use Rattle.ifdb_catalog.specs.Fits.{bound_fits, schema_fits, view_fits, spares_key}
+use Rattle.ifdb_catalog.specs.Fits.{bound_fits, schema_fits, view_fits, spares_key, write_apart}
 use Rattle.ifdb_catalog.specs.Fits as fits
-use Rattle.ifdb_catalog.proofs.Tests.{both_of}
+use Rattle.ifdb_catalog.proofs.Tests.{first_of, both_of}
 use Rattle.ifdb_catalog.proofs.Judging.{accepted}
 use Rattle.ifdb_catalog.proofs.Found.{found, tags_are_made, label_is_made, table_stands}
+use Rattle.ifdb_catalog.proofs.WrittenApart.{writes_apart}
 use Rattle.ifdb_catalog.proofs.QueriesFit.{query_is_fitting, are_over_tables, named_items}
 use Rattle.ifdb_catalog.proofs.StatementsFit.{has_table, columns_are, kinds_are, rows_are_fitting, keys_are_spared, key_places, foreign_keys}
 
@@ -77,6 +78,11 @@ insert_parts : (relation columns tags view listed rows : Bool)
     → (relation ≡ true) × (view ≡ false) × (rows ≡ true) × (tags ≡ true)
 insert_parts relation columns tags view listed rows h = grind (arith, nat_tests)
 
+update_parts : (relation known cond tags view keys written where_fits : Bool)
+    → not (not (relation && (known && (cond && tags)))) && (not view && (not keys && (not (not (written && where_fits)) && true))) ≡ true
+    → (relation ≡ true) × (known ≡ true) × (view ≡ false) × (keys ≡ false) × (written ≡ true) × (where_fits ≡ true) × (tags ≡ true)
+update_parts relation known cond tags view keys written where_fits h = grind (arith, nat_tests)
+
 where_is_fitting : (p : Public) (table : List ℕ) (found : Option Cond) → is_some (table_named p table) ≡ true
     → where_fits (kinds_in (table_scope p table)) (bound_where (table_scope p table) found) ≡ true
     → where_fits (kinds_of (schema_named p table).columns ∷ []) (bound_where (table_scope p table) found) ≡ true
@@ -84,10 +90,11 @@ where_is_fitting p table found named h =
     subst (λ (k : List (List ValueKind)). where_fits k (bound_where (table_scope p table) found) ≡ true) (kinds_are p table named) h
 
 assignments_are_fitting : (p : Public) (table : List ℕ) (assignments : List Assignment) → is_some (table_named p table) ≡ true
+    → list_all (is_known_assignment (columns_named p table) (table_scope p table)) assignments ≡ true
     → list_any (assigns_key (schema_named p table)) assignments ≡ false
     → assignments_fit (columns_named p table) (table_scope p table) assignments ≡ true
     → fits.assignments_fit (schema_named p table) (map (bound_assignment (columns_named p table) (table_scope p table)) assignments) ≡ true
-assignments_are_fitting p table assignments named h k =
+assignments_are_fitting p table assignments named known h k =
     let t = schema_named p table in
     let columns = columns_named p table in
     let scope = table_scope p table in
@@ -99,20 +106,23 @@ assignments_are_fitting p table assignments named h k =
     let of_table : list_all (assignment_fits columns (kinds_of t.columns ∷ [])) (map (bound_assignment columns scope) assignments) ≡ true =
     subst (λ (k : List (List ValueKind)). list_all (assignment_fits columns k) (map (bound_assignment columns scope) assignments) ≡ true)
     (kinds_are p table named) written in
+    let apart : write_apart (map (bound_assignment columns scope) assignments) ≡ true =
+    writes_apart columns scope assignments known (first_of (are_distinct (map (λ (a : Assignment). a.column) assignments)) _ k) in
     both_of _ _ spared
-    (subst (λ (c : List Column). list_all (assignment_fits c (kinds_of t.columns ∷ [])) (map (bound_assignment columns scope) assignments)
-    ≡ true) same of_table)
+    (both_of _ _ (subst (λ (c : List Column). list_all (assignment_fits c (kinds_of t.columns ∷ [])) (map (bound_assignment columns scope) assignments)
+    ≡ true) same of_table) apart)
 
 update_is_fitting : (p : Public) (table : List ℕ) (assignments : List Assignment) (found : Option Cond) (tags : List (List ℕ))
-    → is_relation p table ≡ true → is_view p table ≡ false → list_any (assigns_key (schema_named p table)) assignments ≡ false
+    → is_relation p table ≡ true → list_all (is_known_assignment (columns_named p table) (table_scope p table)) assignments ≡ true
+    → is_view p table ≡ false → list_any (assigns_key (schema_named p table)) assignments ≡ false
     → assignments_fit (columns_named p table) (table_scope p table) assignments ≡ true
     → where_fits (kinds_in (table_scope p table)) (bound_where (table_scope p table) found) ≡ true → are_tags p tags ≡ true
     → bound_fits p (b.Update (table_number p table) (map (bound_assignment (columns_named p table) (table_scope p table)) assignments)
     (bound_where (table_scope p table) found) (label_named p tags)) ≡ true
-update_is_fitting p table assignments found tags h i j k l m =
+update_is_fitting p table assignments found tags h known i j k l m =
     let named = has_table p table h i in
     both_of _ _ (table_stands p table named)
-    (both_of _ _ (assignments_are_fitting p table assignments named j k)
+    (both_of _ _ (assignments_are_fitting p table assignments named known j k)
     (both_of _ _ (where_is_fitting p table found named l) (label_is_made p tags m)))
 
 delete_is_fitting : (p : Public) (table : List ℕ) (found : Option Cond)
@@ -156,9 +166,12 @@ bound_is_fitting p asker (q.Insert table names rows tags) x e = accepted (bound_
     (are_listed (columns_named p table) names) (list_all (row_fits (columns_named p table) names) rows) h in
     insert_is_fitting p table names rows tags parts.0 parts.1 parts.2 parts.3)
 bound_is_fitting p asker (q.Update table assignments cond tags) x e = accepted (bound_fits p) _ _ x e (λ h.
-    update_is_fitting p table assignments cond tags
-    (grind (arith, nat_tests)) (grind (arith, nat_tests)) (grind (arith, nat_tests)) (grind (arith, nat_tests)) (grind (arith, nat_tests)) (grind
-    (arith, nat_tests)))
+    let columns = columns_named p table in
+    let scope = table_scope p table in
+    let parts = update_parts (is_relation p table) (list_all (is_known_assignment columns scope) assignments) (where_is_known scope cond) (are_tags p tags)
+    (is_view p table) (list_any (assigns_key (schema_named p table)) assignments) (assignments_fit columns scope assignments)
+    (where_fits (kinds_in scope) (bound_where scope cond)) h in
+    update_is_fitting p table assignments cond tags parts.0 parts.1 parts.2 parts.3 parts.4 parts.5 parts.6)
 bound_is_fitting p asker (q.Delete table cond) x e = accepted (bound_fits p) _ _ x e (λ h.
     delete_is_fitting p table cond (grind (arith, nat_tests)) (grind (arith, nat_tests)) (grind (arith, nat_tests)))
 bound_is_fitting p asker (q.Hello name key) x e = other_fits p x e

@@ -8,6 +8,7 @@ use Rattle.ifdb_label.specs.Tags.{are_made}
 use Rattle.ifdb_label.specs.Label.{is_rising}
 use Rattle.ifdb_label.proofs.LabelLaws.{reduce_all, reduce_is_rising}
 use Rattle.ifdb_catalog.specs.Public.{Public, tags_of, table_named, view_named, relation_from, relation_named}
+use Rattle.ifdb_bound.specs.declared.select.Relation.{Relation}
 use Rattle.ifdb_bound.specs.declared.select.Relation.TheVariants as relation
 use Rattle.ifdb_catalog.specs.Queries.{place_or, is_view_of, relation_or}
 use Rattle.ifdb_catalog.specs.Statements.{are_tags, tags_named, label_named, table_number}
@@ -35,6 +36,11 @@ label_is_made p names h =
     grind (arith, nat_tests)
 
 -- ---- tables and views
+
+-- what a name stands for
+pub is_the_relation : (o : Option Relation) → is_some o ≡ true → o ≡ Some (relation_or o)
+is_the_relation None h = grind (arith)
+is_the_relation (Some r) h = refl
 
 -- what is no view and stands for something is a table
 pub is_table_named : (p : Public) (name : List ℕ) → is_some (relation_named p name) ≡ true → is_view_of (relation_named p name) ≡ false

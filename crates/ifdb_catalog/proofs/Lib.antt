@@ -2,6 +2,9 @@ pub mod Computing
 pub mod Tests
 pub mod Judging
 pub mod Found
+pub mod Forms
+mod FormsStand
+mod WrittenApart
 mod QueriesFit
 mod StatementsFit
 pub mod BoundRequestsFit
@@ -9,6 +12,7 @@ mod BoundChangesAreNew
 pub mod Growth
 pub mod Made
 mod StatesFit
+mod Later
 pub mod Resolution
 mod Site
 mod NameExamples

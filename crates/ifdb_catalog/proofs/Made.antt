@@ -16,7 +16,7 @@ use Rattle.ifdb_catalog.specs.Public.{Public, tags_of, table_at}
 use Rattle.ifdb_catalog.specs.Scope.{kinds_of}
 use Rattle.ifdb_catalog.specs.Statements.{values_fit}
 use Rattle.ifdb_catalog.specs.Binding.{bound}
-use Rattle.ifdb_catalog.specs.Fits.{is_table, is_over_table, query_fits, label_fits, assignments_fit}
+use Rattle.ifdb_catalog.specs.Fits.{is_table, is_over_table, query_fits, view_fits, label_fits, assignments_fit}
 use Rattle.ifdb_catalog.proofs.Tests.{first_of, rest_of}
 use Rattle.ifdb_catalog.proofs.BoundRequestsFit.{bound_is_fitting}
 use Rattle.ifdb_catalog.proofs.Growth.{tags_of-length}
@@ -55,13 +55,17 @@ update_made p asker r table assignments found given e =
     let all = bound_is_fitting p asker r _ e in
     of_label p given (rest_of where_is label (rest_of written (where_is && label) (rest_of (is_table p table) (written && (where_is && label)) all)))
 
--- those that a view does
-pub view_made : (p : Public) (asker : ℕ) (r : Request) (view : ViewDef) → bound p asker r ≡ Ok (b.Change (change.View view))
-    → AreMade (length (tags_of p)) view.declassifying
-view_made p asker r view e =
+-- those that a view does that fits
+pub view_gives_made : (p : Public) (view : ViewDef) → view_fits p view ≡ true → AreMade (length p.tags) view.declassifying
+view_gives_made p view h =
     let query : Bool = query_fits p view.select in
     let tables : Bool = list_all is_over_table view.select.sources in
     let names : Bool = length view.names == length view.select.items in
     let label : Bool = label_fits p view.declassifying in
-    let all = bound_is_fitting p asker r _ e in
-    of_label p view.declassifying (rest_of names label (rest_of tables (names && label) (rest_of query (tables && (names && label)) all)))
+    let fits = rest_of names label (rest_of tables (names && label) (rest_of query (tables && (names && label)) h)) in
+    first_of (are_made (length p.tags) view.declassifying) (is_rising view.declassifying) fits
+
+-- and those of a bound one
+pub view_made : (p : Public) (asker : ℕ) (r : Request) (view : ViewDef) → bound p asker r ≡ Ok (b.Change (change.View view))
+    → AreMade (length (tags_of p)) view.declassifying
+view_made p asker r view e = of_tags p view.declassifying (view_gives_made p view (bound_is_fitting p asker r _ e))

@@ -10,29 +10,27 @@ use Rattle.ifdb_syntax.specs.declared.select.Select.{Select}
 use Rattle.ifdb_syntax.specs.declared.select.Source.{Source}
 use Rattle.ifdb_syntax.specs.declared.select.Item.{Item}
 use Rattle.ifdb_syntax.specs.declared.select.Item.TheVariants as i
+use Rattle.ifdb_bound.specs.Forms as forms
 use Rattle.ifdb_bound.specs.Kinds as kinds
 use Rattle.ifdb_bound.specs.declared.select.Relation.{Relation}
 use Rattle.ifdb_bound.specs.declared.select.Relation.TheVariants as relation
-use Rattle.ifdb_bound.specs.declared.select.BoundSource.{BoundSource}
 use Rattle.ifdb_catalog.specs.Public.{Public, relation_named}
 use Rattle.ifdb_catalog.specs.Scope.{Scope, kinds_of, kinds_in, relation_columns, scope_of}
 use Rattle.ifdb_catalog.specs.Queries as queries
-use Rattle.ifdb_catalog.specs.Queries.{relation_or, is_view, is_view_of, bound_source, columns_from, all_from, all_names, output_names, bound_item, output, are_distinct, items_stand, counts_stand, select_is_known, bound_select}
+use Rattle.ifdb_catalog.specs.Queries.{relation_or, is_view, is_view_of, key_of, bound_source, columns_from, all_from, all_names, output_names, bound_item, output, are_distinct, items_stand, counts_stand, select_is_known, bound_select}
 use Rattle.ifdb_catalog.specs.Definitions.{given, is_given, names_fit}
 use Rattle.ifdb_catalog.specs.Fits as fits
-use Rattle.ifdb_catalog.specs.Fits.{source_kinds, query_fits, is_over_table, is_of_table}
+use Rattle.ifdb_catalog.specs.Fits.{same_places, source_kinds, source_fits, counts_fit, query_fits, is_over_table, is_of_table}
 use Rattle.std.proofs.Common.{length-append}
 use Rattle.std.proofs.lemmas.List.{length-map}
 use Rattle.ifdb_bound.specs.declared.expression.BoundExpr.TheVariants as be
 use Rattle.ifdb_bound.specs.declared.select.BoundItem.TheVariants as bi
 use Rattle.ifdb_catalog.proofs.Tests.{first_of, rest_of, both_of}
-use Rattle.ifdb_catalog.proofs.Found.{relation_stands}
+use Rattle.std.proofs.lemmas.Slice.Eq.{bytes_eq-Decides}
+use Rattle.ifdb_catalog.proofs.Found.{is_the_relation, relation_stands}
+use Rattle.ifdb_catalog.proofs.FormsStand.{items_stand_bound, counts_fit_bound}
 
 -- ---- sources
-
-is_the_relation : (o : Option Relation) → is_some o ≡ true → o ≡ Some (relation_or o)
-is_the_relation None h = grind (arith)
-is_the_relation (Some r) h = refl
 
 abbrev are_known : Public → List Source → Bool
 are_known p sources = list_all (λ (x : Source). queries.is_relation p x.name) sources
@@ -45,30 +43,39 @@ kinds_are_sources p (s ∷ sources) h =
     let rest : are_known p sources ≡ true = grind (arith, nat_tests) in
     λ j. kinds_of (relation_columns p (is_the_relation (relation_named p s.name) first j)) ∷ kinds_are_sources p sources rest j
 
-sources_stand : (p : Public) (sources : List Source) → are_known p sources ≡ true
-    → list_all (λ (x : BoundSource). fits.is_relation p x.relation) (map (bound_source p) sources) ≡ true
-sources_stand p [] h = refl
-sources_stand p (s ∷ sources) h = grind (arith, nat_tests, sources_stand p sources, relation_stands p s.name)
+-- a source bears its own key
+same_key : (places : List ℕ) → same_places places places ≡ true
+same_key places = (bytes_eq-Decides places places).1 refl
 
--- the kinds of a SELECT whose kinds and forms fit
-fitting_kinds : (p : Public) (scope : Scope) (s : Select) → queries.select_fits p scope s ≡ true
-    → kinds.select_fits (kinds_in scope) (bound_select p scope s) ≡ true
-fitting_kinds p scope s h =
-    let fits : Bool = kinds.select_fits (kinds_in scope) (bound_select p scope s) in
-    let counts : Bool = counts_stand p s in
-    let items : Bool = items_stand scope s.group s.items in
-    rest_of counts fits (rest_of items (counts && fits) (rest_of (are_distinct (map (λ (x : Source). x.alias) s.sources)) (items && (counts && fits)) h))
+sources_stand : (p : Public) (sources : List Source) → are_known p sources ≡ true → list_all (source_fits p) (map (bound_source p) sources) ≡ true
+sources_stand p [] h = refl
+sources_stand p (s ∷ sources) h =
+    let r = relation_or (relation_named p s.name) in
+    let there : queries.is_relation p s.name ≡ true = first_of (queries.is_relation p s.name) (are_known p sources) h in
+    let known : are_known p sources ≡ true = rest_of (queries.is_relation p s.name) (are_known p sources) h in
+    both_of (source_fits p (bound_source p s)) (list_all (source_fits p) (map (bound_source p) sources))
+    (both_of (fits.is_relation p r) (same_places (key_of p r) (key_of p r)) (relation_stands p s.name there) (same_key (key_of p r)))
+    (sources_stand p sources known)
+
+-- what a SELECT passes whose kinds and forms fit
+fitting_parts : (aliases items counts kinds : Bool) → aliases && (items && (counts && kinds)) ≡ true → (items ≡ true) × (counts ≡ true) × (kinds ≡ true)
+fitting_parts aliases items counts kinds h = grind (arith, nat_tests)
 
 -- a SELECT whose names are known and whose forms and kinds fit
 pub query_is_fitting : (p : Public) (s : Select) → select_is_known p (scope_of p s.sources) s ≡ true → queries.select_fits p (scope_of p s.sources) s ≡ true
     → query_fits p (bound_select p (scope_of p s.sources) s) ≡ true
 query_is_fitting p s known fitting =
+    let scope = scope_of p s.sources in
+    let tree = bound_select p scope s in
     let there : are_known p s.sources ≡ true = first_of (are_known p s.sources) _ known in
-    let tree = bound_select p (scope_of p s.sources) s in
-    both_of (list_all (λ (x : BoundSource). fits.is_relation p x.relation) tree.sources) (kinds.select_fits (source_kinds p tree.sources) tree)
-    (sources_stand p s.sources there)
-    (subst (λ (k : List (List ValueKind)). kinds.select_fits k tree ≡ true)
-    (kinds_are_sources p s.sources there) (fitting_kinds p (scope_of p s.sources) s fitting))
+    let parts = fitting_parts (are_distinct (map (λ (x : Source). x.alias) s.sources)) (items_stand scope s.group s.items) (counts_stand p s)
+    (kinds.select_fits (kinds_in scope) tree) fitting in
+    let terms : kinds.select_fits (source_kinds p tree.sources) tree ≡ true =
+    subst (λ (k : List (List ValueKind)). kinds.select_fits k tree ≡ true) (kinds_are_sources p s.sources there) parts.2 in
+    both_of (list_all (source_fits p) tree.sources) _ (sources_stand p s.sources there)
+    (both_of (kinds.select_fits (source_kinds p tree.sources) tree) _ terms
+    (both_of (forms.items_stand tree.group tree.items) (counts_fit p tree)
+    (items_stand_bound scope s.group s.items parts.0) (counts_fit_bound p scope s there parts.1)))
 
 -- ---- views
 

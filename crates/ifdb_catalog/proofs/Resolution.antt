@@ -15,7 +15,7 @@ use Rattle.ifdb_value.specs.declared.column.Column.{Column}
 use Rattle.ifdb_syntax.specs.declared.expression.ColumnRef.{ColumnRef}
 use Rattle.ifdb_bound.specs.declared.expression.BoundColumn.{BoundColumn}
 use Rattle.ifdb_catalog.specs.Scope.{ScopeSource, Scope, kinds_of, kinds_in, no_column, no_source, places_named, may_be_of, meant_from, the_one, column_or, resolve, column_at, is_column, may_mean}
-use Rattle.ifdb_catalog.specs.Queries.{same_column}
+use Rattle.ifdb_bound.specs.Forms.{same_column}
 use Rattle.ifdb_catalog.specs.Laws.{IsTheOne}
 
 same_column_is : (a b : BoundColumn) → same_column a b ≡ true → a ≡ b

@@ -1,12 +1,14 @@
 -- Whether a bound request fits the public state: its numbers stand for something, and its trees fit the columns that they are over.
-use Rattle.std.specs.Prelude.{ℕ, Bool, true, false, ◌&&◌, ◌==◌, not, List, [], ◌∷◌, map, length, nat_lt, Some}
+use Rattle.std.specs.Prelude.{ℕ, Bool, true, false, ◌&&◌, ◌||◌, ◌==◌, not, bytes_eq, List, [], ◌∷◌, map, length, nat_lt, Some}
 use Rattle.std.specs.List.{list_all, list_any}
 use Rattle.std.specs.Option.{is_some}
 use Rattle.ifdb_value.specs.declared.value.ValueKind.{ValueKind}
 use Rattle.ifdb_value.specs.declared.column.Column.{Column}
 use Rattle.ifdb_label.specs.Tags.{are_made, are_compound}
 use Rattle.ifdb_label.specs.Label.{is_rising}
+use Rattle.ifdb_bound.specs.Forms.{items_stand}
 use Rattle.ifdb_bound.specs.Kinds.{select_fits, where_fits}
+use Rattle.ifdb_bound.specs.Query.{is_count}
 use Rattle.ifdb_bound.specs.declared.request.Bound.{Bound}
 use Rattle.ifdb_bound.specs.declared.request.Bound.TheVariants as b
 use Rattle.ifdb_bound.specs.declared.request.BoundAssignment.{BoundAssignment}
@@ -21,6 +23,7 @@ use Rattle.ifdb_bound.specs.declared.select.Relation.{Relation}
 use Rattle.ifdb_bound.specs.declared.select.Relation.TheVariants as relation
 use Rattle.ifdb_catalog.specs.Public.{Public, tags_of, table_at, principal_named, tag_named, relation_named}
 use Rattle.ifdb_catalog.specs.Scope.{kinds_of, relation_columns}
+use Rattle.ifdb_catalog.specs.Queries.{is_countable, key_of}
 use Rattle.ifdb_catalog.specs.Statements.{values_fit, assignment_fits}
 use Rattle.ifdb_catalog.specs.Definitions.{foreign_fits}
 
@@ -43,6 +46,10 @@ abbrev pub is_relation : Public → Relation → Bool
 is_relation p (relation.Table t) = is_table p t
 is_relation p (relation.View v) = nat_lt v (length p.views)
 
+-- two lists of places are one
+abbrev pub same_places : List ℕ → List ℕ → Bool
+same_places = bytes_eq
+
 -- a label over made tags
 abbrev pub label_fits : Public → List ℕ → Bool
 label_fits p label = are_made (length p.tags) label && is_rising label
@@ -53,9 +60,26 @@ label_fits p label = are_made (length p.tags) label && is_rising label
 abbrev pub source_kinds : Public → List BoundSource → List (List ValueKind)
 source_kinds p sources = map (λ (s : BoundSource). kinds_of (relation_columns p (Some s.relation))) sources
 
--- the sources of a query stand, and its terms fit their columns
+-- a source stands, and bears its table's primary key; that of a view is empty
+abbrev pub source_fits : Public → BoundSource → Bool
+source_fits p s = is_relation p s.relation && same_places s.key (key_of p s.relation)
+
+-- there is one source, and its rows can be counted
+abbrev pub is_counted : Public → List BoundSource → Bool
+is_counted p (s ∷ []) = is_countable p (Some s.relation)
+is_counted p _ = false
+
+-- COUNT(*) is over one source whose rows can be counted
+abbrev pub counts_fit : Public → BoundSelect → Bool
+counts_fit p s = not (list_any is_count s.items) || is_counted p s.sources
+
+-- the sources of a query stand, its terms fit their columns, and its items stand beside one another and over its sources
 abbrev pub query_fits : Public → BoundSelect → Bool
-query_fits p s = list_all (λ (x : BoundSource). is_relation p x.relation) s.sources && select_fits (source_kinds p s.sources) s
+query_fits p s =
+    list_all (source_fits p) s.sources
+    && (select_fits (source_kinds p s.sources) s
+    && (items_stand s.group s.items
+    && counts_fit p s))
 
 -- ---- tables and views
 
@@ -108,10 +132,17 @@ change_fits p (change.Revoke asker tag from) = is_tag p tag && is_principal p fr
 abbrev pub spares_key : Schema → BoundAssignment → Bool
 spares_key t a = not (list_any (λ place. place == a.column) t.key)
 
+-- no column is written twice
+abbrev pub write_apart : List BoundAssignment → Bool
+write_apart [] = true
+write_apart (a ∷ assignments) = not (list_any (λ (b : BoundAssignment). b.column == a.column) assignments) && write_apart assignments
+
 -- the assignments of an UPDATE
 abbrev pub assignments_fit : Schema → List BoundAssignment → Bool
 assignments_fit t assignments =
-    list_all (spares_key t) assignments && list_all (assignment_fits t.columns (kinds_of t.columns ∷ [])) assignments
+    list_all (spares_key t) assignments
+    && (list_all (assignment_fits t.columns (kinds_of t.columns ∷ [])) assignments
+    && write_apart assignments)
 
 -- what a request names stands, and its trees fit
 abbrev pub bound_fits : Public → Bound → Bool

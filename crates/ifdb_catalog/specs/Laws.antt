@@ -1,5 +1,5 @@
 -- What the laws say.
-use Rattle.std.specs.Prelude.{◌≡◌, ◌↔◌, ℕ, true, Ok, Some}
+use Rattle.std.specs.Prelude.{◌≡◌, ◌↔◌, ℕ, true, List, fold, Ok, Some}
 use Rattle.std.specs.Option.{is_some}
 use Rattle.ifdb_label.specs.Tags.{AreWellFormed}
 use Rattle.ifdb_syntax.specs.declared.request.Request.{Request}
@@ -21,6 +21,14 @@ BoundFits = (p : Public) (asker : ℕ) (request : Request) (x : Bound) → bound
 -- what a bound change makes has a name that stands for nothing yet
 abbrev pub BoundIsNew : Type 0
 BoundIsNew = (p : Public) (asker : ℕ) (request : Request) (c : Change) → bound p asker request ≡ Ok (b.Change c) → is_new p c ≡ true
+
+-- the public state after some changes
+abbrev pub after : Public → List Change → Public
+after p changes = fold changed p changes
+
+-- what fits a state that fits stays fitting, whatever changes come: nothing that is made is taken away or made anew
+abbrev pub BoundStaysFitting : Type 0
+BoundStaysFitting = (p : Public) (changes : List Change) (x : Bound) → state_fits p ≡ true → bound_fits p x ≡ true → bound_fits (after p changes) x ≡ true
 
 -- a change that fits leaves each tag's parents older than the tag
 abbrev pub TagsStayWellFormed : Type 0

@@ -20,6 +20,7 @@ use Rattle.ifdb_bound.specs.declared.select.BoundSelect.{BoundSelect}
 use Rattle.ifdb_bound.specs.declared.select.OrderKey.{OrderKey}
 use Rattle.ifdb_bound.specs.declared.select.Relation.{Relation}
 use Rattle.ifdb_bound.specs.declared.select.Relation.TheVariants as relation
+use Rattle.ifdb_bound.specs.Forms.{same_column}
 use Rattle.ifdb_bound.specs.Kinds as kinds
 use Rattle.ifdb_catalog.specs.Public.{Public, relation_named, table_at, view_at}
 use Rattle.ifdb_catalog.specs.Scope.{ScopeSource, Scope, kinds_in, is_alias, is_column, column_at, the_one}
@@ -151,10 +152,6 @@ is_aggregate (i.Sum c name) = true
 is_aggregate (i.Min c name) = true
 is_aggregate (i.Max c name) = true
 is_aggregate _ = false
-
--- two columns are one
-abbrev pub same_column : BoundColumn → BoundColumn → Bool
-same_column a b = (a.source == b.source) && (a.column == b.column)
 
 -- the column stands among the group columns
 abbrev pub is_grouped : Scope → List ColumnRef → Option ColumnRef → Bool

@@ -1,5 +1,5 @@
 // Laws of the definitions: each function's contract is one, and it does nothing.
-ghost use Rattle.ifdb_catalog.specs.Laws.{BoundFits, BoundIsNew, KnownColumnsStand, ResolvesTheOne, StatesStayFitting, TagsStayWellFormed};
+ghost use Rattle.ifdb_catalog.specs.Laws.{BoundFits, BoundIsNew, BoundStaysFitting, KnownColumnsStand, ResolvesTheOne, StatesStayFitting, TagsStayWellFormed};
 
 /// A column's name is resolved exactly where it may mean one column of the sources and no other, and that column is there.
 pub fn names_mean_one_column()
@@ -11,6 +11,11 @@ pub fn names_mean_one_column()
 /// trees fit the columns that they are over.
 pub fn bound_requests_fit()
     ensures { BoundFits }
+{}
+
+/// What fits a public state that fits also fits each later one, whatever changes come between: numbers stand for what they stood for.
+pub fn bound_requests_stay_fitting()
+    ensures { BoundStaysFitting }
 {}
 
 /// What a bound change makes has a name that stands for nothing yet among the principals, the tags, or the tables and views.

@@ -7,7 +7,7 @@ mod laws;
 pub use catalog::Catalog;
 pub use ifdb_bound::Relation;
 pub use laws::{
-    bound_changes_are_new, bound_requests_fit, names_mean_one_column, states_stay_fitting,
-    tags_stay_well_formed,
+    bound_changes_are_new, bound_requests_fit, bound_requests_stay_fitting, names_mean_one_column,
+    states_stay_fitting, tags_stay_well_formed,
 };
 pub use std::alloc::AllocError as OutOfMemory;

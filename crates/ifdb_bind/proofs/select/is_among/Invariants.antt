@@ -1,6 +1,6 @@
 use Rattle.std.proofs.Common.{◌≡◌, take, false}
 use Rattle.std.specs.List.{list_any}
-use Rattle.ifdb_catalog.specs.Queries.{same_column}
+use Rattle.ifdb_bound.specs.Forms.{same_column}
 use Rattle.ifdb_catalog.specs.Scope.{column_at}
 use Rattle.ifdb_bind.proofs.select.is_among.Given as goal
 

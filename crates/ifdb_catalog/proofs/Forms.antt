@@ -1,10 +1,8 @@
--- What binding and kinds come to, by the form of an expression and of a condition.
-use Rattle.std.proofs.Common.{◌≡◌, refl, sym, ap, ◌∙◌, List, [], ◌∷◌, map, Bool, true, ◌&&◌, Some}
+-- What binding comes to, by the form of an expression and of a condition.
+use Rattle.std.proofs.Common.{◌≡◌, refl, sym, ap, ◌∙◌, List, [], ◌∷◌, map, Bool, true, ◌&&◌, Some, None}
 use Rattle.std.specs.List.{list_all}
 use denote.Hole.Carrier.{fold-roll}
-use Rattle.ifdb_value.specs.Value.{kind_of}
 use Rattle.ifdb_value.specs.declared.value.Value.{Value}
-use Rattle.ifdb_value.specs.declared.value.ValueKind.{ValueKind}
 use Rattle.ifdb_value.specs.declared.value.Compare.{Compare}
 use Rattle.ifdb_syntax.specs.declared.expression.ColumnRef.{ColumnRef}
 use Rattle.ifdb_syntax.specs.declared.expression.Operand.{Operand}
@@ -16,21 +14,12 @@ use Rattle.ifdb_syntax.specs.declared.condition.Cond.TheOpen.{Cond-F}
 use Rattle.ifdb_syntax.specs.declared.condition.Cond.TheViews.{roll-Cond}
 use Rattle.ifdb_syntax.specs.declared.condition.Cond.TheBlock as block
 use Rattle.ifdb_syntax.specs.declared.condition.Cond.TheFolds as folds
-use Rattle.ifdb_bound.specs.declared.expression.BoundColumn.{BoundColumn}
-use Rattle.ifdb_bound.specs.declared.expression.BoundExpr.{BoundExpr}
 use Rattle.ifdb_bound.specs.declared.expression.BoundExpr.TheVariants as be
-use Rattle.ifdb_bound.specs.declared.expression.BoundOperand.{BoundOperand}
 use Rattle.ifdb_bound.specs.declared.condition.BoundCond.{BoundCond}
 use Rattle.ifdb_bound.specs.declared.condition.BoundCond.TheVariants as bc
-use Rattle.ifdb_bound.specs.declared.condition.BoundCond.TheOpen.{BoundCond-F}
-use Rattle.ifdb_bound.specs.declared.condition.BoundCond.TheViews.{roll-BoundCond}
-use Rattle.ifdb_bound.specs.declared.condition.BoundCond.TheBlock as bound_block
-use Rattle.ifdb_bound.specs.declared.condition.BoundCond.TheFolds as bound_folds
-use Rattle.ifdb_bound.specs.Folds as bound
-use Rattle.ifdb_bound.specs.Kinds.{agree, arithmetic_kind, column_kind, cond_fits, expr_kind, fits_step, operand_kind}
 use Rattle.ifdb_catalog.specs.Scope.{Scope, column_at, is_column}
 use Rattle.ifdb_catalog.specs.Folds.{fold_expr, fold_cond}
-use Rattle.ifdb_catalog.specs.Terms.{bound_cond, bound_expr, bound_operand, cond_step, is_known, is_known_cond, is_known_operand, itself, known_cond_step}
+use Rattle.ifdb_catalog.specs.Terms.{bound_cond, bound_expr, bound_operand, cond_step, is_known, is_known_cond, is_known_operand, itself, known_cond_step, ref_of}
 
 -- ---- whether an expression's columns are known
 
@@ -77,6 +66,30 @@ unfolding bound_expr fold_expr
 bound_expr-Mul s a b = refl
 
 pub ruleset expr_forms = (is_known-Column, is_known-Literal, is_known-Add, is_known-Sub, is_known-Mul, bound_expr-Column, bound_expr-Literal, bound_expr-Add, bound_expr-Sub, bound_expr-Mul)
+
+-- ---- which expressions are a column
+
+pub ref_of-Column : (r : ColumnRef) → ref_of (e.Column r) ≡ Some r
+unfolding ref_of fold_expr
+ref_of-Column r = refl
+
+pub ref_of-Literal : (v : Value) → ref_of (e.Literal v) ≡ None
+unfolding ref_of fold_expr
+ref_of-Literal v = refl
+
+pub ref_of-Add : (a b : Expr) → ref_of (e.Add a b) ≡ None
+unfolding ref_of fold_expr
+ref_of-Add a b = refl
+
+pub ref_of-Sub : (a b : Expr) → ref_of (e.Sub a b) ≡ None
+unfolding ref_of fold_expr
+ref_of-Sub a b = refl
+
+pub ref_of-Mul : (a b : Expr) → ref_of (e.Mul a b) ≡ None
+unfolding ref_of fold_expr
+ref_of-Mul a b = refl
+
+pub ruleset ref_forms = (ref_of-Column, ref_of-Literal, ref_of-Add, ref_of-Sub, ref_of-Mul)
 
 -- ---- conditions
 
@@ -129,51 +142,3 @@ bound_cond-And s parts =
     ∙ fold-roll block.the_members block.the_sigs block.the_carrier (folds.family BoundCond) (folds.steps BoundCond (cond_step s)) block.member-Cond (Cond-F.And parts)
 
 pub ruleset cond_forms = (is_known_cond-Not, is_known_cond-Compare, is_known_cond-Or, is_known_cond-And, bound_cond-Not, bound_cond-Compare, bound_cond-Or, bound_cond-And)
-
--- ---- kinds
-
-module _ (kinds : List (List ValueKind)) where
-  pub expr_kind-Column : (x : BoundColumn) → expr_kind kinds (be.Column x) ≡ column_kind kinds x
-  unfolding expr_kind bound.fold_expr
-  expr_kind-Column x = refl
-
-  pub expr_kind-Literal : (v : Value) → expr_kind kinds (be.Literal v) ≡ Some (kind_of v)
-  unfolding expr_kind bound.fold_expr
-  expr_kind-Literal v = refl
-
-  pub expr_kind-Add : (a b : BoundExpr) → expr_kind kinds (be.Add a b) ≡ arithmetic_kind (expr_kind kinds a) (expr_kind kinds b)
-  unfolding expr_kind bound.fold_expr
-  expr_kind-Add a b = refl
-
-  pub expr_kind-Sub : (a b : BoundExpr) → expr_kind kinds (be.Sub a b) ≡ arithmetic_kind (expr_kind kinds a) (expr_kind kinds b)
-  unfolding expr_kind bound.fold_expr
-  expr_kind-Sub a b = refl
-
-  pub expr_kind-Mul : (a b : BoundExpr) → expr_kind kinds (be.Mul a b) ≡ arithmetic_kind (expr_kind kinds a) (expr_kind kinds b)
-  unfolding expr_kind bound.fold_expr
-  expr_kind-Mul a b = refl
-
-  pub cond_fits-Not : (a : BoundCond) → cond_fits kinds (bc.Not a) ≡ cond_fits kinds a
-  unfolding cond_fits bound.fold_cond
-  cond_fits-Not a = refl
-
-  pub cond_fits-Compare : (a : BoundOperand) (how : Compare) (b : BoundOperand)
-      → cond_fits kinds (bc.Compare a how b) ≡ agree (operand_kind kinds a) (operand_kind kinds b)
-  unfolding cond_fits bound.fold_cond
-  cond_fits-Compare a how b = refl
-
-  pub cond_fits-Or : (parts : List BoundCond) → cond_fits kinds (bc.Or parts) ≡ list_all (cond_fits kinds) parts
-  unfolding cond_fits bound.fold_cond roll-BoundCond
-  cond_fits-Or parts =
-      ap (cond_fits kinds) (sym (bc.rolls-Or parts))
-      ∙ fold-roll bound_block.the_members bound_block.the_sigs bound_block.the_carrier (bound_folds.family Bool) (bound_folds.steps Bool (fits_step kinds)) bound_block.member-BoundCond (BoundCond-F.Or parts)
-      ∙ all_of (cond_fits kinds) parts
-
-  pub cond_fits-And : (parts : List BoundCond) → cond_fits kinds (bc.And parts) ≡ list_all (cond_fits kinds) parts
-  unfolding cond_fits bound.fold_cond roll-BoundCond
-  cond_fits-And parts =
-      ap (cond_fits kinds) (sym (bc.rolls-And parts))
-      ∙ fold-roll bound_block.the_members bound_block.the_sigs bound_block.the_carrier (bound_folds.family Bool) (bound_folds.steps Bool (fits_step kinds)) bound_block.member-BoundCond (BoundCond-F.And parts)
-      ∙ all_of (cond_fits kinds) parts
-
-pub ruleset kind_forms = (expr_kind-Column, expr_kind-Literal, expr_kind-Add, expr_kind-Sub, expr_kind-Mul, cond_fits-Not, cond_fits-Compare, cond_fits-Or, cond_fits-And)
