@@ -1,5 +1,5 @@
 -- A refused line changes nothing, but for a refused COMMIT, which ends its transaction.
-use Rattle.std.proofs.Common.{◌≡◌, ℕ, ◌-◌, Bool, true, false, List, [], ◌++◌, length, get_or, set, refl, sym, ap, ◌∙◌, cond, ◌&&◌, ltb, Some, None, Ok, Err, Option, Result}
+use Rattle.std.proofs.Common.{◌≡◌, arith, ℕ, ◌-◌, Bool, true, false, List, [], ◌++◌, length, get_or, set, refl, sym, ap, ◌∙◌, cond, ◌&&◌, ltb, Some, None, Ok, Err, Option, Result}
 use Rattle.std.proofs.lemmas.Bool.{false≢true}
 use Rattle.std.proofs.lemmas.List.{append-nil, set-get_or}
 use Rattle.ifdb_label.specs.Label.{strip}
@@ -24,7 +24,9 @@ use Rattle.ifdb_model.specs.Writes.{Written, writes_of, is_delete}
 use Rattle.ifdb_model.specs.Step.{Reader, Outcome, tells, refuses, adds, greeted, relabelled, set_label, publish_it, publish_bound, is_empty, publish, look_reply, land_in, land, write_bound, begin, rollback, verdict_fault, committed, judged, commit, Form, greets, publishes, relabels, shows_label, begins, ends, rolls_back, leaves_us, looks, writes, form_of, ask_as, ask_new, ask_by, ask_read, ask}
 use Rattle.ifdb_model.specs.Run.{State, session_of, asks, outcome_of, with_outcome, next}
 use Rattle.ifdb_model.specs.Output.{is_memory, reads_memory}
-use Rattle.ifdb_laws.specs.StepLaws.{is_ending, is_commit, RefusalsChangeNothing, RefusedCommitsEnd, RefusedStepsChangeNothing}
+use Rattle.std.specs.Prelude.{not}
+use Rattle.std.specs.Option.{is_some}
+use Rattle.ifdb_laws.specs.StepLaws.{is_ending, is_commit, unjudged, RefusalsChangeNothing, RefusedCommitsEnd, UnjudgedCommitsChangeNothing, RefusedStepsChangeNothing}
 
 abbrev is_refused : Reply → Bool
 is_refused (reply.Refused f) = true
@@ -144,6 +146,12 @@ refusals_lem read log s line f h e = read_keeps s log (read line) h f e
 
 -- ---- COMMIT
 
+some_is : {f g : Fault} → Some f ≡ Some g → f ≡ g
+some_is e = grind arith
+
+refused_is : {f g : Fault} → reply.Refused f ≡ reply.Refused g → f ≡ g
+refused_is e = grind arith
+
 committed_ends : (s : Session) (ws : List Write) (o : Option Fault) → Keeps (record s { txn = None }) (committed s ws o)
 committed_ends s ws None = other (record s { txn = None }) (committed s ws None) refl
 committed_ends s ws (Some f) = told (record s { txn = None }) (reply.Refused f)
@@ -170,6 +178,18 @@ refused_commits_lem read log s asker x line f p t h e =
     let same = commit_ends log s asker x (read line) p t h in
     same ∙ committed_ends s x.own (verdict_fault (judged log s x)) f (ap (λ (o : Outcome). o.reply) (sym same) ∙ e)
 
+commit_refused : (log : List Entry) (s : Session) (p : Option ℕ) (x : Option Txn) (q : Result Request Fault) (f : Fault) → s.principal ≡ p → s.txn ≡ x → is_commit q ≡ true
+    → unjudged p x ≡ Some f → ask_read log s q ≡ refuses s f
+commit_refused log s p x (Err g) f e t h u = absurd (false≢true h)
+commit_refused log s None x (Ok r) f e t h u =
+    ap (λ o. ask_by log s o r) e ∙ (ap (ask_new log s) (ending_is (form_of r) h) ∙ ap (refuses s) (some_is u))
+commit_refused log s (Some asker) None (Ok r) f e t h u =
+    ap (λ o. ask_by log s o r) e ∙ (ap (ask_as log s (seen log s) asker r) (ending_is (form_of r) h) ∙ (ap (commit log s) t ∙ ap (refuses s) (some_is u)))
+commit_refused log s (Some asker) (Some x) (Ok r) f e t h u = cc
+
+pub unjudged_commits_lem : UnjudgedCommitsChangeNothing
+unjudged_commits_lem read log s line f h u = commit_refused log s s.principal s.txn (read line) f refl refl h u
+
 -- ---- states
 
 open_at : (st : State) (n : ℕ) → (session_of st n).is_open ≡ true → session_of st n ≡ get_or st.sessions (n - 1) no_session
@@ -187,13 +207,27 @@ unchanged st n f h =
     let two : st.log ++ [] ≡ st.log = append-nil st.log in
     λ i. record { log = two i; sessions = one i }
 
+-- a refused line that isn't a judged COMMIT is refused by its session as it is
+unjudged_keeps : (log : List Entry) (s : Session) (q : Result Request Fault) (f : Fault) → (is_commit q && not (is_some (unjudged s.principal s.txn))) ≡ false
+    → (ask_read log s q).reply ≡ reply.Refused f → ask_read log s q ≡ refuses s f
+unjudged_keeps log s q f h e = by (is_commit q) refl where
+  why : (o : Option Fault) → unjudged s.principal s.txn ≡ o → is_commit q ≡ true → ask_read log s q ≡ refuses s f
+  why None u c = absurd (false≢true (sym h ∙ (ap (λ b. b && not (is_some (unjudged s.principal s.txn))) c ∙ ap (λ o. not (is_some o)) u)))
+  why (Some g) u c =
+      let same = commit_refused log s s.principal s.txn q g refl refl c u in
+      same ∙ ap (refuses s) (refused_is (ap (λ (o : Outcome). o.reply) (sym same) ∙ e))
+
+  by : (b : Bool) → is_commit q ≡ b → ask_read log s q ≡ refuses s f
+  by false c = read_keeps s log q c f e
+  by true c = why (unjudged s.principal s.txn) refl c
+
 pub refused_steps_lem : RefusedStepsChangeNothing
 refused_steps_lem read st n line f h e = by (session_of st n).is_open refl where
   by : (b : Bool) → (session_of st n).is_open ≡ b → cond b (with_outcome st n (ask read st.log (session_of st n) line)) st ≡ st
   by true o =
       let r : (ask read st.log (session_of st n) line).reply ≡ reply.Refused f =
       ap (λ b. (cond b (ask read st.log (session_of st n) line) (refuses (session_of st n) fault.NoSession)).reply) (sym o) ∙ e in
-      ap (with_outcome st n) (refusals_lem read st.log (session_of st n) line f h r) ∙ unchanged st n f o
+      ap (with_outcome st n) (unjudged_keeps st.log (session_of st n) (read line) f h r) ∙ unchanged st n f o
   by false o = refl
 
 -- ---- a reply that reads error 20
@@ -236,5 +270,5 @@ pub memory_changes_nothing : (read : Reader) (st : State) (n : ℕ) (line : List
     → next read st (asks n line) ≡ st
 memory_changes_nothing read st n line h = by (is_commit (read line)) refl where
   by : (b : Bool) → is_commit (read line) ≡ b → next read st (asks n line) ≡ st
-  by false e = refused_steps_lem read st n line fault.OutOfMemory e (memory_is (outcome_of read st n line).reply h)
+  by false e = refused_steps_lem read st n line fault.OutOfMemory (ap (λ b. b && not (is_some (unjudged (session_of st n).principal (session_of st n).txn))) e) (memory_is (outcome_of read st n line).reply h)
   by true e = absurd (false≢true (sym (commit_step_reads read st n line e) ∙ h))

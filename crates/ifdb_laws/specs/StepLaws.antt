@@ -1,14 +1,16 @@
 -- What the laws of single lines say, for every reading of lines.
-use Rattle.std.specs.Prelude.{◌≡◌, ℕ, ◌<◌, Bool, true, false, List, take, Some, None, Result, Ok, Err}
+use Rattle.std.specs.Prelude.{◌≡◌, ℕ, ◌<◌, Bool, true, false, ◌&&◌, not, List, take, Option, Some, None, Result, Ok, Err}
+use Rattle.std.specs.Option.{is_some}
 use Rattle.ifdb_syntax.specs.declared.request.Request.{Request}
 use Rattle.ifdb_wire.specs.declared.fault.Fault.{Fault}
+use Rattle.ifdb_wire.specs.declared.fault.Fault.TheVariants as fault
 use Rattle.ifdb_wire.specs.declared.reply.Reply.TheVariants as reply
 use Rattle.ifdb_row.specs.declared.slot.Slot.{Slot}
 use Rattle.ifdb_row.specs.Verdict.{written_by, verdict, last_stamp}
 use Rattle.ifdb_model.specs.Log.{Entry, all_tags, content_of, commits_since}
 use Rattle.ifdb_model.specs.Session.{Txn, Session}
 use Rattle.ifdb_model.specs.Step.{Reader, Form, ends, form_of, refuses, judged, ask}
-use Rattle.ifdb_model.specs.Run.{State, asks, outcome_of, next}
+use Rattle.ifdb_model.specs.Run.{State, session_of, asks, outcome_of, next}
 
 -- the form is COMMIT
 abbrev pub is_ending : Form → Bool
@@ -38,10 +40,22 @@ RefusedCommitsEnd = (read : Reader) (log : List Entry) (s : Session) (asker : �
     → s.principal ≡ Some asker → s.txn ≡ Some x → is_commit (read line) ≡ true → (ask read log s line).reply ≡ reply.Refused f
     → ask read log s line ≡ refuses (record s { txn = None }) f
 
--- so the state after a refused step, but for COMMIT, is the state before it
+-- why a COMMIT of the session isn't judged, if it isn't: nobody has said HELLO, or no transaction is open
+abbrev pub unjudged : Option ℕ → Option Txn → Option Fault
+unjudged None x = Some fault.NotHello
+unjudged (Some asker) None = Some fault.NoTransaction
+unjudged (Some asker) (Some x) = None
+
+-- a COMMIT that isn't judged is refused for that, leaves its session as it was and adds nothing
+abbrev pub UnjudgedCommitsChangeNothing : Type 0
+UnjudgedCommitsChangeNothing = (read : Reader) (log : List Entry) (s : Session) (line : List ℕ) (f : Fault)
+    → is_commit (read line) ≡ true → unjudged s.principal s.txn ≡ Some f → ask read log s line ≡ refuses s f
+
+-- so the state after a refused step is the state before it, but for a COMMIT that is judged
 abbrev pub RefusedStepsChangeNothing : Type 0
 RefusedStepsChangeNothing = (read : Reader) (st : State) (n : ℕ) (line : List ℕ) (f : Fault)
-    → is_commit (read line) ≡ false → (outcome_of read st n line).reply ≡ reply.Refused f → next read st (asks n line) ≡ st
+    → let s = session_of st n in (is_commit (read line) && not (is_some (unjudged s.principal s.txn))) ≡ false
+    → (outcome_of read st n line).reply ≡ reply.Refused f → next read st (asks n line) ≡ st
 
 -- a COMMIT is judged over the content, with all tags, by the commits since its BEGIN, at the label of now
 abbrev pub CommitsAreJudged : Type 0

@@ -1,16 +1,18 @@
 // Laws of single lines of the whole server: each function's contract is one, and it does nothing.
-ghost use Rattle.ifdb_laws.specs.StepLaws.{CommitsAreJudged, StampsAreAbove, TransactionsAreFrozen, RefusalsChangeNothing, RefusedCommitsEnd, RefusedStepsChangeNothing};
+ghost use Rattle.ifdb_laws.specs.StepLaws.{CommitsAreJudged, StampsAreAbove, TransactionsAreFrozen, RefusalsChangeNothing, RefusedCommitsEnd, RefusedStepsChangeNothing, UnjudgedCommitsChangeNothing};
 
 /// In a transaction each line but COMMIT is answered by what was before its BEGIN, its own writes and its session alone.
 pub fn transactions_are_frozen()
     ensures { TransactionsAreFrozen }
 {}
 
-/// A refused line leaves its session, its transaction and the log as they were. A refused COMMIT ends its transaction.
+/// A refused line leaves its session, its transaction and the log as they were, a COMMIT too that isn't judged. A COMMIT that is judged
+/// and refused ends its transaction, and changes nothing else.
 pub fn refusals_change_nothing()
     ensures lines { RefusalsChangeNothing }
     ensures steps { RefusedStepsChangeNothing }
     ensures commits { RefusedCommitsEnd }
+    ensures unjudged { UnjudgedCommitsChangeNothing }
 {}
 
 /// A COMMIT is judged over the content, with all tags, by the commits since its BEGIN, at the label of now. The stamps of those commits are above the BEGIN.

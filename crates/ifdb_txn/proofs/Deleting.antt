@@ -1,27 +1,20 @@
--- The rows that match, and their deletions, stand in order; and matching rows found by their key.
-use Rattle.std.proofs.Common.{◌≡◌, ℕ, Bool, true, false, List, [], ◌∷◌, refl, arith, None, Option}
+-- The rows that match, and their deletions, stand in order.
+use Rattle.std.proofs.Common.{◌≡◌, ℕ, Bool, true, List, [], ◌∷◌, refl, arith, Option}
 use Rattle.std.specs.Prelude.{filter, map}
 use Rattle.std.specs.List.{list_all}
 use Rattle.std.proofs.lemmas.Bool.Decides.{nat_tests}
 use Rattle.std.proofs.lemmas.List.Folds.{list_all-map}
-use Rattle.ifdb_value.specs.declared.value.Value.{Value}
 use Rattle.ifdb_label.specs.Tags.{MadeTag}
 use Rattle.ifdb_label.specs.Label.{flows}
 use Rattle.ifdb_row.specs.declared.row.Row.{Row}
 use Rattle.ifdb_row.specs.declared.write.Write.{Write}
-use Rattle.ifdb_row.specs.Slots.{slot_lt, is_of_key}
+use Rattle.ifdb_row.specs.Slots.{slot_lt}
 use Rattle.ifdb_row.specs.Writes.{are_rising, are_fitting}
 use Rattle.ifdb_row.specs.Content.{rising}
 use Rattle.ifdb_row.specs.Seen.{see}
 use Rattle.ifdb_value.proofs.Lists.{all-filter}
 use Rattle.ifdb_bound.specs.declared.condition.BoundCond.{BoundCond}
 use Rattle.ifdb_model.specs.Writes.{matched, is_matched, deletion}
-use Rattle.ifdb_row.specs.Questions.{is_further}
-use Rattle.ifdb_txn.specs.Matches.{is_wanted}
-
-abbrev pub not_or : Bool → Bool → Bool
-not_or true b = b
-not_or false b = true
 
 rising_filter : (p : Row → Bool) (rows : List Row) → rising rows ≡ true → rising (filter p rows) ≡ true
 rising_filter p [] h = refl
@@ -37,10 +30,3 @@ rising_deletions (r ∷ rows) h = let up = list_all-map (λ (w : Write). slot_lt
 pub fitting_deletions : (rows : List Row) → are_fitting (map deletion rows) ≡ true
 fitting_deletions [] = refl
 fitting_deletions (r ∷ rows) = grind (arith, nat_tests, fitting_deletions rows)
-
--- where each row that matches is of the key, those of the key are enough
-pub matched_by_key : (tags : List MadeTag) (rows : List Row) (t : ℕ) (key : List Value) (cond : Option BoundCond) (label : List ℕ)
-    → list_all (λ (r : Row). not_or (is_matched t cond r) (is_of_key t key r.slot)) rows ≡ true
-    → filter (is_wanted tags cond label) (filter (is_further t key None) rows) ≡ matched tags rows t cond label
-matched_by_key tags [] t key cond label h = refl
-matched_by_key tags (r ∷ rows) t key cond label h = grind (arith, nat_tests, matched_by_key tags rows t key cond label)

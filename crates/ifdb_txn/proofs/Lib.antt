@@ -7,3 +7,4 @@ pub mod Updating
 pub mod Deleting
 pub mod TableAt
 pub mod Matching
+pub mod ByKey

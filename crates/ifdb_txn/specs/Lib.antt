@@ -4,3 +4,4 @@ pub mod Inserted
 pub mod Matches
 pub mod Rebinding
 pub mod Tables
+pub mod Keyed

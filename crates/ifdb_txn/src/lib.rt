@@ -16,3 +16,6 @@ mod written;
 pub use statement::{Writer, writes_of};
 pub use std::alloc::AllocError as OutOfMemory;
 pub use written::Written;
+
+#[cfg(test)]
+mod tests;

@@ -8,6 +8,8 @@ ghost use Rattle.ifdb_row.specs.Seen.{are_rows_made};
 ghost use Rattle.ifdb_row.specs.Slots.{is_same_label};
 ghost use Rattle.ifdb_foreign.specs.Parents.{IsMade};
 ghost use Rattle.ifdb_model.specs.Writes.{are_writable, deletion, matched};
+ghost use Rattle.ifdb_plan.specs.Keys.{HasKey};
+ghost use Rattle.ifdb_txn.specs.Keyed.{are_keyed};
 ghost use Rattle.ifdb_txn.specs.Matches.{is_wanted, now_of};
 
 use crate::OutOfMemory;
@@ -16,12 +18,56 @@ use ifdb_bound::BoundCond;
 use ifdb_expr::{Frame, SeenRow, holds};
 use ifdb_foreign::Standpoint;
 use ifdb_label::Label;
+use ifdb_plan::whole_key;
 use ifdb_row::{Row, Rows, Slot, Write};
 use ifdb_value::{Shared, Value};
 use std::alloc::Global;
 
 /// The rows of the table that the session's label sees and of which the condition holds, in the order of slots.
+///
+/// Where the condition gives the whole key, only the rows of that key are looked at; else all rows of the table.
 pub(crate) fn matched<'a, R: Rows>(
+    target: &Target<'_>,
+    rows: &'a R,
+    cond: &Option<BoundCond>,
+) -> Result<Vec<&'a Row>, OutOfMemory>
+    requires made { IsMade target.now.from (R.rows rows.now) }
+    requires keyed { IsTrue (are_keyed target.now.table target.now.schema.now.key (R.rows rows.now)) }
+    ensures rows { IfOk result (λ found. map now_of found.items
+        ≡ matched target.now.from.tags.now (R.rows rows.now) target.now.table cond.now target.now.from.label.now) }
+    ensures rising { IfOk result (λ found. IsTrue (rising (map now_of found.items))) }
+{
+    match whole_key(target.alloc, cond, target.schema.key.items())? {
+        Some(key) => matched_of_key(target, rows, cond, key.items()),
+        None => matched_of_table(target, rows, cond),
+    }
+}
+
+/// The same rows, where each row for which the condition holds is of a key: found by look-ups of that key.
+fn matched_of_key<'a, R: Rows>(
+    target: &Target<'_>,
+    rows: &'a R,
+    cond: &Option<BoundCond>,
+    key: &[Value],
+) -> Result<Vec<&'a Row>, OutOfMemory>
+    requires made { IsMade target.now.from (R.rows rows.now) }
+    requires keyed { IsTrue (are_keyed target.now.table target.now.schema.now.key (R.rows rows.now)) }
+    requires has_key { HasKey cond.now target.now.schema.now.key key.now }
+    ensures rows { IfOk result (λ found. map now_of found.items
+        ≡ matched target.now.from.tags.now (R.rows rows.now) target.now.table cond.now target.now.from.label.now) }
+    ensures rising { IfOk result (λ found. IsTrue (rising (map now_of found.items))) }
+{
+    let mut found: Vec<&'a Row> = Vec::new(target.alloc);
+    let mut after: Option<&'a Label> = None;
+    'keyed: while let Some(row) = rows.of_key(target.table, key, after) {
+        keep_wanted(target.from, row, cond, &mut found)?;
+        after = Some(&row.slot.label);
+    }
+    Ok(found)
+}
+
+/// The same rows, found by a pass over the table.
+fn matched_of_table<'a, R: Rows>(
     target: &Target<'_>,
     rows: &'a R,
     cond: &Option<BoundCond>,
@@ -56,10 +102,25 @@ fn keep_matched<'a>(
         ≡ map now_of found.old.items ++ filter (is_wanted from.entry.tags.now cond.now from.entry.label.now) run.now) }
 {
     for row in run {
-        let row = row.get();
-        if is_wanted(from, row, cond) {
-            found.push(row)?;
-        }
+        keep_wanted(from, row.get(), cond, found)?;
+    }
+    Ok(())
+}
+
+/// Adds a row, if the label sees it and the condition holds.
+fn keep_wanted<'a>(
+    from: Standpoint<'_>,
+    row: &'a Row,
+    cond: &Option<BoundCond>,
+    found: &mut Vec<&'a Row>,
+) -> Result<(), OutOfMemory>
+    requires row_made { AreMade (length from.tags.now) row.now.slot.label }
+    requires label_made { AreMade (length from.tags.now) from.label.now }
+    ensures { OnOk result (map now_of found.new.items
+        ≡ map now_of found.old.items ++ filter (is_wanted from.entry.tags.now cond.now from.entry.label.now) (row.now ∷ [])) }
+{
+    if is_wanted(from, row, cond) {
+        found.push(row)?;
     }
     Ok(())
 }

@@ -8,6 +8,7 @@ ghost use Rattle.ifdb_catalog.specs.Fits.{bound_fits};
 ghost use Rattle.ifdb_foreign.specs.Parents.{IsMade};
 ghost use Rattle.ifdb_model.specs.Writes.{counted, delete_matched, insert_all, matched, update_matched, writes_of};
 ghost use Rattle.ifdb_txn.specs.Answers.{Gives};
+ghost use Rattle.ifdb_txn.specs.Keyed.{are_all_keyed, are_keyed};
 ghost use Rattle.ifdb_txn.specs.Scenes.{scene_of};
 ghost use Rattle.ifdb_txn.specs.Tables.{IsTable, IsTarget};
 
@@ -40,11 +41,15 @@ pub struct Writer<'a> {
 
 /// What an INSERT, UPDATE or DELETE writes over the rows that it sees, or its first refusal. Nothing else writes.
 ///
+/// Each row stands under the key that its values give. Where the condition of an UPDATE or DELETE gives the whole key, only the rows of
+/// that key are looked at.
+///
 /// `NoAuthority` where the principal doesn't hold a tag that is declassified; `DuplicateKey` where the label sees a row of a new row's
 /// key, an earlier one of the statement among them; `WriteLabel` where a matching row has another label; `OutOfRange` where an assigned
 /// number isn't an `i64`; `NoReference` where no row may be a parent; in this order, the first row's refusal before the next row's.
 pub fn writes_of<R: Rows>(writer: &Writer<'_>, rows: &R, bound: &Bound) -> Result<Written, Fault>
     requires rows_made { IsTrue (are_rows_made (length writer.now.catalog.now.tags) (R.rows rows.now)) }
+    requires rows_keyed { IsTrue (are_all_keyed writer.now.catalog.now (R.rows rows.now)) }
     requires label_made { AreMade (length writer.now.catalog.now.tags) writer.now.label.now }
     requires fits { IsTrue (bound_fits writer.now.catalog.now bound.now) }
     ensures { Gives (writes_of writer.now.catalog.now writer.now.asker (R.rows rows.now) writer.now.label.now bound.now) result }
@@ -80,6 +85,7 @@ fn delete<R: Rows>(
     cond: &Option<BoundCond>,
 ) -> Result<Written, Fault>
     requires rows_made { IsTrue (are_rows_made (length writer.now.catalog.now.tags) (R.rows rows.now)) }
+    requires rows_keyed { IsTrue (are_all_keyed writer.now.catalog.now (R.rows rows.now)) }
     requires label_made { AreMade (length writer.now.catalog.now.tags) writer.now.label.now }
     requires table { table < length writer.now.catalog.now.tables }
     ensures { Gives (writes_of writer.now.catalog.now writer.now.asker (R.rows rows.now) writer.now.label.now (bound.Delete table cond.now))
@@ -139,7 +145,7 @@ fn table_of(catalog: &Catalog, table: TableId) -> Option<&Schema>
 }
 
 /// INSERT of rows, with their number.
-fn insert_counted<R: Rows>(
+pub(crate) fn insert_counted<R: Rows>(
     target: &Target<'_>,
     rows: &R,
     values: &[ValueRow],
@@ -156,13 +162,14 @@ fn insert_counted<R: Rows>(
 }
 
 /// UPDATE of the rows of a table that match.
-fn update_matched<R: Rows>(
+pub(crate) fn update_matched<R: Rows>(
     target: &Target<'_>,
     rows: &R,
     assignments: &[BoundAssignment],
     cond: &Option<BoundCond>,
 ) -> Result<Written, Fault>
     requires made { IsMade target.now.from (R.rows rows.now) }
+    requires keyed { IsTrue (are_keyed target.now.table target.now.schema.now.key (R.rows rows.now)) }
     ensures { Gives (update_matched (scene_of target.now.from (R.rows rows.now)) target.now.schema.now assignments.now
         (matched target.now.from.tags.now (R.rows rows.now) target.now.table cond.now target.now.from.label.now)) result }
 {
@@ -179,12 +186,13 @@ fn update_matched<R: Rows>(
 
 /// DELETE of the rows of a table that match.
 #[tactic(auto, using(crate::proofs::Deleting::rising_deletions, crate::proofs::Deleting::fitting_deletions))]
-fn delete_matched<R: Rows>(
+pub(crate) fn delete_matched<R: Rows>(
     target: &Target<'_>,
     rows: &R,
     cond: &Option<BoundCond>,
 ) -> Result<Written, Fault>
     requires made { IsMade target.now.from (R.rows rows.now) }
+    requires keyed { IsTrue (are_keyed target.now.table target.now.schema.now.key (R.rows rows.now)) }
     ensures { Gives (delete_matched target.now.from.label.now
         (matched target.now.from.tags.now (R.rows rows.now) target.now.table cond.now target.now.from.label.now)) result }
 {

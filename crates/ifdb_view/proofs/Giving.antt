@@ -15,8 +15,9 @@ use Rattle.ifdb_expr.specs.declared.fault.ExprFault.{ExprFault}
 use Rattle.ifdb_expr.specs.declared.fault.ExprFault.TheVariants as expr
 use Rattle.ifdb_expr.specs.Tells.{Tells}
 use Rattle.ifdb_expr.specs.View.{Setting, view_rows}
-use Rattle.ifdb_expr.specs.Query.{QueryFault, view_authority, out_of_range, is_allowed, answered, over_sources, query, rows_of_view, source_rows}
+use Rattle.ifdb_expr.specs.Query.{QueryFault, allows_view, view_authority, out_of_range, is_allowed, answered, over_sources, query, rows_of_view, source_rows}
 use Rattle.ifdb_view.specs.Faults.{as_view_fault, TellsBy, TellsQuery}
+use Rattle.ifdb_view.specs.Made.{owner_holds}
 
 -- a fault goes on where what has none makes the whole have none
 pub by_goes_on : {A B C D : Type 0} (f : A → B) (g : C → D) (o : Option B) (p : Option D) (e : ExprFault) → (o ≡ None → p ≡ None) → TellsBy f o (Err e) → TellsBy g p (Err e)
@@ -78,3 +79,8 @@ rest_none p [] zero h = refl
 rest_none p [] (suc i) h = refl
 rest_none p (x ∷ xs) zero h = absurd (omega (arith, h))
 rest_none p (x ∷ xs) (suc i) h = rest_none p xs i (omega arith)
+
+-- a view's owner
+pub owner_allows : (set : Setting) (o : Option ViewDef) → owner_holds set.allows o ≡ allows_view set o
+owner_allows set None = refl
+owner_allows set (Some v) = refl

@@ -1,5 +1,5 @@
 -- Labels of made tags, and views that can be computed.
-use Rattle.std.specs.Prelude.{ℕ, Bool, ◌&&◌, List, length, nat_le}
+use Rattle.std.specs.Prelude.{ℕ, Bool, true, ◌&&◌, List, length, nat_le, Option, Some, None}
 use Rattle.std.specs.List.{list_all}
 use Rattle.ifdb_label.specs.Tags.{MadeTag, are_made}
 use Rattle.ifdb_bound.specs.declared.schema.ViewDef.{ViewDef}
@@ -20,6 +20,11 @@ is_view_made n v = are_made n v.declassifying && nat_le (length v.select.sources
 
 abbrev pub are_views_made : ℕ → List ViewDef → Bool
 are_views_made n views = list_all (is_view_made n) views
+
+-- the view's owner holds each tag that the view declassifies, if there is a view
+abbrev pub owner_holds : (ViewDef → Bool) → Option ViewDef → Bool
+owner_holds allows None = true
+owner_holds allows (Some v) = allows v
 
 -- what a SELECT reads beside the rows
 abbrev pub setting : List MadeTag → List (List ℕ) → List ViewDef → (ViewDef → Bool) → Setting

@@ -34,16 +34,14 @@ pub(crate) fn all_allowed<V: Views>(views: &V, sources: &[BoundSource]) -> Resul
 }
 
 /// Whether a source is a table, or a view whose owner holds each tag that the view declassifies.
+#[tactic(auto, using(crate::proofs::Giving::owner_allows))]
 fn allowed<V: Views>(views: &V, relation: Relation) -> Result<bool, OutOfMemory>
     ensures { IfOk result (λ allowed. (tags : List MadeTag) (names : List (List ℕ))
         → allowed ≡ is_allowed (setting tags names (V.views views.now) (V.allows views.now)) relation) }
 {
     match relation {
         Relation::Table(_) => Ok(true),
-        Relation::View(id) => match views.view(id) {
-            None => Ok(true),
-            Some(view) => views.is_allowed(view),
-        },
+        Relation::View(id) => views.is_allowed(id),
     }
 }
 

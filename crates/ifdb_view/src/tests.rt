@@ -53,8 +53,11 @@ impl Views for AllViews {
         self.views.get(id.0 as usize)
     }
 
-    fn is_allowed(&self, _: &ViewDef) -> Result<bool, OutOfMemory> {
-        Ok(self.are_allowed)
+    fn is_allowed(&self, id: ViewId) -> Result<bool, OutOfMemory> {
+        match self.view(id) {
+            Some(_) => Ok(self.are_allowed),
+            None => Ok(true),
+        }
     }
 }
 

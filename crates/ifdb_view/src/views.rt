@@ -2,6 +2,7 @@
 ghost use Rattle.std.specs.Prelude.{◌≡◌, IfOk, List, Bool, slice_get};
 ghost use Rattle.std.specs.Option.{option_copied};
 ghost use Rattle.ifdb_bound.specs.declared.schema.ViewDef.{ViewDef as AnyView};
+ghost use Rattle.ifdb_view.specs.Made.{owner_holds};
 
 use crate::OutOfMemory;
 use ifdb_bound::ViewDef;
@@ -19,7 +20,7 @@ pub trait Views {
     fn view(&self, id: ViewId) -> Option<&ViewDef>
         ensures { option_copied result ≡ slice_get (views self.now) id };
 
-    /// Whether a view's owner holds each tag that the view declassifies.
-    fn is_allowed(&self, view: &ViewDef) -> Result<bool, OutOfMemory>
-        ensures { IfOk result (λ allowed. allowed ≡ allows self.now view.now) };
+    /// Whether the owner of a view holds each tag that the view declassifies; true where there is none of this number.
+    fn is_allowed(&self, id: ViewId) -> Result<bool, OutOfMemory>
+        ensures { IfOk result (λ allowed. allowed ≡ owner_holds (allows self.now) (slice_get (views self.now) id)) };
 }

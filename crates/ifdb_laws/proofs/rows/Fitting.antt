@@ -58,7 +58,7 @@ more_labels tables n m t r le h =
     let made = more_made n m r.slot.label le in
     grind (arith, nat_tests)
 
-fits_changed : (p : Public) (c : Change) (r : Row) → row_fits p r ≡ true → row_fits (changed p c) r ≡ true
+pub fits_changed : (p : Public) (c : Change) (r : Row) → row_fits p r ≡ true → row_fits (changed p c) r ≡ true
 fits_changed p (change.Principal asker name key) r h = h
 fits_changed p (change.Tag asker name kind parents) r h =
     more_labels (length p.tables) (length (tags_of p)) (length (tags_of (changed p (change.Tag asker name kind parents)))) (table_at p r.slot.table) r

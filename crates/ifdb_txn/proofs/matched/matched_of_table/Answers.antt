@@ -7,7 +7,7 @@ use Rattle.ifdb_row.proofs.TableWalks.{rises, last_of, made_run, fewer_left, kep
 use Rattle.ifdb_txn.specs.Matches.{is_wanted, now_of}
 use Rattle.ifdb_txn.proofs.Matching.{wanted_match}
 use Rattle.ifdb_txn.proofs.Deleting.{rising_matched}
-use Rattle.ifdb_txn.proofs.matched.matched.Goals as goal
+use Rattle.ifdb_txn.proofs.matched.matched_of_table.Goals as goal
 
 pub keep_matched-requires-clause-rows_made : goal.keep_matched-requires-clause-rows_made
 keep_matched-requires-clause-rows_made g c =

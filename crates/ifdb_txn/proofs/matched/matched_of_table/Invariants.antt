@@ -3,7 +3,7 @@ use Rattle.std.specs.Prelude.{filter, map}
 use Rattle.std.specs.Option.{option_copied}
 use Rattle.ifdb_row.specs.Questions.{later_rows}
 use Rattle.ifdb_txn.specs.Matches.{is_wanted, now_of}
-use Rattle.ifdb_txn.proofs.matched.matched.Given as goal
+use Rattle.ifdb_txn.proofs.matched.matched_of_table.Given as goal
 
 -- the rows so far with those behind
 abbrev pub invariant-loop-last : goal.invariant-loop-last
