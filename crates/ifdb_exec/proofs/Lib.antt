@@ -1,6 +1,6 @@
 pub mod Joining
-pub mod Reducing
 pub mod Indexing
 pub mod Probing
 pub mod Walking
 pub mod Answering
+mod Finding

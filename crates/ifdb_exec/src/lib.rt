@@ -3,8 +3,10 @@
 #![tactic(auto)]
 
 mod fetch;
+mod find;
 mod given;
 mod index;
+mod look_up;
 mod nested_loops;
 mod probe;
 mod reading;
@@ -14,7 +16,6 @@ mod view_row;
 mod walk;
 
 pub use given::Given;
-pub use nested_loops::join;
 pub use reading::Reading;
 pub use select::{answer, combine, matching};
 pub use std::alloc::AllocError as OutOfMemory;

@@ -1,8 +1,9 @@
 -- Labels of made tags.
-use Rattle.std.proofs.Common.{◌≡◌, ℕ, zero, suc, ◌<◌, eqb, filter, get_or, length, map, ◌≤◌, Option, Some, Bool, true, List, [], ◌∷◌, refl, ap, ◌∙◌, arith}
+use Rattle.std.proofs.Common.{◌≡◌, ℕ, ◌+◌, ◌++◌, take, zero, suc, ◌<◌, eqb, filter, get_or, length, map, ◌≤◌, Option, Some, Bool, true, List, [], ◌∷◌, refl, ap, ◌∙◌, arith}
 use Rattle.std.specs.Prelude.{flat_map, IsTrue, slice_get, nat_le}
 use Rattle.std.specs.List.{list_all}
 use Rattle.std.proofs.lemmas.Bool.Decides.{nat_tests}
+use Rattle.std.proofs.lemmas.Grind.{common_steps}
 use Rattle.ifdb_label.specs.Tags.{are_made}
 use Rattle.ifdb_label.specs.Tags.{MadeTag}
 use Rattle.ifdb_label.specs.Label.{flows}
@@ -16,7 +17,8 @@ use Rattle.ifdb_bound.specs.declared.select.Relation.TheVariants as relation
 use Rattle.ifdb_expr.specs.View.{source_row, of_table, table_rows, base_rows}
 use Rattle.ifdb_expr.proofs.Views.{combined}
 use Rattle.ifdb_bound.specs.Query.{SourceRow, Combination, combinations}
-use Rattle.ifdb_exec.specs.Given.{are_rows_made}
+use Rattle.ifdb_row.specs.Seen.{are_rows_made}
+use Rattle.ifdb_view.specs.Keyed.{are_sources_keyed, are_views_keyed}
 use Rattle.ifdb_view.specs.Made.{is_made, are_all_made, is_view_made, are_views_made}
 use Rattle.ifdb_bound.specs.declared.schema.ViewDef.{ViewDef}
 
@@ -68,3 +70,21 @@ view_made n views i v e h =
     let m : is_view_made n v ≡ true = view_at n views i v e k in
     let p : (are_made n v.declassifying ≡ true) × (nat_le (length v.select.sources) 4 ≡ true) = grind (arith, nat_tests) in
     let a = p.0 in let b = p.1 in (grind (arith, a), grind (arith, nat_tests, b))
+
+views_keyed_at : (rows : List Row) (views : List ViewDef) (i : ℕ) (v : ViewDef) → slice_get views i ≡ Some v → are_views_keyed rows views ≡ true → are_sources_keyed rows v.select.sources ≡ true
+views_keyed_at rows [] i v e h = cc
+views_keyed_at rows (x ∷ views) zero v e h = let p : are_sources_keyed rows x.select.sources ≡ true = grind (arith, nat_tests) in let s : x ≡ v = cc in ap (λ (w : ViewDef). are_sources_keyed rows w.select.sources) (Rattle.std.proofs.Common.sym s) ∙ p
+views_keyed_at rows (x ∷ views) (suc i) v e h = views_keyed_at rows views i v e (grind (arith, nat_tests))
+
+pub view_keyed : (rows : List Row) (views : List ViewDef) (i : ℕ) (v : ViewDef) → slice_get views i ≡ Some v → IsTrue (are_views_keyed rows views) → IsTrue (are_sources_keyed rows v.select.sources)
+view_keyed rows views i v e h = let k : are_views_keyed rows views ≡ true = grind arith in let m = views_keyed_at rows views i v e k in grind (arith, m)
+
+-- one source more
+pub keyed_more : {A B : Type 0} (p : A → Bool) (q : B → Bool) (xs : List A) (i : ℕ) (x : A) (ys : List B) (y : B) → i < length xs → x ≡ get_or xs i x → (list_all p (take i xs) ≡ true → list_all q ys ≡ true) → (p x ≡ true → q y ≡ true)
+    → list_all p (take (i + 1) xs) ≡ true → list_all q (ys ++ y ∷ []) ≡ true
+keyed_more p q xs i x ys y h e f g k =
+    let longer : take (i + 1) xs ≡ take i xs ++ x ∷ [] = grind (arith, common_steps) in
+    let both : list_all p (take i xs ++ x ∷ []) ≡ true = ap (list_all p) (Rattle.std.proofs.Common.sym longer) ∙ k in
+    let cut = list_all-append p (take i xs) (x ∷ []) in
+    let join = list_all-append q ys (y ∷ []) in
+    grind (arith, nat_tests, cut, join, both)

@@ -5,8 +5,10 @@ ghost use Rattle.ifdb_bound.specs.declared.select.BoundSource.{BoundSource as An
 ghost use Rattle.ifdb_bound.specs.Query.{all_some, select};
 ghost use Rattle.ifdb_expr.specs.Query.{query, source_rows};
 ghost use Rattle.ifdb_expr.specs.Tells.{Tells};
-ghost use Rattle.ifdb_exec.specs.Given.{are_rows_made, rows_given};
+ghost use Rattle.ifdb_row.specs.Seen.{are_rows_made};
+ghost use Rattle.ifdb_exec.specs.Given.{are_given_keyed, rows_given};
 ghost use Rattle.ifdb_view.specs.Faults.{TellsQuery};
+ghost use Rattle.ifdb_view.specs.Keyed.{are_sources_keyed, are_views_keyed};
 ghost use Rattle.ifdb_view.specs.Made.{are_views_made, setting};
 
 use crate::fault::ViewFault;
@@ -32,6 +34,8 @@ pub fn query<'q, R: Rows, V: Views>(
     requires rows_made { IsTrue (are_rows_made (length reading.now.tags.now) (R.rows rows.now)) }
     requires label_made { AreMade (length reading.now.tags.now) reading.now.label.now }
     requires views_made { IsTrue (are_views_made (length reading.now.tags.now) (V.views views.now)) }
+    requires keyed { IsTrue (are_sources_keyed (R.rows rows.now) request.now.sources) }
+    requires views_keyed { IsTrue (are_views_keyed (R.rows rows.now) (V.views views.now)) }
     requires room { length request.now.sources ≤ 4 }
     ensures { TellsQuery (query
         (setting reading.now.tags.now reading.now.names.now (V.views views.now) (V.allows views.now))
@@ -57,6 +61,8 @@ fn over_sources<'q, R: Rows, V: Views>(
     requires rows_made { IsTrue (are_rows_made (length reading.now.tags.now) (R.rows rows.now)) }
     requires label_made { AreMade (length reading.now.tags.now) reading.now.label.now }
     requires views_made { IsTrue (are_views_made (length reading.now.tags.now) (V.views views.now)) }
+    requires keyed { IsTrue (are_sources_keyed (R.rows rows.now) query.now.sources) }
+    requires views_keyed { IsTrue (are_views_keyed (R.rows rows.now) (V.views views.now)) }
     requires room { length query.now.sources ≤ 4 }
     ensures { Tells (option_and_then (select reading.now.names.now query.now) (all_some (map (λ (x : AnySource). source_rows
         (setting reading.now.tags.now reading.now.names.now (V.views views.now) (V.allows views.now))
@@ -73,13 +79,14 @@ fn over_given<'q, R: Rows>(
     reading: &'q Reading<'_>,
     rows: &'q R,
     query: &'q BoundSelect,
-    given: Sequence<Given>,
+    given: Sequence<Given<'q>>,
 ) -> Result<ValueRows, ExprFault>
     requires rows_made { IsTrue (are_rows_made (length reading.now.tags.now) (R.rows rows.now)) }
     requires label_made { AreMade (length reading.now.tags.now) reading.now.label.now }
+    requires keyed { IsTrue (are_given_keyed (R.rows rows.now) given) }
     requires room { length given ≤ 4 }
     ensures { Tells (select reading.now.names.now query.now
-        (map (rows_given reading.now.tags.now (R.rows rows.now) reading.now.label.now) given)) result }
+        (map (rows_given reading.now.tags.now (R.rows rows.now) reading.now.label.now) given.entry)) result }
 {
     answer(reading, rows, query, given.items())
 }

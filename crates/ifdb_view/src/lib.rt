@@ -7,6 +7,7 @@
 mod answer;
 mod fault;
 mod sources;
+mod table;
 mod view_label;
 mod view_rows;
 mod views;

@@ -1,15 +1,18 @@
 // Where the rows of a SELECT's sources are.
-ghost use Rattle.std.specs.Prelude.{◌≡◌, IsTrue, IfOk, List, ℕ, length, map};
+ghost use Rattle.std.specs.Prelude.{◌≡◌, IsTrue, IfOk, List, ℕ, length, map, true};
 ghost use Rattle.std.specs.List.{list_all};
 ghost use Rattle.ifdb_label.specs.Tags.{AreMade, MadeTag};
 ghost use Rattle.ifdb_bound.specs.declared.select.BoundSource.{BoundSource as AnySource};
 ghost use Rattle.ifdb_bound.specs.Query.{all_some};
 ghost use Rattle.ifdb_expr.specs.Query.{is_allowed, source_rows};
-ghost use Rattle.ifdb_exec.specs.Given.{are_rows_made, rows_given};
+ghost use Rattle.ifdb_row.specs.Seen.{are_rows_made};
+ghost use Rattle.ifdb_exec.specs.Given.{are_given_keyed, is_given_keyed, rows_given};
 ghost use Rattle.ifdb_view.specs.Faults.{TellsBy};
+ghost use Rattle.ifdb_view.specs.Keyed.{are_sources_keyed, are_views_keyed, is_relation_keyed};
 ghost use Rattle.ifdb_view.specs.Made.{are_views_made, setting};
 
 use crate::OutOfMemory;
+use crate::table::table_given;
 use crate::view_rows::rows_of;
 use crate::views::Views;
 use ifdb_bound::{BoundSource, Relation};
@@ -46,23 +49,26 @@ fn allowed<V: Views>(views: &V, relation: Relation) -> Result<bool, OutOfMemory>
 }
 
 /// Where the rows of some sources are; those of a view are computed.
-pub(crate) fn given<R: Rows, V: Views>(
+pub(crate) fn given<'k, R: Rows, V: Views>(
     reading: &Reading<'_>,
     rows: &R,
     views: &V,
-    sources: &[BoundSource],
-) -> Result<Sequence<Given>, ExprFault>
+    sources: &'k [BoundSource],
+) -> Result<Sequence<Given<'k>>, ExprFault>
     requires rows_made { IsTrue (are_rows_made (length reading.now.tags.now) (R.rows rows.now)) }
     requires label_made { AreMade (length reading.now.tags.now) reading.now.label.now }
     requires views_made { IsTrue (are_views_made (length reading.now.tags.now) (V.views views.now)) }
-    ensures { TellsBy (map (rows_given reading.now.tags.now (R.rows rows.now) reading.now.label.now))
+    requires views_keyed { IsTrue (are_views_keyed (R.rows rows.now) (V.views views.now)) }
+    ensures rows { TellsBy (map (rows_given reading.now.tags.now (R.rows rows.now) reading.now.label.now))
         (all_some (map (λ (x : AnySource). source_rows
         (setting reading.now.tags.now reading.now.names.now (V.views views.now) (V.allows views.now))
         (R.rows rows.now) reading.now.label.now x.relation) sources.now)) result }
+    ensures keyed { IfOk result (λ given. are_sources_keyed (R.rows rows.now) sources.now ≡ true
+        → are_given_keyed (R.rows rows.now) given ≡ true) }
 {
     let mut all = Sequence::new(reading.alloc);
     for source in sources {
-        match given_of(reading, rows, views, source.relation) {
+        match given_of(reading, rows, views, source) {
             Ok(one) => all.push(one)?,
             Err(fault) => return Err(fault),
         }
@@ -71,22 +77,26 @@ pub(crate) fn given<R: Rows, V: Views>(
 }
 
 /// Where the rows of a source are.
-fn given_of<R: Rows, V: Views>(
+fn given_of<'k, R: Rows, V: Views>(
     reading: &Reading<'_>,
     rows: &R,
     views: &V,
-    relation: Relation,
-) -> Result<Given, ExprFault>
+    source: &'k BoundSource,
+) -> Result<Given<'k>, ExprFault>
     requires rows_made { IsTrue (are_rows_made (length reading.now.tags.now) (R.rows rows.now)) }
     requires label_made { AreMade (length reading.now.tags.now) reading.now.label.now }
     requires views_made { IsTrue (are_views_made (length reading.now.tags.now) (V.views views.now)) }
-    ensures { TellsBy (rows_given reading.now.tags.now (R.rows rows.now) reading.now.label.now)
+    requires views_keyed { IsTrue (are_views_keyed (R.rows rows.now) (V.views views.now)) }
+    ensures rows { TellsBy (rows_given reading.now.tags.now (R.rows rows.now) reading.now.label.now)
         (source_rows
         (setting reading.now.tags.now reading.now.names.now (V.views views.now) (V.allows views.now))
-        (R.rows rows.now) reading.now.label.now relation) result }
+        (R.rows rows.now) reading.now.label.now source.now.relation) result }
+    ensures keyed { IfOk result (λ given.
+        is_relation_keyed (R.rows rows.now) source.now.key source.now.relation ≡ true
+        → is_given_keyed (R.rows rows.now) given ≡ true) }
 {
-    match relation {
-        Relation::Table(table) => Ok(Given::Table(table)),
+    match source.relation {
+        Relation::Table(table) => Ok(table_given(table, source.key.items())),
         Relation::View(id) => match views.view(id) {
             None => Ok(Given::View(ViewRows::new(reading.alloc))),
             Some(view) => match rows_of(reading, rows, view) {

@@ -3,8 +3,11 @@ ghost use Rattle.std.specs.Prelude.{◌≡◌, IfOk, length};
 ghost use Rattle.std.specs.List.{list_all};
 ghost use Rattle.ifdb_label.specs.Tags.{are_made};
 ghost use Rattle.ifdb_row.specs.Content.{rising};
-ghost use Rattle.ifdb_row.specs.Slots.{slot_lt};
-ghost use Rattle.ifdb_exec.specs.Given.{are_rows_made};
+ghost use Rattle.ifdb_row.specs.Slots.{key_cmp, slot_lt};
+ghost use Rattle.ifdb_row.specs.Seen.{are_rows_made};
+ghost use Rattle.ifdb_exec.specs.Given.{is_keyed};
+ghost use Rattle.ifdb_plan.specs.Keys.{fields};
+ghost use Rattle.ifdb_view.specs.Keyed.{are_sources_keyed, are_views_keyed, is_relation_keyed};
 ghost use Rattle.ifdb_view.specs.Made.{are_views_made, is_view_made};
 
 use crate::{OutOfMemory, ViewFault, Views, query};
@@ -13,12 +16,14 @@ use ifdb_bound::{
     BoundSource, OrderKey, Relation, ViewDef,
 };
 use ifdb_exec::Reading;
+use ifdb_expr::{ValueRef, value_in};
 use ifdb_label::{Label, Tag, TagFault, TagKind, Tags};
 use ifdb_row::{Key, ListRows, Refs, Row, Slot, Values};
 use ifdb_value::{
     Compare, Name, Names, Principal, Sequence, Shared, TableId, Value, ValueRows, ViewId,
 };
 use std::alloc::Global;
+use std::cmp::Ordering;
 use std::process::Abort;
 use std::test::Fail;
 
@@ -157,6 +162,59 @@ fn are_views_made(tags: &Tags, views: &[ViewDef]) -> bool
     views.iter().all(|view| is_view_made(tags, view))
 }
 
+/// The order of a key and a row's values in some columns.
+fn compare_fields(key: &[Value], columns: &[usize], values: &[Value]) -> Ordering
+    ensures { result ≡ key_cmp key.now (fields columns.now values.now) }
+{
+    match key {
+        [] => match columns {
+            [] => Ordering::Equal,
+            [_, ..] => Ordering::Less,
+        },
+        [first, rest @ ..] => match columns {
+            [] => Ordering::Greater,
+            [column, others @ ..] => ValueRef::of(first)
+                .compare(value_in(values, *column))
+                .then(compare_fields(rest, others, values)),
+        },
+    }
+}
+
+/// Whether each row of a table has its key's values in these columns.
+fn is_keyed(rows: &[Shared<Row>], table: TableId, key: &[usize]) -> bool
+    ensures { result ≡ is_keyed rows.now table key.now }
+{
+    rows.iter().all(|row| {
+        let row = row.get();
+        row.slot.table != table
+            || compare_fields(row.slot.key.items(), key, row.values.items()).is_eq()
+    })
+}
+
+fn is_source_keyed(rows: &[Shared<Row>], source: &BoundSource) -> bool
+    ensures { result ≡ is_relation_keyed rows.now source.now.key source.now.relation }
+{
+    match source.relation {
+        Relation::Table(table) => {
+            source.key.is_empty() || is_keyed(rows, table, source.key.items())
+        }
+        Relation::View(_) => true,
+    }
+}
+
+/// Whether the rows of each source's table have their keys where the source says.
+fn are_sources_keyed(rows: &[Shared<Row>], sources: &[BoundSource]) -> bool
+    ensures { result ≡ are_sources_keyed rows.now sources.now }
+{
+    sources.iter().all(|source| is_source_keyed(rows, source))
+}
+
+fn are_views_keyed(rows: &[Shared<Row>], views: &[ViewDef]) -> bool
+    ensures { result ≡ are_views_keyed rows.now views.now }
+{
+    views.iter().all(|view| are_sources_keyed(rows, view.select.sources.items()))
+}
+
 /// The view `SELECT key, number FROM table 0` that declassifies tag 0.
 fn view_of(alloc: Global, tags: &Tags) -> Result<ViewDef, Fail>
     requires { length tags.now ≡ 2 }
@@ -186,6 +244,8 @@ fn answer(
     assert!(rt; are_rows_made(&tags, &rows));
     assert!(rt; are_views_made(&tags, &views));
     assert!(rt; are_made(&tags, label));
+    assert!(rt; are_sources_keyed(&rows, request.sources.items()));
+    assert!(rt; are_views_keyed(&rows, &views));
     assert!(rt; request.sources.len() <= 4);
     let rows = ListRows::new(rows);
     let views = AllViews { views, are_allowed };
@@ -236,16 +296,22 @@ fn value_of(source: usize, place: usize) -> BoundItem {
     BoundItem::Expr(BoundExpr::Column(column(source, place)))
 }
 
+/// A source; the key of each table is its first column.
+fn source_of(alloc: Global, relation: Relation) -> Result<BoundSource, OutOfMemory> {
+    let key = match relation {
+        Relation::Table(_) => Sequence::single(alloc, 0)?,
+        Relation::View(_) => Sequence::new(alloc),
+    };
+    Ok(BoundSource { relation, key })
+}
+
 /// `SELECT items FROM relation`.
 fn select(
     alloc: Global,
     relation: Relation,
     items: BoundItems,
 ) -> Result<BoundSelect, OutOfMemory> {
-    let source = BoundSource {
-        relation,
-        key: Sequence::new(alloc),
-    };
+    let source = source_of(alloc, relation)?;
     Ok(BoundSelect {
         items,
         sources: Sequence::single(alloc, source)?,
@@ -299,10 +365,8 @@ fn joined(alloc: Global) -> Result<BoundSelect, OutOfMemory> {
     items.push(value_of(0, 0))?;
     items.push(value_of(1, 0))?;
     let mut request = select(alloc, Relation::Table(TableId(0)), items)?;
-    request.sources.push(BoundSource {
-        relation: Relation::Table(TableId(1)),
-        key: Sequence::new(alloc),
-    })?;
+    let second = source_of(alloc, Relation::Table(TableId(1)))?;
+    request.sources.push(second)?;
     request.cond = Some(BoundCond::Compare {
         left: BoundOperand::Column(column(0, 0)),
         how: Compare::Equal,
@@ -334,6 +398,20 @@ fn grouped(alloc: Global) -> Result<BoundSelect, OutOfMemory> {
 /// Sorts an answer by the item at a place.
 fn order_by(request: &mut BoundSelect, place: usize, descending: bool) -> Result<(), OutOfMemory> {
     request.order.push(OrderKey { place, descending })
+}
+
+#[test]
+fn a_key_is_looked_up(rt: HostRuntime) -> Result<(), Fail> {
+    let alloc = rt.alloc();
+    let mut request = pairs(alloc, Relation::Table(TableId(0)))?;
+    request.cond = Some(BoundCond::Compare {
+        left: BoundOperand::Literal(Value::Int(3)),
+        how: Compare::Equal,
+        right: BoundOperand::Column(column(0, 0)),
+    });
+    gives(&rt, alloc, &[], &request, &[])?;
+    gives(&rt, alloc, &[Tag(0)], &request, &[3, 10])?;
+    Ok(())
 }
 
 #[test]

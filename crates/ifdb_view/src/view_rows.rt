@@ -1,5 +1,5 @@
 // The rows of a view.
-ghost use Rattle.std.specs.Prelude.{◌≡◌, ◌≤◌, IfOk, IsTrue, List, Bool, ℕ, length, map};
+ghost use Rattle.std.specs.Prelude.{◌≡◌, ◌≤◌, IfOk, IsTrue, List, Bool, ℕ, length, map, true};
 ghost use Rattle.std.specs.List.{list_all};
 ghost use Rattle.ifdb_label.specs.Tags.{AreMade, MadeTag};
 ghost use Rattle.ifdb_row.specs.declared.row.Row.{Row as AnyRow};
@@ -8,10 +8,13 @@ ghost use Rattle.ifdb_bound.specs.declared.select.BoundSource.{BoundSource as An
 ghost use Rattle.ifdb_bound.specs.Query.{all_some};
 ghost use Rattle.ifdb_expr.specs.Tells.{Tells};
 ghost use Rattle.ifdb_expr.specs.View.{base_rows, view_row, view_rows};
-ghost use Rattle.ifdb_exec.specs.Given.{are_rows_made, rows_given};
+ghost use Rattle.ifdb_row.specs.Seen.{are_rows_made};
+ghost use Rattle.ifdb_exec.specs.Given.{are_given_keyed, is_given_keyed, rows_given};
+ghost use Rattle.ifdb_view.specs.Keyed.{are_sources_keyed, is_relation_keyed};
 ghost use Rattle.ifdb_view.specs.Made.{are_all_made, is_made, setting};
 
 use crate::OutOfMemory;
+use crate::table::table_given;
 use crate::view_label::label_of;
 use ifdb_bound::{BoundSource, Relation, ViewDef};
 use ifdb_exec::{Given, Reading, ViewRow, ViewRows, matching};
@@ -32,6 +35,7 @@ pub fn rows_of<R: Rows>(
     requires rows_made { IsTrue (are_rows_made (length reading.now.tags.now) (R.rows rows.now)) }
     requires label_made { AreMade (length reading.now.tags.now) reading.now.label.now }
     requires given_made { AreMade (length reading.now.tags.now) view.now.declassifying }
+    requires keyed { IsTrue (are_sources_keyed (R.rows rows.now) view.now.select.sources) }
     requires room { length view.now.select.sources ≤ 4 }
     ensures { (views : List AnyView) (allows : AnyView → Bool)
         → Tells (view_rows (setting reading.now.tags.now reading.now.names.now views allows)
@@ -52,25 +56,29 @@ pub fn rows_of<R: Rows>(
 }
 
 /// Where the rows of a view's sources are, which are tables.
-fn bases(alloc: Global, sources: &[BoundSource]) -> Result<Vec<Given>, OutOfMemory>
-    ensures { IfOk result (λ all. (tags : List MadeTag) (rows : List AnyRow) (label : List ℕ)
+fn bases(alloc: Global, sources: &[BoundSource]) -> Result<Vec<Given<'_>>, OutOfMemory>
+    ensures rows { IfOk result (λ all. (tags : List MadeTag) (rows : List AnyRow) (label : List ℕ)
         → map (rows_given tags rows label) all.items
         ≡ map (λ (s : AnySource). base_rows tags rows label s.relation) sources.now) }
+    ensures keyed { IfOk result (λ all. (rows : List AnyRow) → are_sources_keyed rows sources.now ≡ true
+        → are_given_keyed rows all.items ≡ true) }
 {
     let mut all = Vec::new(alloc);
     for source in sources {
-        all.push(base(alloc, source.relation))?;
+        all.push(base(alloc, source))?;
     }
     Ok(all)
 }
 
 /// Where the rows of a view's source are. A source that is a view has none.
-fn base(alloc: Global, relation: Relation) -> Given
-    ensures { (tags : List MadeTag) (rows : List AnyRow) (label : List ℕ)
-        → rows_given tags rows label result ≡ base_rows tags rows label relation }
+fn base(alloc: Global, source: &BoundSource) -> Given<'_>
+    ensures rows { (tags : List MadeTag) (rows : List AnyRow) (label : List ℕ)
+        → rows_given tags rows label result ≡ base_rows tags rows label source.now.relation }
+    ensures keyed { (rows : List AnyRow) → is_relation_keyed rows source.now.key source.now.relation ≡ true
+        → is_given_keyed rows result ≡ true }
 {
-    match relation {
-        Relation::Table(table) => Given::Table(table),
+    match source.relation {
+        Relation::Table(table) => table_given(table, source.key.items()),
         Relation::View(_) => Given::View(ViewRows::new(alloc)),
     }
 }

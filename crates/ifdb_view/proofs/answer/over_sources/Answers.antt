@@ -8,5 +8,5 @@ use Rattle.ifdb_view.proofs.answer.over_sources.Goals as goal
 
 pub over_given-requires-clause-room : goal.over_given-requires-clause-room
 over_given-requires-clause-room g c =
-    given_long (rows_given c.args.reading.now.tags.now (g.R.Rows.rows c.args.rows.now) c.args.reading.now.label.now) (λ (x : BoundSource). source_rows (setting c.args.reading.now.tags.now c.args.reading.now.names.now (g.V.Views.views c.args.views.now) (g.V.Views.allows c.args.views.now)) (g.R.Rows.rows c.args.rows.now) c.args.reading.now.label.now x.relation) c.in-Ok.given c.items.result.now c.in-Ok.ensures
+    given_long (rows_given c.args.reading.now.tags.now (g.R.Rows.rows c.args.rows.now) c.args.reading.now.label.now) (λ (x : BoundSource). source_rows (setting c.args.reading.now.tags.now c.args.reading.now.names.now (g.V.Views.views c.args.views.now) (g.V.Views.allows c.args.views.now)) (g.R.Rows.rows c.args.rows.now) c.args.reading.now.label.now x.relation) c.in-Ok.given c.items.result.now c.in-Ok.ensures.rows
     (subst (λ (l : List BoundSource). length l ≤ 4) (sym c.items.ensures) c.requires.room)

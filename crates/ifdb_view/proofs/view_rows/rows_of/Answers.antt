@@ -13,7 +13,7 @@ use Rattle.ifdb_view.proofs.view_rows.rows_of.Goals as goal
 pub matching-requires-clause-room : goal.matching-requires-clause-room
 matching-requires-clause-room g c =
     as_long (rows_given [] [] []) (λ (s : BoundSource). base_rows [] [] [] s.relation) c.deref.result.now c.args.view.now.select.sources
-    (ap (map (rows_given [] [] [])) c.deref.ensures.value ∙ c.in_ok-bases.ensures [] [] [] ∙ ap (map (λ (s : BoundSource). base_rows [] [] [] s.relation)) c.items.ensures) c.requires.room
+    (ap (map (rows_given [] [] [])) c.deref.ensures.value ∙ c.in_ok-bases.ensures.rows [] [] [] ∙ ap (map (λ (s : BoundSource). base_rows [] [] [] s.relation)) c.items.ensures) c.requires.room
 
 pub each_row-requires-clause-made : goal.each_row-requires-clause-made
 each_row-requires-clause-made g c =
@@ -21,7 +21,7 @@ each_row-requires-clause-made g c =
     let rows = g.R.Rows.rows c.args.rows.now in
     matches_made (length tags) tags rows c.in_ok-wide.wide c.items.result.now (λ (c' : Combination). passes c.args.view.now.select.cond (values_of c'))
     (map (rows_given tags rows c.in_ok-wide.wide) c.deref.result.now) c.items-2.result.now c.requires.rows_made
-    (ap (map (rows_given tags rows c.in_ok-wide.wide)) c.deref.ensures.value ∙ c.in_ok-bases.ensures tags rows c.in_ok-wide.wide) (c.items-2.ensures ∙ c.in_ok-frames.ensures)
+    (ap (map (rows_given tags rows c.in_ok-wide.wide)) c.deref.ensures.value ∙ c.in_ok-bases.ensures.rows tags rows c.in_ok-wide.wide) (c.items-2.ensures ∙ c.in_ok-frames.ensures)
 
 pub returns : goal.returns
 returns g c views allows =
@@ -32,6 +32,6 @@ returns g c views allows =
     subst (λ (l : List Combination). Tells (all_some (map (view_row (setting tags c.args.reading.now.names.now views allows) c.args.view.now) l)) c.each_row.result)
     (c.items-2.ensures ∙ c.in_ok-frames.ensures
     ∙ ap (λ (l : List (List SourceRow)). filter keeps (combinations l))
-    (ap (map (rows_given tags rows c.in_ok-wide.wide)) c.deref.ensures.value ∙ c.in_ok-bases.ensures tags rows c.in_ok-wide.wide
+    (ap (map (rows_given tags rows c.in_ok-wide.wide)) c.deref.ensures.value ∙ c.in_ok-bases.ensures.rows tags rows c.in_ok-wide.wide
     ∙ (λ i. map (λ (s : BoundSource). base_rows tags rows (c.in_ok-wide.ensures.value i) s.relation) (c.items.ensures i))))
     (c.each_row.ensures views allows)
