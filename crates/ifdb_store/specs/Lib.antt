@@ -1,3 +1,3 @@
 pub mod Pages
+pub mod Costs
 pub mod Kept
-pub mod Later
