@@ -5,3 +5,4 @@ pub mod FindLemmas
 pub mod Costs
 pub mod KeptLemmas
 pub mod Bounds
+pub mod Joining

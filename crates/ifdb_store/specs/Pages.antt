@@ -1,5 +1,5 @@
 -- Rows in pages, and pages in chapters.
-use Rattle.std.specs.Prelude.{◌≡◌, ℕ, Bool, true, refl, List, [], ◌∷◌, ◌&&◌, ◌||◌, ◌+◌, ◌++◌, ◌≤◌, nat_lt, length, take, drop, get_or}
+use Rattle.std.specs.Prelude.{◌≡◌, ℕ, Bool, true, refl, List, [], ◌∷◌, ◌&&◌, ◌||◌, ◌+◌, ◌++◌, ◌≤◌, nat_lt, not, length, take, drop, get_or}
 use Rattle.std.proofs.Common.{arith}
 use Rattle.std.proofs.lemmas.Bool.{false≢true}
 use Rattle.std.proofs.lemmas.Bool.Decides.{nat_tests}
@@ -12,6 +12,16 @@ use Rattle.ifdb_row.specs.Content.{after, rising}
 -- from 1 to 64 rows, in the order of their slots
 abbrev pub is_page : List Row → Bool
 is_page rows = nat_lt 0 (length rows) && (nat_lt (length rows) 65 && rising rows)
+
+-- one of two pages is small, of fewer than 16 rows, and both fit into one
+abbrev pub may_join : List Row → List Row → Bool
+may_join p q = (nat_lt (length p) 16 || nat_lt (length q) 16) && nat_lt (length p + length q) 65
+
+-- no two neighbours may be joined
+abbrev pub are_joined : List (List Row) → Bool
+are_joined [] = true
+are_joined (p ∷ []) = true
+are_joined (p ∷ q ∷ pages) = not (may_join p q) && are_joined (q ∷ pages)
 
 -- the rows of pages
 abbrev pub flat : List (List Row) → List Row

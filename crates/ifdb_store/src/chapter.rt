@@ -4,6 +4,7 @@ ghost use Rattle.std.specs.List.{list_all, flat_map};
 ghost use Rattle.ifdb_row.specs.Content.{after, rising};
 ghost use Rattle.ifdb_store.specs.Pages.{AddsOne, AddsRows, StaysFull, flat, is_chapter, is_full, is_page};
 
+use crate::join::joined;
 use crate::page::Page;
 use crate::part::{Part, bound_to, end_of, parts_after, run_from};
 use crate::put::shared;
@@ -100,7 +101,7 @@ impl Part for Chapter {
     ) -> Result<(), OutOfMemory> {
         let mut pages = Vec::new(alloc);
         parts_after(alloc, self.pages(), writes, &mut pages)?;
-        bind(alloc, pages, out)
+        bind(alloc, joined(alloc, pages)?, out)
     }
 
     fn first_run(&self) -> &[Shared<Row>] {

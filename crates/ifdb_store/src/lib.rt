@@ -3,6 +3,7 @@
 
 mod chapter;
 mod content;
+mod join;
 mod laws;
 mod page;
 mod part;

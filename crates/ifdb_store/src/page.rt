@@ -15,7 +15,7 @@ use std::marker::Model;
 use std::sync::ledger::Ledger;
 
 /// The most rows of a page.
-const PAGE_ROWS: usize = 64;
+pub(crate) const PAGE_ROWS: usize = 64;
 
 /// Rows of neighbouring slots, from 1 to 64 of them.
 #[derive(Drop)]
@@ -37,7 +37,7 @@ impl Model for Page {
 
 impl Page {
     /// A page of these rows.
-    fn new(rows: Vec<Shared<Row>>) -> Page
+    pub(crate) fn new(rows: Vec<Shared<Row>>) -> Page
         requires { IsTrue (is_page rows.items) }
         ensures { result ≡ rows.items }
     {
@@ -47,7 +47,7 @@ impl Page {
     }
 
     /// The rows.
-    fn rows(&self) -> &[Shared<Row>]
+    pub(crate) fn rows(&self) -> &[Shared<Row>]
         ensures rows { result.now ≡ self.now }
         ensures some { 0 < length result.now }
         ensures rising { IsTrue (rising result.now) }
