@@ -35,7 +35,7 @@ pub trait Rows {
         ensures row { option_copied result ≡ first_row_from edge.now (rows self.now) }
         ensures rising { IsTrue (rising (rows self.now)) }
     {
-        first(self.run_from(edge))
+        first_of_run(self.run_from(edge))
     }
 
     /// The table's first row behind a slot, or its first.
@@ -43,7 +43,7 @@ pub trait Rows {
         ensures row { option_copied result ≡ next_behind table after.entry (rows self.now) }
         ensures rising { IsTrue (rising (rows self.now)) }
     {
-        first(self.run(table, after))
+        first_of_run(self.run(table, after))
     }
 
     /// The row in a slot.
@@ -112,8 +112,8 @@ pub trait Rows {
     }
 }
 
-/// The first row of a run.
-fn first(run: &[Shared<Row>]) -> Option<&Row>
+/// The first row of a run of rows; `None` exactly where it has none.
+pub fn first_of_run(run: &[Shared<Row>]) -> Option<&Row>
     ensures { option_copied result ≡ slice_get run.now 0 }
 {
     match run.first() {

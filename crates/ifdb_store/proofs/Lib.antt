@@ -4,4 +4,5 @@ pub mod PartLemmas
 pub mod FindLemmas
 pub mod Costs
 pub mod KeptLemmas
-pub mod LaterLemmas
+pub mod Bounds
+pub mod Joining

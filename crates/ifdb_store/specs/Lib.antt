@@ -1,3 +1,4 @@
 pub mod Pages
+pub mod Costs
 pub mod Kept
 pub mod Later

@@ -1,5 +1,5 @@
 -- Rows in pages, and pages in chapters.
-use Rattle.std.specs.Prelude.{◌≡◌, ℕ, Bool, true, refl, List, [], ◌∷◌, ◌&&◌, ◌+◌, ◌++◌, nat_lt, length, take, drop, get_or}
+use Rattle.std.specs.Prelude.{◌≡◌, ℕ, Bool, true, refl, List, [], ◌∷◌, ◌&&◌, ◌||◌, ◌+◌, ◌++◌, ◌≤◌, nat_lt, not, length, take, drop, get_or}
 use Rattle.std.proofs.Common.{arith}
 use Rattle.std.proofs.lemmas.Bool.{false≢true}
 use Rattle.std.proofs.lemmas.Bool.Decides.{nat_tests}
@@ -13,21 +13,51 @@ use Rattle.ifdb_row.specs.Content.{after, rising}
 abbrev pub is_page : List Row → Bool
 is_page rows = nat_lt 0 (length rows) && (nat_lt (length rows) 65 && rising rows)
 
+-- one of two pages is small, of fewer than 16 rows, and both fit into one
+abbrev pub may_join : List Row → List Row → Bool
+may_join p q = (nat_lt (length p) 16 || nat_lt (length q) 16) && nat_lt (length p + length q) 65
+
+-- no two neighbours may be joined
+abbrev pub are_joined : List (List Row) → Bool
+are_joined [] = true
+are_joined (p ∷ []) = true
+are_joined (p ∷ q ∷ pages) = not (may_join p q) && are_joined (q ∷ pages)
+
 -- the rows of pages
 abbrev pub flat : List (List Row) → List Row
 flat pages = flat_map (λ page. page) pages
 
--- at least one page, and the rows of all pages in the order of their slots
+-- from 1 to 256 pages, and the rows of all pages in the order of their slots
 abbrev pub is_chapter : List (List Row) → Bool
-is_chapter pages = nat_lt 0 (length pages) && (list_all is_page pages && rising (flat pages))
+is_chapter pages = nat_lt 0 (length pages) && (nat_lt (length pages) 257 && (list_all is_page pages && rising (flat pages)))
 
 -- the rows of chapters
 abbrev pub rows_of : List (List (List Row)) → List Row
 rows_of chapters = flat_map flat chapters
 
--- the rows of all chapters in the order of their slots
+-- at least 64 pages
+abbrev pub is_full : List (List Row) → Bool
+is_full pages = nat_lt 63 (length pages)
+
+-- where there are several chapters each is full
+abbrev pub are_full : List (List (List Row)) → Bool
+are_full chapters = nat_lt (length chapters) 2 || list_all is_full chapters
+
+-- full chapters, and the rows of all in the order of their slots
 abbrev pub is_content : List (List (List Row)) → Bool
-is_content chapters = list_all is_chapter chapters && rising (rows_of chapters)
+is_content chapters = are_full chapters && (list_all is_chapter chapters && rising (rows_of chapters))
+
+-- the chapters hold some rows more, behind the others
+abbrev pub AddsRows : List (List (List Row)) → List Row → List (List (List Row)) → Type 0
+AddsRows old rows new = rows_of new ≡ rows_of old ++ rows
+
+-- they are one more at most
+abbrev pub AddsOne : List (List (List Row)) → List (List (List Row)) → Type 0
+AddsOne old new = length new ≤ length old + 1
+
+-- they are all full, if they were
+abbrev pub StaysFull : List (List (List Row)) → List (List (List Row)) → Type 0
+StaysFull old new = list_all is_full old ≡ true → list_all is_full new ≡ true
 
 -- the slot of the first row
 abbrev pub front : List Row → Slot

@@ -2,10 +2,11 @@
 ghost use Rattle.std.specs.Prelude.{◌≡◌, ◌≤◌, ◌<◌, ◌+◌, ◌++◌, IfOk, IsTrue, OnOk, length};
 ghost use Rattle.std.specs.List.{list_all, flat_map};
 ghost use Rattle.ifdb_row.specs.Content.{after, rising};
-ghost use Rattle.ifdb_store.specs.Pages.{flat, is_page, is_chapter, rows_of};
+ghost use Rattle.ifdb_store.specs.Pages.{AddsOne, AddsRows, StaysFull, flat, is_chapter, is_full, is_page};
 
-use crate::page::{Page, end_of};
-use crate::part::{Part, bound_to, parts_after, run_from};
+use crate::join::joined;
+use crate::page::Page;
+use crate::part::{Part, bound_to, end_of, parts_after, run_from};
 use crate::put::shared;
 use crate::search::Placed;
 use crate::steps::Steps;
@@ -18,7 +19,10 @@ use std::sync::ledger::Ledger;
 /// The most pages of a chapter.
 const CHAPTER_PAGES: usize = 256;
 
-/// Neighbouring pages, at least one.
+/// The fewest pages of a chapter, where there are several.
+const FULL_PAGES: usize = 64;
+
+/// Neighbouring pages, from 1 to 256 of them.
 #[derive(Drop)]
 pub(crate) struct Chapter {
     pages: Sequence<Shared<Page>>,
@@ -47,10 +51,18 @@ impl Chapter {
         }
     }
 
+    /// Whether it has at least 64 pages.
+    pub(crate) fn is_full(&self) -> bool
+        ensures { result ≡ is_full self.now }
+    {
+        self.pages().len() >= FULL_PAGES
+    }
+
     /// The pages.
-    fn pages(&self) -> &[Shared<Page>]
+    pub(crate) fn pages(&self) -> &[Shared<Page>]
         ensures pages { result.now ≡ self.now }
         ensures some { 0 < length result.now }
+        ensures few { length result.now ≤ 256 }
         ensures good { IsTrue (list_all is_page result.now) }
         ensures rising { IsTrue (rising (flat result.now)) }
     {
@@ -77,6 +89,10 @@ impl Part for Chapter {
 
     ghost begins = { chapter_begins };
 
+    ghost use Rattle.ifdb_store.specs.Costs.{ChapterBounds};
+
+    ghost bounds = { ChapterBounds };
+
     fn after(
         &self,
         alloc: Global,
@@ -85,7 +101,7 @@ impl Part for Chapter {
     ) -> Result<(), OutOfMemory> {
         let mut pages = Vec::new(alloc);
         parts_after(alloc, self.pages(), writes, &mut pages)?;
-        bind(alloc, pages, out)
+        bind(alloc, joined(alloc, pages)?, out)
     }
 
     fn first_run(&self) -> &[Shared<Row>] {
@@ -101,7 +117,7 @@ impl Part for Chapter {
     }
 }
 
-/// Adds the chapters of some pages: one where they fit into one, else as many as it takes.
+/// Adds the chapters of some pages: one where they fit into one, else as many as it takes, each at least half full.
 pub(crate) fn bind(
     alloc: Global,
     pages: Vec<Shared<Page>>,
@@ -110,8 +126,10 @@ pub(crate) fn bind(
     requires good { IsTrue (list_all is_page pages.items) }
     requires rising { IsTrue (rising (flat pages.items)) }
     requires chapters { IsTrue (list_all is_chapter out.old.items) }
-    ensures rows { OnOk result (rows_of out.new.items ≡ rows_of out.old.items ++ flat pages.items) }
+    ensures rows { OnOk result (AddsRows out.old.items (flat pages.items) out.new.items) }
     ensures chapters { OnOk result (IsTrue (list_all is_chapter out.new.items)) }
+    ensures full { OnOk result (64 ≤ length pages.items → StaysFull out.old.items out.new.items) }
+    ensures one { OnOk result (length pages.items ≤ 256 → AddsOne out.old.items out.new.items) }
 {
     let len = pages.len();
     if len <= CHAPTER_PAGES {
@@ -119,7 +137,7 @@ pub(crate) fn bind(
     }
     let mut from = 0;
     while from < len {
-        let to = end_of(from, CHAPTER_PAGES / 2, len);
+        let to = end_of(from, len, CHAPTER_PAGES);
         let part = shared(alloc, &pages[from..to], to - from)?;
         add_chapter(alloc, part, out)?;
         from = to;
@@ -133,11 +151,14 @@ fn add_chapter(
     pages: Vec<Shared<Page>>,
     out: &mut Vec<Shared<Chapter>>,
 ) -> Result<(), OutOfMemory>
+    requires few { length pages.items ≤ 256 }
     requires good { IsTrue (list_all is_page pages.items) }
     requires rising { IsTrue (rising (flat pages.items)) }
     requires chapters { IsTrue (list_all is_chapter out.old.items) }
-    ensures rows { OnOk result (rows_of out.new.items ≡ rows_of out.old.items ++ flat pages.items) }
+    ensures rows { OnOk result (AddsRows out.old.items (flat pages.items) out.new.items) }
     ensures chapters { OnOk result (IsTrue (list_all is_chapter out.new.items)) }
+    ensures full { OnOk result (64 ≤ length pages.items → StaysFull out.old.items out.new.items) }
+    ensures one { OnOk result (AddsOne out.old.items out.new.items) }
 {
     if !pages.is_empty() {
         out.push(Shared::new(alloc, Chapter::new(pages))?)?;

@@ -1,17 +1,18 @@
 // Contents in versions.
-ghost use Rattle.std.specs.Prelude.{◌≡◌, ◌≤◌, ◌<◌, [], IfOk, IsTrue, OnOk};
+ghost use Rattle.std.specs.Prelude.{◌≡◌, ◌≤◌, ◌<◌, ◌+◌, ◌-◌, ◌*◌, ◌^◌, [], length, IfOk, IsTrue, OnOk};
 ghost use Rattle.std.specs.List.{list_all};
+ghost use Rattle.std.specs.Option.{option_copied};
 ghost use Rattle.ifdb_row.specs.Content.{after, rising};
 ghost use Rattle.ifdb_row.specs.Writes.{are_fitting, are_rising};
-ghost use Rattle.ifdb_row.specs.Questions.{IsRun, rows_from};
-ghost use Rattle.ifdb_store.specs.Pages.{is_chapter, rows_of};
+ghost use Rattle.ifdb_row.specs.Questions.{IsRun, first_row_from, rows_from};
+ghost use Rattle.ifdb_store.specs.Pages.{are_full, flat, is_chapter, is_full, is_page, rows_of};
 
 use crate::chapter::{Chapter, bind};
-use crate::page::cut;
+use crate::page::{Page, cut};
 use crate::part::{bound_to, parts_after, run_from};
-use crate::put::rows_after;
+use crate::put::{add_shared, rows_after};
 use crate::steps::Steps;
-use ifdb_row::{Edge, OutOfMemory, Row, Rows, Slot, Write, Writes};
+use ifdb_row::{Edge, OutOfMemory, Row, Rows, Slot, Write, Writes, first_of_run};
 use ifdb_value::{Sequence, Shared};
 use std::alloc::Global;
 use std::marker::{Brand, Model};
@@ -68,13 +69,28 @@ impl Content {
         })
     }
 
+    /// The first row from an edge on. Each comparison of slots is a step, and for n rows there are s steps with 2^s at most
+    /// 4 * (n + 1)^2.
+    pub fn seek<L: Ledger>(&self, edge: &Edge<'_>, steps: &mut Steps<L>) -> Option<&Row>
+        ensures row { option_copied result ≡ first_row_from edge.now self.now }
+        ensures more { steps.old ≤ steps.new }
+        ensures cost { 2 ^ (steps.new - steps.old) ≤ 4 * (length self.now + 1) ^ 2 }
+    {
+        first_of_run(self.seek_run(edge, steps))
+    }
+
     /// The first rows from an edge on, as many as lie side by side. Each comparison of slots is a step.
     fn seek_run<L: Ledger>(&self, edge: &Edge<'_>, steps: &mut Steps<L>) -> &[Shared<Row>]
         ensures run { IsRun result.now (rows_from edge.now self.now) }
         ensures rising { IsTrue (rising self.now) }
         ensures more { steps.old ≤ steps.new }
+        ensures cost { 2 ^ (steps.new - steps.old) ≤ 4 * (length self.now + 1) ^ 2 }
     {
-        run_from(self.chapters(), edge, steps)
+        let chapters = self.chapters();
+        if chapters.is_empty() {
+            return &[];
+        }
+        run_from(chapters, edge, steps)
     }
 
     /// The same, with steps that nobody reads.
@@ -93,6 +109,7 @@ impl Content {
     fn chapters(&self) -> &[Shared<Chapter>]
         ensures rows { rows_of result.now ≡ self.now }
         ensures good { IsTrue (list_all is_chapter result.now) }
+        ensures full { IsTrue (are_full result.now) }
         ensures rising { IsTrue (rising self.now) }
     {
         self.chapters.get().items()
@@ -124,6 +141,7 @@ fn chapters_after(
     requires rising { IsTrue (are_rising writes.now) }
     ensures rows { IfOk result (λ all. rows_of all.items ≡ after (rows_of chapters.now) writes.now) }
     ensures good { IfOk result (λ all. IsTrue (list_all is_chapter all.items)) }
+    ensures full { IfOk result (λ all. IsTrue (are_full all.items)) }
     ensures rising { IfOk result (λ all. IsTrue (rising (rows_of all.items))) }
 {
     let mut all = Vec::new(alloc);
@@ -132,7 +150,53 @@ fn chapters_after(
     } else {
         parts_after(alloc, chapters, writes, &mut all)?;
     }
+    if are_full(&all) {
+        return Ok(all);
+    }
+    bound_anew(alloc, &all)
+}
+
+/// Whether each chapter is full, where there are several.
+fn are_full(chapters: &[Shared<Chapter>]) -> bool
+    ensures { result ≡ are_full chapters.now }
+{
+    chapters.len() < 2 || are_all_full(chapters)
+}
+
+/// Whether each chapter is full.
+fn are_all_full(chapters: &[Shared<Chapter>]) -> bool
+    ensures { result ≡ list_all is_full chapters.now }
+{
+    chapters.iter().all(|chapter| chapter.get().is_full())
+}
+
+/// Full chapters of the same pages.
+fn bound_anew(
+    alloc: Global,
+    chapters: &[Shared<Chapter>],
+) -> Result<Vec<Shared<Chapter>>, OutOfMemory>
+    requires good { IsTrue (list_all is_chapter chapters.now) }
+    requires in_order { IsTrue (rising (rows_of chapters.now)) }
+    ensures rows { IfOk result (λ all. rows_of all.items ≡ rows_of chapters.now) }
+    ensures good { IfOk result (λ all. IsTrue (list_all is_chapter all.items)) }
+    ensures full { IfOk result (λ all. IsTrue (are_full all.items)) }
+{
+    let mut all = Vec::new(alloc);
+    bind(alloc, pages_of(alloc, chapters)?, &mut all)?;
     Ok(all)
+}
+
+/// The pages of all chapters, shared.
+fn pages_of(alloc: Global, chapters: &[Shared<Chapter>]) -> Result<Vec<Shared<Page>>, OutOfMemory>
+    requires { IsTrue (list_all is_chapter chapters.now) }
+    ensures rows { IfOk result (λ pages. flat pages.items ≡ rows_of chapters.now) }
+    ensures good { IfOk result (λ pages. IsTrue (list_all is_page pages.items)) }
+{
+    let mut pages = Vec::new(alloc);
+    for chapter in chapters {
+        add_shared(chapter.get().pages(), &mut pages)?;
+    }
+    Ok(pages)
 }
 
 /// Adds the chapters of what is written where no row stands.

@@ -3,7 +3,7 @@
 
 mod chapter;
 mod content;
-mod later;
+mod join;
 mod laws;
 mod page;
 mod part;
@@ -13,7 +13,6 @@ mod steps;
 mod store;
 
 pub use content::Content;
-pub use later::meets_later;
 pub use laws::stands_for_a_log;
 pub use steps::Steps;
 pub use store::Store;

@@ -4,7 +4,7 @@ ghost use Rattle.std.specs.List.{list_all, flat_map};
 ghost use Rattle.ifdb_row.specs.Content.{after, rising};
 ghost use Rattle.ifdb_store.specs.Pages.{flat, is_page};
 
-use crate::part::Part;
+use crate::part::{Part, end_of};
 use crate::put::{rows_after, shared};
 use crate::search::{Placed, reach};
 use crate::steps::Steps;
@@ -15,7 +15,7 @@ use std::marker::Model;
 use std::sync::ledger::Ledger;
 
 /// The most rows of a page.
-const PAGE_ROWS: usize = 64;
+pub(crate) const PAGE_ROWS: usize = 64;
 
 /// Rows of neighbouring slots, from 1 to 64 of them.
 #[derive(Drop)]
@@ -37,7 +37,7 @@ impl Model for Page {
 
 impl Page {
     /// A page of these rows.
-    fn new(rows: Vec<Shared<Row>>) -> Page
+    pub(crate) fn new(rows: Vec<Shared<Row>>) -> Page
         requires { IsTrue (is_page rows.items) }
         ensures { result ≡ rows.items }
     {
@@ -47,7 +47,7 @@ impl Page {
     }
 
     /// The rows.
-    fn rows(&self) -> &[Shared<Row>]
+    pub(crate) fn rows(&self) -> &[Shared<Row>]
         ensures rows { result.now ≡ self.now }
         ensures some { 0 < length result.now }
         ensures rising { IsTrue (rising result.now) }
@@ -75,6 +75,10 @@ impl Part for Page {
 
     ghost begins = { page_begins };
 
+    ghost use Rattle.ifdb_store.specs.Costs.{PageBounds};
+
+    ghost bounds = { PageBounds };
+
     fn after(
         &self,
         alloc: Global,
@@ -99,7 +103,7 @@ impl Part for Page {
     }
 }
 
-/// Adds the pages of some rows: one where they fit into one, else as many as it takes, of about the same size.
+/// Adds the pages of some rows: one where they fit into one, else as many as it takes, each at least half full.
 pub(crate) fn cut(
     alloc: Global,
     rows: Vec<Shared<Row>>,
@@ -114,39 +118,14 @@ pub(crate) fn cut(
     if len <= PAGE_ROWS {
         return add_page(alloc, rows, out);
     }
-    let size = even_size(len);
     let mut from = 0;
     while from < len {
-        let to = end_of(from, size, len);
+        let to = end_of(from, len, PAGE_ROWS);
         let part = shared(alloc, &rows[from..to], to - from)?;
         add_page(alloc, part, out)?;
         from = to;
     }
     Ok(())
-}
-
-/// Where the next part ends.
-pub(crate) fn end_of(from: usize, size: usize, len: usize) -> usize
-    requires from { from < len }
-    requires size { 0 < size }
-    ensures more { from < result }
-    ensures within { result ≤ len }
-    ensures few { result ≤ from + size }
-{
-    if len - from <= size { len } else { from + size }
-}
-
-/// How many rows go into each of as few pages as hold this many.
-fn even_size(len: usize) -> usize
-    ensures some { 0 < result }
-    ensures few { result ≤ 64 }
-{
-    let size = len / (len / PAGE_ROWS + 1);
-    if size < PAGE_ROWS {
-        size + 1
-    } else {
-        PAGE_ROWS
-    }
 }
 
 /// Adds a page of the rows, if there are any.

@@ -1,5 +1,5 @@
 // Parts of a content: what is found in them, and what they are after writes.
-ghost use Rattle.std.specs.Prelude.{◌≡◌, ◌≤◌, ◌<◌, ◌+◌, ◌++◌, List, Bool, true, IsTrue, OnOk, length, take, drop, not};
+ghost use Rattle.std.specs.Prelude.{◌≡◌, ◌≤◌, ◌<◌, ◌+◌, ◌-◌, ◌*◌, ◌^◌, ◌/◌, ◌++◌, ℕ, List, Bool, true, IsTrue, OnOk, length, take, drop, not};
 ghost use Rattle.std.specs.List.{list_all, flat_map};
 ghost use Rattle.ifdb_row.specs.declared.row.Row.{Row as AnyRow};
 ghost use Rattle.ifdb_row.specs.Slots.{slot_lt};
@@ -7,10 +7,12 @@ ghost use Rattle.ifdb_row.specs.Edges.{lies_before};
 ghost use Rattle.ifdb_row.specs.Writes.{are_fitting, are_rising};
 ghost use Rattle.ifdb_row.specs.Content.{after, rising};
 ghost use Rattle.std.specs.Option.{option_copied};
-ghost use Rattle.ifdb_row.specs.Questions.{IsRun, row_bound_to, rows_from};
+ghost use Rattle.ifdb_row.specs.Questions.{IsRun, bound_behind, rows_from};
 ghost use Rattle.ifdb_row.specs.Reach.{reach};
 ghost use Rattle.ifdb_store.specs.Pages.{Begins, Divides};
+ghost use Rattle.ifdb_store.specs.Costs.{SearchedIn};
 
+use crate::put::add_shared;
 use crate::search::{Placed, place, reach};
 use crate::steps::Steps;
 use ifdb_row::{Edge, OutOfMemory, Row, Slot, Write};
@@ -25,6 +27,9 @@ pub(crate) trait Part: Placed + Drop {
 
     /// It is as a part has to be.
     ghost is_part: { Self → Bool };
+
+    /// What a search in it may cost: 2 ^ s, where it makes s comparisons.
+    ghost bounds: { Self → ℕ → Type 0 };
 
     /// Adds the parts that hold the rows after writes.
     fn after(
@@ -49,15 +54,33 @@ pub(crate) trait Part: Placed + Drop {
     fn run_from<L: Ledger>(&self, edge: &Edge<'_>, steps: &mut Steps<L>) -> &[Shared<Row>]
         requires { IsTrue (is_part self.now) }
         ensures run { IsRun result.now (rows_from edge.now (rows self.now)) }
-        ensures more { steps.old ≤ steps.new };
+        ensures more { steps.old ≤ steps.new }
+        ensures cost { bounds self.now (2 ^ (steps.new - steps.old)) };
 
     /// Its first row bound to a slot whose own slot is behind another, or its first row bound to it.
     fn bound_to(&self, slot: &Slot, after: Option<&Slot>) -> Option<&Row>
         requires { IsTrue (is_part self.now) }
-        ensures { option_copied result ≡ row_bound_to slot.now (option_copied after.entry) (rows self.now) };
+        ensures { option_copied result ≡ bound_behind slot.now after.entry (rows self.now) };
 
     /// It has a first row, by whose slot it stands.
     ghost begins: { (x : Self) → is_part x ≡ true → Begins (rows x) (Self.place x) };
+}
+
+/// Where the next part of some items ends, where a part has no more than so many: half of them, until the rest fits.
+pub(crate) fn end_of(from: usize, len: usize, most: usize) -> usize
+    requires from { from < len }
+    requires most { 2 ≤ most }
+    ensures more { from < result }
+    ensures within { result ≤ len }
+    ensures few { result ≤ from + most }
+    ensures rest { len ≤ from + most → result ≡ len }
+    ensures half { from + most < len → result ≡ from + most / 2 }
+{
+    if len - from <= most {
+        len
+    } else {
+        from + most / 2
+    }
 }
 
 /// How many writes are of slots before this one.
@@ -140,9 +163,7 @@ fn share_front<P: Part>(
     ensures rows { OnOk result (flat_map P.rows out.new.items ≡ flat_map P.rows out.old.items ++ flat_map P.rows (take count parts.now)) }
     ensures parts { OnOk result (IsTrue (list_all P.is_part out.new.items)) }
 {
-    for part in &parts[..count] {
-        out.push(part.share()?)?;
-    }
+    add_shared(&parts[..count], out)?;
     Ok(())
 }
 
@@ -179,14 +200,13 @@ pub(crate) fn run_from<'a, P: Part, L: Ledger>(
     edge: &Edge<'_>,
     steps: &mut Steps<L>,
 ) -> &'a [Shared<Row>]
+    requires some { 0 < length parts.now }
     requires parts { IsTrue (list_all P.is_part parts.now) }
     requires in_order { IsTrue (rising (flat_map P.rows parts.now)) }
     ensures run { IsRun result.now (rows_from edge.now (flat_map P.rows parts.now)) }
     ensures more { steps.old ≤ steps.new }
+    ensures cost { SearchedIn P.bounds parts.now (2 ^ (steps.new - steps.old)) }
 {
-    if parts.is_empty() {
-        return &[];
-    }
     let at = part_at(parts, edge, steps);
     let run = parts[at].get().run_from(edge, steps);
     if run.is_empty() {
@@ -203,6 +223,7 @@ fn part_at<P: Part, L: Ledger>(parts: &[Shared<P>], edge: &Edge<'_>, steps: &mut
     ensures place { result ≡ reach (λ x. lies_before edge.now (P.place x)) (drop 1 parts.now) }
     ensures within { result < length parts.now }
     ensures more { steps.old ≤ steps.new }
+    ensures cost { 2 ^ (steps.new - steps.old) ≤ 2 * (length parts.now - 1) + 1 }
 {
     let (_, others) = parts.split_at(1);
     reach(others, edge, steps)
@@ -226,7 +247,7 @@ pub(crate) fn bound_to<'a, P: Part>(
     after: Option<&Slot>,
 ) -> Option<&'a Row>
     requires { IsTrue (list_all P.is_part parts.now) }
-    ensures { option_copied result ≡ row_bound_to slot.now (option_copied after.entry) (flat_map P.rows parts.now) }
+    ensures { option_copied result ≡ bound_behind slot.now after.entry (flat_map P.rows parts.now) }
 {
     for part in parts {
         let row = part.get().bound_to(slot, after);

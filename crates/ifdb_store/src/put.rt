@@ -1,5 +1,5 @@
 // Writes put into rows.
-ghost use Rattle.std.specs.Prelude.{◌≡◌, ◌≤◌, IfOk, IsTrue, OnOk, length};
+ghost use Rattle.std.specs.Prelude.{◌≡◌, ◌≤◌, ◌++◌, IfOk, IsTrue, OnOk, length};
 ghost use Rattle.std.specs.List.{list_any};
 ghost use Rattle.ifdb_row.specs.Slots.{is_same_slot, slot_lt};
 ghost use Rattle.ifdb_row.specs.Writes.{are_fitting};
@@ -88,8 +88,19 @@ pub(crate) fn shared<T: Drop>(
     ensures { IfOk result (λ all. all.items ≡ items.now) }
 {
     let mut all = Vec::with_capacity(alloc, room)?;
-    for item in items {
-        all.push(item.share()?)?;
-    }
+    add_shared(items, &mut all)?;
     Ok(all)
+}
+
+/// Adds the items, shared.
+pub(crate) fn add_shared<T: Drop>(
+    items: &[Shared<T>],
+    out: &mut Vec<Shared<T>>,
+) -> Result<(), OutOfMemory>
+    ensures { OnOk result (out.new.items ≡ out.old.items ++ items.now) }
+{
+    for item in items {
+        out.push(item.share()?)?;
+    }
+    Ok(())
 }

@@ -112,7 +112,7 @@ fn give_up(commits: &mut Vec<Commit>, oldest: u64)
 }
 
 /// Whether a commit is later than a stamp.
-pub(crate) fn is_later(commit: &Commit, stamp: u64) -> bool
+fn is_later(commit: &Commit, stamp: u64) -> bool
     ensures { result ≡ is_later stamp commit.now }
 {
     commit.stamp > stamp

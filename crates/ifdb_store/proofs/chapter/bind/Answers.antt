@@ -29,4 +29,6 @@ loop-from-preserved c =
       rows = c.in_ok-add_chapter.ensures.rows ∙ (ap (λ r. r ++ flat c.in_ok-part.part.items) i.rows ∙ (append_assoc old front (flat c.in_ok-part.part.items)
           ∙ (ap (λ r. old ++ (front ++ flat r)) part ∙ ap (λ r. old ++ r) (sym (flat_take_part (λ page. page) c.loop-from.from c.end_of-to.result c.args.pages.items (omega arith))))));
       chapters = c.in_ok-add_chapter.ensures.chapters;
+      left = search rules;
+      full = search rules;
     }

@@ -4,7 +4,8 @@ use Rattle.std.proofs.lemmas.List.{append_assoc, drop_all}
 use Rattle.ifdb_row.specs.Content.{after}
 use Rattle.ifdb_row.specs.Writes.{are_rising, are_fitting, is_fitting}
 use Rattle.ifdb_row.specs.declared.write.Write.{Write}
-use Rattle.ifdb_store.proofs.WriteLemmas.{rising_take, rising_drop, all_drop}
+use Rattle.ifdb_row.proofs.Merging.{rising_drop}
+use Rattle.ifdb_store.proofs.WriteLemmas.{rising_take, all_drop}
 use Rattle.ifdb_store.proofs.part.parts_after.Goals as goal
 
 pub part_after-requires-clause-rising : goal.part_after-requires-clause-rising

@@ -1,4 +1,4 @@
-use Rattle.std.proofs.Common.{◌≡◌, ◌<◌, ◌+◌, ◌++◌, ◌∙◌, [], ap, sym, length, drop, rules}
+use Rattle.std.proofs.Common.{◌≡◌, ◌+◌, ◌-◌, ◌^◌, ◌++◌, subst, arith, ◌∙◌, [], ap, sym, drop, rules}
 use Rattle.std.specs.List.{flat_map}
 use Rattle.ifdb_row.specs.declared.row.Row.{Row}
 use Rattle.ifdb_row.specs.Edges.{lies_before}
@@ -6,13 +6,14 @@ use Rattle.ifdb_row.specs.Questions.{IsRun, rows_from}
 use Rattle.ifdb_row.specs.Reach.{skip}
 use Rattle.ifdb_row.proofs.Edges.{edge_falls}
 use Rattle.ifdb_store.proofs.FindLemmas.{skipped_at, run_more, same_run, empty_run, some_run}
+use Rattle.ifdb_store.proofs.Costs.{pow_join}
 use Rattle.ifdb_store.proofs.part.run_from.Goals as goal
 
-pub returns-then-is_empty-2-clause-run : goal.returns-then-is_empty-2-clause-run
-returns-then-is_empty-2-clause-run g c =
+pub returns-then-is_empty-clause-run : goal.returns-then-is_empty-clause-run
+returns-then-is_empty-clause-run g c =
     let p = lies_before c.args.edge.now in
     let y = c.index-parts-at.result in
-    let some : 0 < length c.args.parts.now = search rules in
+    let some = c.requires.some in
     let all = skipped_at p (edge_falls c.args.edge.now) g.P.Part.rows g.P.Placed.place g.P.Part.is_part g.met.P.Part.begins c.args.parts.now c.part_at-at.result y some c.part_at-at.ensures.place c.index-parts-at.is c.requires.parts c.requires.in_order in
     let found : IsRun c.run_from-run.result.now (skip (λ (r : Row). p r.slot) (g.P.Part.rows c.get.result.now)) = c.run_from-run.ensures.run in
     let no : c.run_from-run.result.now ≡ [] = empty_run c.run_from-run.result.now (search rules) in
@@ -24,10 +25,32 @@ pub returns-clause-run : goal.returns-clause-run
 returns-clause-run g c =
     let p = lies_before c.args.edge.now in
     let y = c.index-parts-at.result in
-    let some : 0 < length c.args.parts.now = search rules in
+    let some = c.requires.some in
     let all = skipped_at p (edge_falls c.args.edge.now) g.P.Part.rows g.P.Placed.place g.P.Part.is_part g.met.P.Part.begins c.args.parts.now c.part_at-at.result y some c.part_at-at.ensures.place c.index-parts-at.is c.requires.parts c.requires.in_order in
     let found : IsRun c.run_from-run.result.now (skip (λ (r : Row). p r.slot) (g.P.Part.rows c.get.result.now)) = c.run_from-run.ensures.run in
     let here : IsRun c.run_from-run.result.now (skip (λ (r : Row). p r.slot) (g.P.Part.rows y)) = same_run c.run_from-run.result.now _ _ (ap (λ x. skip (λ (r : Row). p r.slot) (g.P.Part.rows x)) c.get.ensures) found in
     let is = some_run c.run_from-run.result.now (search rules) in
     let rest = flat_map g.P.Part.rows (drop (c.part_at-at.result + 1) c.args.parts.now) in
     same_run c.run_from-run.result.now _ (rows_from c.args.edge.now (flat_map g.P.Part.rows c.args.parts.now)) (sym all) (run_more c.run_from-run.result.now (skip (λ (r : Row). p r.slot) (g.P.Part.rows y)) rest here is)
+
+pub returns-then-is_empty-clause-cost : goal.returns-then-is_empty-clause-cost
+returns-then-is_empty-clause-cost g c = record {
+  part = c.index-parts-at.result;
+  place = c.part_at-at.result;
+  there = c.part_at-at.ensures.within;
+  is = c.index-parts-at.is;
+  inside = 2 ^ (c.run_from-run.new.steps - c.part_at-at.new.steps);
+  bounded = subst (λ x. g.P.Part.bounds x (2 ^ (c.run_from-run.new.steps - c.part_at-at.new.steps))) c.get.ensures c.run_from-run.ensures.cost;
+  product = pow_join c.args.steps.now c.part_at-at.new.steps c.run_from-run.new.steps _ _ c.part_at-at.ensures.more c.run_from-run.ensures.more c.part_at-at.ensures.cost (omega arith);
+}
+
+pub returns-clause-cost : goal.returns-clause-cost
+returns-clause-cost g c = record {
+  part = c.index-parts-at.result;
+  place = c.part_at-at.result;
+  there = c.part_at-at.ensures.within;
+  is = c.index-parts-at.is;
+  inside = 2 ^ (c.run_from-run.new.steps - c.part_at-at.new.steps);
+  bounded = subst (λ x. g.P.Part.bounds x (2 ^ (c.run_from-run.new.steps - c.part_at-at.new.steps))) c.get.ensures c.run_from-run.ensures.cost;
+  product = pow_join c.args.steps.now c.part_at-at.new.steps c.run_from-run.new.steps _ _ c.part_at-at.ensures.more c.run_from-run.ensures.more c.part_at-at.ensures.cost (omega arith);
+}

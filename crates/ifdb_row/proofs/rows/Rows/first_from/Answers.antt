@@ -9,4 +9,4 @@ use Rattle.ifdb_row.proofs.rows.Rows.first_from.Goals as goal
 pub returns-clause-row : goal.returns-clause-row
 returns-clause-row g c =
     let rows = g.Self.Rows.rows c.args.self.now in
-    c.first.ensures ∙ (sym (first_of_run c.run_from.result.now (rows_from c.args.edge.now rows) c.run_from.ensures.run) ∙ sym (find_skip (λ (r : Row). lies_before c.args.edge.now r.slot) rows))
+    c.first_of_run.ensures ∙ (sym (first_of_run c.run_from.result.now (rows_from c.args.edge.now rows) c.run_from.ensures.run) ∙ sym (find_skip (λ (r : Row). lies_before c.args.edge.now r.slot) rows))

@@ -1,0 +1,25 @@
+-- What searches cost. A search that made s comparisons is said to cost 2 ^ s.
+use Rattle.std.specs.Prelude.{◌≡◌, ℕ, List, ◌+◌, ◌-◌, ◌*◌, ◌<◌, ◌≤◌, length, get_or}
+use Rattle.ifdb_row.specs.declared.row.Row.{Row}
+use Rattle.ifdb_store.specs.Pages.{flat}
+
+-- a search in a page costs no more than this
+abbrev pub PageBounds : List Row → ℕ → Type 0
+PageBounds rows cost = cost ≤ 2 * length rows + 1
+
+-- a search among some parts, and then in one of them
+pub record SearchedIn {X : Type 0} (bounds : X → ℕ → Type 0) (parts : List X) (cost : ℕ) : Type 0 where
+  pub part : X
+  pub place : ℕ
+  pub there : place < length parts
+  pub is : part ≡ get_or parts place part
+  pub inside : ℕ
+  pub bounded : bounds part inside
+  pub product : cost ≤ (2 * (length parts - 1) + 1) * inside
+
+-- a search in a chapter costs a square at most, of no more than its rows and 1, and of no more than 320
+pub record ChapterBounds (pages : List (List Row)) (cost : ℕ) : Type 0 where
+  pub side : ℕ
+  pub within : side ≤ length (flat pages) + 1
+  pub few : side ≤ 320
+  pub square : cost ≤ side * side
