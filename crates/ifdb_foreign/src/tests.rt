@@ -127,11 +127,22 @@ static BREAKINGS: [Breaking; 14] = [
     Breaking(&[], None, None),
     // A row of another table, a child of a row that stands, and one of a row that doesn't.
     Breaking(&[Put(Place(3, 7, Low), Holds::Row(&[]))], None, None),
-    Breaking(&[Put(Place(1, 12, Low), Holds::Row(&[Place(0, 4, Low)]))], None, None),
-    Breaking(&[Put(Place(1, 12, Low), Holds::Row(&[Place(0, 4, First)]))], Some(12), None),
+    Breaking(
+        &[Put(Place(1, 12, Low), Holds::Row(&[Place(0, 4, Low)]))],
+        None,
+        None,
+    ),
+    Breaking(
+        &[Put(Place(1, 12, Low), Holds::Row(&[Place(0, 4, First)]))],
+        Some(12),
+        None,
+    ),
     // The second of two parents doesn't stand.
     Breaking(
-        &[Put(Place(2, 22, Low), Holds::Row(&[Place(0, 4, Low), Place(0, 3, Low)]))],
+        &[Put(
+            Place(2, 22, Low),
+            Holds::Row(&[Place(0, 4, Low), Place(0, 3, Low)]),
+        )],
         Some(22),
         None,
     ),
@@ -199,8 +210,7 @@ fn writes_break_references(rt: HostRuntime) -> Result<(), Fail> {
         let writes = writes_of(alloc, &tags, puts)?;
         let broke = first_broken(&rows, &writes).map(|write| key_of(&write.slot));
         assert_eq!(rt; broke, *broken);
-        let lost =
-            first_left(&rows, &writes).map(|row| (key_of(row.child), key_of(row.parent)));
+        let lost = first_left(&rows, &writes).map(|row| (key_of(row.child), key_of(row.parent)));
         assert_eq!(rt; lost, *left);
     }
     Ok(())

@@ -35,10 +35,10 @@ pub matched_by_key : (tags : List MadeTag) (rows : List Row) (t : ℕ) (places :
 matched_by_key tags [] t places key cond label k h = refl
 matched_by_key tags (r ∷ rows) t places key cond label k h =
     by (matched_by_key tags rows t places key cond label k (grind (arith, nat_tests))) (is_matched t cond r) refl where
-  by : filter (is_wanted tags cond label) (filter (is_further t key None) rows) ≡ matched tags rows t cond label → (b : Bool) → is_matched t cond r ≡ b
-      → filter (is_wanted tags cond label) (filter (is_further t key None) (r ∷ rows)) ≡ matched tags (r ∷ rows) t cond label
-  by more true m = let e = one_of_key t places key cond r k (grind (arith, nat_tests)) m in grind (arith, nat_tests, more)
-  by more false m = grind (arith, nat_tests, more)
+      by : filter (is_wanted tags cond label) (filter (is_further t key None) rows) ≡ matched tags rows t cond label → (b : Bool) → is_matched t cond r ≡ b
+          → filter (is_wanted tags cond label) (filter (is_further t key None) (r ∷ rows)) ≡ matched tags (r ∷ rows) t cond label
+      by more true m = let e = one_of_key t places key cond r k (grind (arith, nat_tests)) m in grind (arith, nat_tests, more)
+      by more false m = grind (arith, nat_tests, more)
 
 -- one row of the key more
 pub kept_next : (t : ℕ) (key : List Value) (p : Row → Bool) (after : Option (List ℕ)) (rows kept more all : List Row) (x : Row) → rising rows ≡ true

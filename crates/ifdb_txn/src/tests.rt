@@ -19,15 +19,16 @@ use crate::statement::{Writer, delete_matched, insert_counted, update_matched, w
 use crate::target::Target;
 use crate::written::Written;
 use ifdb_bound::{
-    Bound, BoundAssignment, BoundAssignments, BoundColumn, BoundCond, BoundExpr, BoundOperand, Change,
-    Foreign, Foreigns, Places, Schema,
+    Bound, BoundAssignment, BoundAssignments, BoundColumn, BoundCond, BoundExpr, BoundOperand,
+    Change, Foreign, Foreigns, Places, Schema,
 };
 use ifdb_catalog::Catalog;
 use ifdb_foreign::Standpoint;
 use ifdb_label::{Label, Tag, TagFault, TagKind, Tags};
 use ifdb_row::{Key, ListRows, OutOfMemory, Refs, Row, Slot, Values, Write};
 use ifdb_value::{
-    Box, Column, Columns, Compare, Name, Principal, Shared, TableId, Value, ValueKind, ValueRow, ValueRows,
+    Box, Column, Columns, Compare, Name, Principal, Shared, TableId, Value, ValueKind, ValueRow,
+    ValueRows,
 };
 use ifdb_wire::Fault;
 use std::alloc::Global;
@@ -107,45 +108,202 @@ struct Case(Which, At, At, Does, Comes);
 
 static CASES: [Case; 29] = [
     // New keys: what a label sees decides, the statement's own rows too.
-    Case(Note, Low, Low, Insert(&[(5, 50)]), Writes(1, &[Wrote(5, Some(50), None)])),
-    Case(Note, Low, Low, Insert(&[(9, 90)]), Writes(1, &[Wrote(9, Some(90), None)])),
-    Case(Note, High, Low, Insert(&[(9, 90)]), Refused(Fault::DuplicateKey)),
-    Case(Note, High, Low, Insert(&[(2, 20)]), Refused(Fault::DuplicateKey)),
-    Case(Note, Low, Low, Insert(&[(6, 1), (5, 2)]), Writes(2, &[Wrote(5, Some(2), None), Wrote(6, Some(1), None)])),
-    Case(Note, Low, Low, Insert(&[(5, 1), (6, 2), (5, 3)]), Refused(Fault::DuplicateKey)),
+    Case(
+        Note,
+        Low,
+        Low,
+        Insert(&[(5, 50)]),
+        Writes(1, &[Wrote(5, Some(50), None)]),
+    ),
+    Case(
+        Note,
+        Low,
+        Low,
+        Insert(&[(9, 90)]),
+        Writes(1, &[Wrote(9, Some(90), None)]),
+    ),
+    Case(
+        Note,
+        High,
+        Low,
+        Insert(&[(9, 90)]),
+        Refused(Fault::DuplicateKey),
+    ),
+    Case(
+        Note,
+        High,
+        Low,
+        Insert(&[(2, 20)]),
+        Refused(Fault::DuplicateKey),
+    ),
+    Case(
+        Note,
+        Low,
+        Low,
+        Insert(&[(6, 1), (5, 2)]),
+        Writes(2, &[Wrote(5, Some(2), None), Wrote(6, Some(1), None)]),
+    ),
+    Case(
+        Note,
+        Low,
+        Low,
+        Insert(&[(5, 1), (6, 2), (5, 3)]),
+        Refused(Fault::DuplicateKey),
+    ),
     Case(Note, Low, Low, Insert(&[]), Writes(0, &[])),
     // Parents: the first row of the key that may serve, and the first row's refusal before the next row's.
-    Case(Visit, Low, Low, Insert(&[(20, 2)]), Writes(1, &[Wrote(20, Some(2), Some(Low))])),
-    Case(Visit, High, Low, Insert(&[(20, 1)]), Writes(1, &[Wrote(20, Some(1), Some(High))])),
-    Case(Visit, High, High, Insert(&[(20, 1)]), Writes(1, &[Wrote(20, Some(1), Some(Low))])),
-    Case(Visit, High, Low, Insert(&[(20, 2)]), Refused(Fault::NoReference)),
-    Case(Visit, Low, Low, Insert(&[(20, 6)]), Refused(Fault::NoReference)),
-    Case(Visit, Low, Low, Insert(&[(20, 6), (10, 1)]), Refused(Fault::NoReference)),
-    Case(Visit, Low, Low, Insert(&[(10, 6), (20, 6)]), Refused(Fault::DuplicateKey)),
+    Case(
+        Visit,
+        Low,
+        Low,
+        Insert(&[(20, 2)]),
+        Writes(1, &[Wrote(20, Some(2), Some(Low))]),
+    ),
+    Case(
+        Visit,
+        High,
+        Low,
+        Insert(&[(20, 1)]),
+        Writes(1, &[Wrote(20, Some(1), Some(High))]),
+    ),
+    Case(
+        Visit,
+        High,
+        High,
+        Insert(&[(20, 1)]),
+        Writes(1, &[Wrote(20, Some(1), Some(Low))]),
+    ),
+    Case(
+        Visit,
+        High,
+        Low,
+        Insert(&[(20, 2)]),
+        Refused(Fault::NoReference),
+    ),
+    Case(
+        Visit,
+        Low,
+        Low,
+        Insert(&[(20, 6)]),
+        Refused(Fault::NoReference),
+    ),
+    Case(
+        Visit,
+        Low,
+        Low,
+        Insert(&[(20, 6), (10, 1)]),
+        Refused(Fault::NoReference),
+    ),
+    Case(
+        Visit,
+        Low,
+        Low,
+        Insert(&[(10, 6), (20, 6)]),
+        Refused(Fault::DuplicateKey),
+    ),
     // UPDATE: matched rows count, written with their values or not.
     Case(Note, Low, Low, Set(0, Where::Id(6)), Writes(0, &[])),
-    Case(Note, Low, Low, Set(0, Where::Id(1)), Writes(1, &[Wrote(1, Some(0), None)])),
-    Case(Note, Low, Low, Keep(Where::Id(2)), Writes(1, &[Wrote(2, Some(7), None)])),
-    Case(Note, High, Low, Set(0, Where::Id(1)), Refused(Fault::WriteLabel)),
-    Case(Note, High, Low, Set(0, Where::Number(6)), Writes(1, &[Wrote(1, Some(0), None)])),
-    Case(Note, High, Low, Set(0, Where::All), Refused(Fault::WriteLabel)),
-    Case(Note, Low, Low, Add(1, Where::All), Refused(Fault::OutOfRange)),
+    Case(
+        Note,
+        Low,
+        Low,
+        Set(0, Where::Id(1)),
+        Writes(1, &[Wrote(1, Some(0), None)]),
+    ),
+    Case(
+        Note,
+        Low,
+        Low,
+        Keep(Where::Id(2)),
+        Writes(1, &[Wrote(2, Some(7), None)]),
+    ),
+    Case(
+        Note,
+        High,
+        Low,
+        Set(0, Where::Id(1)),
+        Refused(Fault::WriteLabel),
+    ),
+    Case(
+        Note,
+        High,
+        Low,
+        Set(0, Where::Number(6)),
+        Writes(1, &[Wrote(1, Some(0), None)]),
+    ),
+    Case(
+        Note,
+        High,
+        Low,
+        Set(0, Where::All),
+        Refused(Fault::WriteLabel),
+    ),
+    Case(
+        Note,
+        Low,
+        Low,
+        Add(1, Where::All),
+        Refused(Fault::OutOfRange),
+    ),
     Case(
         Note,
         Low,
         Low,
         Add(-1, Where::NumberAbove(6)),
-        Writes(3, &[Wrote(2, Some(6), None), Wrote(3, Some(i64::MAX - 1), None), Wrote(4, Some(7), None)]),
+        Writes(
+            3,
+            &[
+                Wrote(2, Some(6), None),
+                Wrote(3, Some(i64::MAX - 1), None),
+                Wrote(4, Some(7), None),
+            ],
+        ),
     ),
     // A child is bound anew where its column is assigned, whatever it is assigned.
-    Case(Visit, Low, Low, Set(4, Where::Id(10)), Writes(1, &[Wrote(10, Some(4), Some(Low))])),
-    Case(Visit, High, High, Keep(Where::Id(11)), Writes(1, &[Wrote(11, Some(1), Some(Low))])),
-    Case(Visit, Low, Low, Set(6, Where::All), Refused(Fault::NoReference)),
+    Case(
+        Visit,
+        Low,
+        Low,
+        Set(4, Where::Id(10)),
+        Writes(1, &[Wrote(10, Some(4), Some(Low))]),
+    ),
+    Case(
+        Visit,
+        High,
+        High,
+        Keep(Where::Id(11)),
+        Writes(1, &[Wrote(11, Some(1), Some(Low))]),
+    ),
+    Case(
+        Visit,
+        Low,
+        Low,
+        Set(6, Where::All),
+        Refused(Fault::NoReference),
+    ),
     // DELETE, also of rows that nothing matches.
-    Case(Note, Low, Low, Delete(Where::Id(4)), Writes(1, &[Wrote(4, None, None)])),
+    Case(
+        Note,
+        Low,
+        Low,
+        Delete(Where::Id(4)),
+        Writes(1, &[Wrote(4, None, None)]),
+    ),
     Case(Note, Low, Low, Delete(Where::Id(9)), Writes(0, &[])),
-    Case(Note, High, Low, Delete(Where::NumberAbove(8)), Refused(Fault::WriteLabel)),
-    Case(Visit, Low, Low, Delete(Where::All), Writes(2, &[Wrote(10, None, None), Wrote(12, None, None)])),
+    Case(
+        Note,
+        High,
+        Low,
+        Delete(Where::NumberAbove(8)),
+        Refused(Fault::WriteLabel),
+    ),
+    Case(
+        Visit,
+        Low,
+        Low,
+        Delete(Where::All),
+        Writes(2, &[Wrote(10, None, None), Wrote(12, None, None)]),
+    ),
 ];
 
 #[test]
@@ -562,13 +720,7 @@ fn row_of(alloc: Global, tags: &Tags, one: &One) -> Result<Shared<Row>, OutOfMem
 }
 
 /// A slot.
-fn slot_of(
-    alloc: Global,
-    tags: &Tags,
-    which: Which,
-    id: i64,
-    at: At,
-) -> Result<Slot, OutOfMemory>
+fn slot_of(alloc: Global, tags: &Tags, which: Which, id: i64, at: At) -> Result<Slot, OutOfMemory>
     requires { length tags.now ≡ 1 }
     ensures { IfOk result (λ slot. AreMade (length tags.now) slot.label) }
 {
@@ -580,12 +732,7 @@ fn slot_of(
 }
 
 /// Whether a row, if it is of the table, has its key's values in these columns.
-fn is_keyed(
-    alloc: Global,
-    table: TableId,
-    key: &[usize],
-    row: &Row,
-) -> Result<bool, OutOfMemory>
+fn is_keyed(alloc: Global, table: TableId, key: &[usize], row: &Row) -> Result<bool, OutOfMemory>
     ensures { IfOk result (λ keyed. keyed ≡ is_keyed table key.now row.now) }
 {
     let values = values_at(alloc, row.values.items(), key)?;
