@@ -1,13 +1,6 @@
-pub mod NamedTags
-pub mod Columns
 pub mod Selects
-pub mod Meanings
-pub mod ColumnKinds
+pub mod NamedTags
 pub mod Listed
-pub mod Starred
-pub mod OutputNames
 pub mod SameKinds
-pub mod Lacking
-pub mod SelectChecks
 pub mod ViewChecks
-pub mod WriteChecks
+pub mod WrittenKeys

@@ -1,5 +1,5 @@
 -- The one SELECT that is answered so far, and what it is bound to.
-use Rattle.std.specs.Prelude.{ℕ, ◌+◌, List, [], ◌∷◌, bytes_eq, None, if◌then◌else◌}
+use Rattle.std.specs.Prelude.{ℕ, List, [], ◌∷◌, None}
 use Rattle.ifdb_syntax.specs.declared.expression.ColumnRef.{ColumnRef}
 use Rattle.ifdb_syntax.specs.declared.expression.Expr.TheVariants as e
 use Rattle.ifdb_syntax.specs.declared.select.Select.{Select}
@@ -33,9 +33,3 @@ bound_bare source column = record {
   group = [];
   order = [];
 }
-
--- the columns of a name in source 0, of those of these names from place j on
-abbrev pub places_among : List ℕ → ℕ → List (List ℕ) → List BoundColumn
-places_among name j [] = []
-places_among name j (n ∷ names) =
-    if bytes_eq n name then record { source = 0; column = j } ∷ places_among name (j + 1) names else places_among name (j + 1) names

@@ -1,9 +1,5 @@
 pub mod Built
 pub mod Bare
-pub mod Meaning
-pub mod Sources
-pub mod Lacks
 pub mod Listed
-pub mod Starred
 pub mod ViewBody
 pub mod Written

@@ -5,12 +5,12 @@ ghost use Rattle.ifdb_catalog.specs.Binding.{bound};
 
 use crate::inserts::{NewRows, insert};
 use crate::names::{NewTag, create_principal, create_tag, grant, revoke, set_label};
-use crate::select::select;
 use crate::tables::{NewTable, create_table};
 use crate::views::{NewView, create_view};
 use crate::writes::{Changes, delete, update};
 use ifdb_bound::Bound;
 use ifdb_catalog::Catalog;
+use ifdb_select::select;
 use ifdb_syntax::Request;
 use ifdb_value::Principal;
 use ifdb_wire::Fault;
@@ -19,7 +19,7 @@ use std::alloc::Global;
 /// A request of a principal with numbers for its names, as they stand in this catalog.
 ///
 /// Its refusals are those of the definition, each tested over the whole request before the next one; `OutOfMemory` where an
-/// allocation is refused, which may be before a refusal is known. GRANT, REVOKE and CREATE PRINCIPAL take no memory.
+/// allocation is refused, which may be before a refusal is known.
 ///
 /// A name of a principal, tag, table or view is looked up in the same time however many there are; a column among its sources' columns.
 #[tactic(auto, unfolding(ifdb_catalog::specs::Binding::bound))]

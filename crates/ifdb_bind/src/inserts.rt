@@ -9,13 +9,10 @@ ghost use Rattle.ifdb_catalog.specs.Statements.{are_listed, arranged, is_column_
 ghost use Rattle.ifdb_bind.specs.Listed.{each_once, listed_fits, places_in, values_at};
 
 use crate::OutOfMemory;
-use crate::kinds::same_kind;
-use crate::named::{place_named, times};
 use crate::names::label_named;
-use crate::scope::ScopeSource;
-use crate::sources::{columns_of, relation_named, source};
 use ifdb_bound::{Bound, Places, Relation};
 use ifdb_catalog::Catalog;
+use ifdb_select::{ScopeSource, columns_of, place_named, relation_named, same_kind, source, times};
 use ifdb_value::{Column, Name, Names, Value, ValueRow, ValueRows};
 use ifdb_wire::Fault;
 use std::alloc::Global;

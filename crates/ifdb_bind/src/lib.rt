@@ -4,17 +4,8 @@
 mod binding;
 mod built;
 mod inserts;
-mod kinds;
-mod meaning;
-mod named;
 mod names;
-mod outputs;
-mod queries;
-mod scope;
-mod select;
-mod sources;
 mod tables;
-mod terms;
 mod views;
 mod writes;
 

@@ -6,7 +6,7 @@ ghost use Rattle.ifdb_wire.specs.declared.fault.Fault.TheVariants.{OutOfMemory a
 ghost use Rattle.ifdb_catalog.specs.Public.{principal_named, tag_named};
 ghost use Rattle.ifdb_catalog.specs.Definitions.{tag_kind};
 ghost use Rattle.ifdb_catalog.specs.Statements.{are_tags, label_named, tags_named};
-ghost use Rattle.ifdb_bind.specs.Lacks.{Lacks};
+ghost use Rattle.ifdb_select.specs.Lacks.{Lacks};
 ghost use Rattle.ifdb_catalog.specs.Binding.{create_principal, create_tag, grant, revoke, set_label};
 
 use ifdb_bound::{Bound, Change, TagList};

@@ -8,14 +8,11 @@ ghost use Rattle.ifdb_catalog.specs.Binding.{create_table};
 ghost use Rattle.ifdb_catalog.specs.Definitions.{bound_foreign, foreign_fits, is_known_foreign, names_twice, refers_to_view, same_kinds};
 ghost use Rattle.ifdb_catalog.specs.Statements.{is_column_of, place_at, place_named, table_number};
 ghost use Rattle.ifdb_catalog.specs.Queries.{is_view, is_relation};
-ghost use Rattle.ifdb_bind.specs.Lacks.{Lacks};
+ghost use Rattle.ifdb_select.specs.Lacks.{Lacks};
 
-use crate::kinds::agree;
-use crate::named::{are_distinct, place_named};
-use crate::scope::kind_at;
-use crate::sources::relation_named;
 use ifdb_bound::{Bound, Change, Foreign, Foreigns, Places, Relation, Schema};
 use ifdb_catalog::Catalog;
+use ifdb_select::{agree, are_distinct, kind_at, place_named, relation_named};
 use ifdb_syntax::{ForeignKey, ForeignKeys};
 use ifdb_value::{Column, Columns, Name, Names, Principal, TableId};
 use ifdb_wire::Fault;

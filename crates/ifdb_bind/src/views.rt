@@ -11,15 +11,13 @@ ghost use Rattle.ifdb_catalog.specs.Scope.{scope_of};
 ghost use Rattle.ifdb_bind.specs.ViewBody.{view_of};
 
 use crate::OutOfMemory;
-use crate::named::are_distinct;
 use crate::names::label_named;
-use crate::outputs::{OutputName, output_names};
-use crate::queries::{bound_select, scope_of};
-use crate::scope::ScopeSource;
-use crate::select::select_fits;
 use ifdb_bound::{Bound, BoundSelect, Change, Relation, ViewDef};
 use ifdb_catalog::Catalog;
 use ifdb_label::Label;
+use ifdb_select::{
+    OutputName, ScopeSource, are_distinct, bound_select, output_names, scope_of, select_fits,
+};
 use ifdb_syntax::{Select, Source};
 use ifdb_value::{Name, Names, Principal};
 use ifdb_wire::Fault;

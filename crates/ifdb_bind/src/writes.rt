@@ -5,23 +5,22 @@ ghost use Rattle.ifdb_syntax.specs.declared.request.Assignment.{Assignment};
 ghost use Rattle.ifdb_bound.specs.Kinds.{where_fits};
 ghost use Rattle.ifdb_wire.specs.declared.fault.Fault.TheVariants.{OutOfMemory as NoMemory};
 ghost use Rattle.ifdb_catalog.specs.Binding.{delete, update};
-ghost use Rattle.ifdb_catalog.specs.Queries.{are_distinct, is_relation};
+ghost use Rattle.ifdb_catalog.specs.Queries.{are_distinct};
 ghost use Rattle.ifdb_catalog.specs.Public.{table_at};
 ghost use Rattle.ifdb_catalog.specs.Scope.{kinds_in};
-ghost use Rattle.ifdb_catalog.specs.Statements.{assignment_fits, bound_assignment, is_known_assignment};
-ghost use Rattle.ifdb_bind.specs.Lacks.{Lacks};
-ghost use Rattle.ifdb_bind.specs.Written.{is_of_key, table_source};
+ghost use Rattle.ifdb_catalog.specs.Statements.{assignment_fits, bound_assignment, is_known_assignment, label_named};
+ghost use Rattle.ifdb_catalog.specs.Terms.{bound_where};
+ghost use Rattle.ifdb_select.specs.Lacks.{Lacks};
+ghost use Rattle.ifdb_bind.specs.Written.{are_known, is_of_key};
 
-use crate::kinds::{agree, expr_kind, where_fits};
-use crate::named::are_distinct;
 use crate::names::label_named;
-use crate::queries::key_places;
-use crate::scope::ScopeSource;
-use crate::sources::{relation_named, source};
-use crate::tables::table_named;
-use crate::terms::{bound_expr, bound_where};
-use ifdb_bound::{Bound, BoundAssignment, BoundAssignments, BoundCond};
+use ifdb_bound::{Bound, BoundAssignment, BoundAssignments, BoundCond, Relation};
 use ifdb_catalog::Catalog;
+use ifdb_label::Label;
+use ifdb_select::{
+    ScopeSource, agree, are_distinct, bound_expr, bound_where, expr_kind, key_places,
+    relation_named, source, where_fits,
+};
 use ifdb_syntax::{Assignment, Cond};
 use ifdb_value::{Name, TableId};
 use ifdb_wire::Fault;
@@ -29,11 +28,11 @@ use std::alloc::Global;
 use std::slice::from_ref;
 
 /// DELETE.
-#[tactic(auto, using(crate::proofs::WriteChecks::delete_unnamed, crate::proofs::WriteChecks::named_stands))]
-pub(crate) fn delete(
+#[tactic(auto, unfolding(ifdb_catalog::specs::Check::judged))]
+pub(crate) fn delete<'a>(
     alloc: Global,
-    catalog: &Catalog,
-    table: &Name,
+    catalog: &'a Catalog,
+    table: &'a Name,
     cond: &Option<Cond>,
 ) -> Result<Bound, Fault>
     ensures bound { IfOk result (λ b. delete catalog.now table.now cond.now ≡ Ok b) }
@@ -41,30 +40,17 @@ pub(crate) fn delete(
 {
     let relation = relation_named(catalog, table)?;
     let target = source(alloc, catalog, table, relation)?;
-    delete_from(alloc, catalog, &target, table, cond)
-}
-
-/// DELETE from a table or view that stands.
-fn delete_from(
-    alloc: Global,
-    catalog: &Catalog,
-    target: &ScopeSource<'_>,
-    table: &Name,
-    cond: &Option<Cond>,
-) -> Result<Bound, Fault>
-    requires stands { is_relation catalog.now table.now ≡ true }
-    requires target { target.now ≡ table_source catalog.now table.now }
-    ensures bound { IfOk result (λ b. delete catalog.now table.now cond.now ≡ Ok b) }
-    ensures refused { IfErr result (λ fault. (fault ≡ NoMemory) ⊎ (delete catalog.now table.now cond.now ≡ Err fault)) }
-{
-    let scope = from_ref(target);
-    let cond = bound_where(alloc, scope, cond)?;
-    let table = table_named(catalog, table)?;
-    if where_fits(scope, &cond) {
-        Ok(Bound::Delete { table, cond })
-    } else {
-        Err(Fault::TypeMismatch)
+    let cond = bound_where(alloc, from_ref(&target), cond)?;
+    let Relation::Table(table) = &relation else {
+        return Err(Fault::NotATable);
+    };
+    if !where_fits(from_ref(&target), &cond) {
+        return Err(Fault::TypeMismatch);
     }
+    Ok(Bound::Delete {
+        table: *table,
+        cond,
+    })
 }
 
 /// What an UPDATE writes, and where.
@@ -78,12 +64,20 @@ pub(crate) struct Changes<'a> {
     pub(crate) tags: &'a [Name],
 }
 
+/// What an UPDATE writes, and where, with numbers for its names.
+#[derive(Drop)]
+struct KnownChanges {
+    assignments: BoundAssignments,
+    cond: Option<BoundCond>,
+    given: Label,
+}
+
 /// UPDATE.
-#[tactic(auto, using(crate::proofs::WriteChecks::update_unnamed, crate::proofs::WriteChecks::named_stands))]
-pub(crate) fn update(
+#[tactic(auto, unfolding(ifdb_catalog::specs::Check::judged), using(crate::proofs::WrittenKeys::keys_are_written))]
+pub(crate) fn update<'a>(
     alloc: Global,
-    catalog: &Catalog,
-    table: &Name,
+    catalog: &'a Catalog,
+    table: &'a Name,
     changes: Changes<'_>,
 ) -> Result<Bound, Fault>
     ensures bound { IfOk result
@@ -93,41 +87,53 @@ pub(crate) fn update(
 {
     let relation = relation_named(catalog, table)?;
     let target = source(alloc, catalog, table, relation)?;
-    update_in(alloc, catalog, &target, table, changes)
+    let known = known_changes(alloc, catalog, &target, changes)?;
+    let Relation::Table(table) = &relation else {
+        return Err(Fault::NotATable);
+    };
+    if writes_key(catalog, *table, known.assignments.items()) {
+        return Err(Fault::KeyColumn);
+    }
+    if !fits(&target, changes.assignments, &known) {
+        return Err(Fault::TypeMismatch);
+    }
+    let KnownChanges {
+        assignments,
+        cond,
+        given,
+    } = known;
+    Ok(Bound::Update {
+        table: *table,
+        assignments,
+        cond,
+        given,
+    })
 }
 
-/// UPDATE of a table or view that stands.
-fn update_in(
+/// The changes with numbers for their names.
+fn known_changes(
     alloc: Global,
     catalog: &Catalog,
     target: &ScopeSource<'_>,
-    table: &Name,
     changes: Changes<'_>,
-) -> Result<Bound, Fault>
-    requires stands { is_relation catalog.now table.now ≡ true }
-    requires target { target.now ≡ table_source catalog.now table.now }
-    ensures bound { IfOk result
-        (λ b. update catalog.now table.now changes.entry.assignments.now changes.entry.cond.now changes.entry.tags.now ≡ Ok b) }
-    ensures refused { IfErr result
-        (λ fault. (fault ≡ NoMemory) ⊎ (update catalog.now table.now changes.entry.assignments.now changes.entry.cond.now changes.entry.tags.now ≡ Err fault)) }
+) -> Result<KnownChanges, Fault>
+    ensures known { IfOk result (λ _.
+        are_known catalog.now target.now changes.entry.assignments.now changes.entry.cond.now changes.entry.tags.now ≡ true) }
+    ensures assignments { IfOk result
+        (λ known. known.assignments ≡ map (bound_assignment target.now.columns (target.now ∷ [])) changes.entry.assignments.now) }
+    ensures cond { IfOk result (λ known. known.cond ≡ bound_where (target.now ∷ []) changes.entry.cond.now) }
+    ensures given { IfOk result (λ known. known.given ≡ label_named catalog.now changes.entry.tags.now) }
+    ensures lacks { IfErr result (λ fault.
+        Lacks fault (are_known catalog.now target.now changes.entry.assignments.now changes.entry.cond.now changes.entry.tags.now)) }
 {
     let assignments = bound_assignments(alloc, target, changes.assignments)?;
     let cond = bound_where(alloc, from_ref(target), changes.cond)?;
     let given = label_named(alloc, catalog, changes.tags)?;
-    let table = table_named(catalog, table)?;
-    if writes_key(catalog, table, assignments.items()) {
-        return Err(Fault::KeyColumn);
-    }
-    if fits(target, changes.assignments, assignments.items(), &cond) {
-        Ok(Bound::Update {
-            table,
-            assignments,
-            cond,
-            given,
-        })
-    } else {
-        Err(Fault::TypeMismatch)
-    }
+    Ok(KnownChanges {
+        assignments,
+        cond,
+        given,
+    })
 }
 
 /// The assignments with places for their columns.
@@ -185,17 +191,14 @@ fn is_of_key(key: &[usize], assignment: &BoundAssignment) -> bool
 }
 
 /// Whether no column is written twice, each is given its kind, and the condition fits.
-fn fits(
-    target: &ScopeSource<'_>,
-    assignments: &[Assignment],
-    trees: &[BoundAssignment],
-    cond: &Option<BoundCond>,
-) -> bool
+fn fits(target: &ScopeSource<'_>, assignments: &[Assignment], known: &KnownChanges) -> bool
     ensures { result ≡ (are_distinct (map (λ (a : Assignment). a.column) assignments.now)
-        && list_all (assignment_fits target.now.columns (kinds_in (target.now ∷ []))) trees.now)
-        && where_fits (kinds_in (target.now ∷ [])) cond.now }
+        && list_all (assignment_fits target.now.columns (kinds_in (target.now ∷ []))) known.now.assignments)
+        && where_fits (kinds_in (target.now ∷ [])) known.now.cond }
 {
-    are_distinct(assignments) && have_kinds(target, trees) && where_fits(from_ref(target), cond)
+    are_distinct(assignments)
+        && have_kinds(target, known.assignments.items())
+        && where_fits(from_ref(target), &known.cond)
 }
 
 /// Whether each column that is written is given its kind.

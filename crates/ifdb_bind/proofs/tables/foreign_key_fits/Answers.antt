@@ -1,7 +1,7 @@
 use Rattle.std.proofs.Common.{◌∙◌, ap, sym, []}
 use Rattle.ifdb_bound.specs.declared.schema.Schema.{Schema}
 use Rattle.ifdb_catalog.specs.Definitions.{same_kinds}
-use Rattle.ifdb_bind.proofs.Columns.{no_table_at}
+use Rattle.ifdb_select.proofs.Columns.{no_table_at}
 use Rattle.ifdb_bind.proofs.tables.foreign_key_fits.Goals as goal
 
 pub returns-in-None : goal.returns-in-None

@@ -9,9 +9,9 @@ use Rattle.ifdb_catalog.specs.Statements.{are_tags, label_named}
 use Rattle.ifdb_catalog.specs.Definitions.{given, is_from_view, names_fit}
 use Rattle.ifdb_catalog.specs.Binding.{create_view}
 use Rattle.ifdb_catalog.proofs.Tests.{both_of}
-use Rattle.ifdb_bind.specs.Lacks.{Lacks}
+use Rattle.ifdb_select.specs.Lacks.{Lacks}
 use Rattle.ifdb_bind.specs.ViewBody.{view_of}
-use Rattle.ifdb_bind.proofs.Lacking.{lacks_first, lacks_second, refused, second_fails}
+use Rattle.ifdb_select.proofs.Lacking.{lacks_first, lacks_second, refused, second_fails}
 use Rattle.ifdb_bind.proofs.ViewChecks.{unknown, viewed, mismatched, accepted}
 use Rattle.ifdb_bind.proofs.views.body_over.Goals as goal
 

@@ -4,8 +4,8 @@ use Rattle.std.proofs.lemmas.Result.{err_from_is_err_and}
 use Rattle.ifdb_syntax.specs.declared.select.Source.{Source}
 use Rattle.ifdb_catalog.specs.Queries.{is_relation}
 use Rattle.ifdb_catalog.specs.Binding.{create_view}
-use Rattle.ifdb_bind.specs.Lacks.{Lacks}
-use Rattle.ifdb_bind.proofs.Lacking.{refused}
+use Rattle.ifdb_select.specs.Lacks.{Lacks}
+use Rattle.ifdb_select.proofs.Lacking.{refused}
 use Rattle.ifdb_bind.proofs.ViewChecks.{unknown_source}
 use Rattle.ifdb_bind.proofs.views.view_body.Goals as goal
 

@@ -1,0 +1,25 @@
+-- What lacks a part lacks the whole.
+use Rattle.std.proofs.Common.{◌≡◌, ◌⊎◌, inl, inr, refl, sym, ap, ◌∙◌, Bool, true, false, ◌&&◌, Result, Err}
+use Rattle.std.proofs.Common.{arith}
+use Rattle.std.proofs.lemmas.Bool.Decides.{nat_tests}
+use Rattle.ifdb_bound.specs.declared.request.Bound.{Bound}
+use Rattle.ifdb_wire.specs.declared.fault.Fault.{Fault}
+use Rattle.ifdb_wire.specs.declared.fault.Fault.TheVariants.{OutOfMemory, UnknownName}
+use Rattle.ifdb_select.specs.Lacks.{Lacks}
+
+pub lacks_first : (f : Fault) (a b : Bool) → Lacks f a → Lacks f (a && b)
+lacks_first f a b h = grind (arith, nat_tests)
+
+pub lacks_second : (f : Fault) (a b : Bool) → a ≡ true → Lacks f b → Lacks f (a && b)
+lacks_second f true b h k = k
+lacks_second f false b h k = grind (arith)
+
+-- a test fails where its second part does
+pub second_fails : (a b : Bool) → b ≡ false → a && b ≡ false
+second_fails true b h = h
+second_fails false b h = refl
+
+-- a request that lacks a name is refused for it
+pub refused : (f : Fault) (known : Bool) (r : Result Bound Fault) → Lacks f known → (known ≡ false → r ≡ Err UnknownName) → (f ≡ OutOfMemory) ⊎ (r ≡ Err f)
+refused f known r (inl h) k = inl h
+refused f known r (inr h) k = inr (k h.1 ∙ ap Err (sym h.0))

@@ -1,0 +1,4 @@
+pub mod Meaning
+pub mod Sources
+pub mod Lacks
+pub mod Starred
