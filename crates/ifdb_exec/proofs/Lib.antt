@@ -4,3 +4,4 @@ pub mod Probing
 pub mod Walking
 pub mod Answering
 mod Finding
+pub mod Neighbours

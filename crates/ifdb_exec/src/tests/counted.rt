@@ -1,0 +1,27 @@
+// Rows that count how often they are asked.
+ghost use Rattle.std.specs.Prelude.{◌≡◌};
+
+use ifdb_row::{Edge, ListRows, Row, Rows, Slot};
+use ifdb_value::Shared;
+use std::cell::Cell;
+
+/// Rows that count how often they are asked.
+#[derive(Drop)]
+pub(crate) struct CountedRows {
+    pub(crate) rows: ListRows,
+    pub(crate) asked: Cell<u32>,
+}
+
+impl Rows for CountedRows {
+    ghost rows = { λ r. r.rows };
+
+    fn run_from(&self, edge: &Edge<'_>) -> &[Shared<Row>] {
+        self.asked.set(self.asked.get().saturating_add(1));
+        self.rows.run_from(edge)
+    }
+
+    fn bound_to(&self, slot: &Slot, after: Option<&Slot>) -> Option<&Row> {
+        self.asked.set(self.asked.get().saturating_add(1));
+        self.rows.bound_to(slot, after)
+    }
+}
