@@ -4,6 +4,7 @@ ghost use Rattle.std.specs.Prelude.{◌<◌};
 mod ends;
 mod rows;
 mod spellings;
+mod statements;
 mod worlds;
 
 use super::*;

@@ -1,4 +1,3 @@
-pub mod Selects
 pub mod NamedTags
 pub mod Listed
 pub mod SameKinds

@@ -1,5 +1,3 @@
-pub mod Built
-pub mod Bare
 pub mod Listed
 pub mod ViewBody
 pub mod Written

@@ -2,7 +2,6 @@
 #![tactic(auto)]
 
 mod binding;
-mod built;
 mod inserts;
 mod names;
 mod tables;
@@ -10,5 +9,4 @@ mod views;
 mod writes;
 
 pub use binding::bind;
-pub use built::is_built;
 pub use ifdb_catalog::OutOfMemory;

@@ -1,6 +1,7 @@
 -- What stays true of sessions, tables and rows as entries are added.
 use Rattle.std.proofs.Common.{◌≡◌, ℕ, zero, suc, ◌<◌, ◌≤◌, Bool, true, List, [], ◌∷◌, ◌++◌, ◌∙◌, length, get_or, refl, sym, ap, subst, arith, Option, Some, None}
-use Rattle.std.specs.Prelude.{not, nat_lt}
+use Rattle.std.specs.Prelude.{not, nat_le, nat_lt, option_to_list}
+use Rattle.std.proofs.lemmas.List.{append-nil, map-append}
 use Rattle.std.specs.List.{list_all}
 use Rattle.std.proofs.Math.ListN.{set}
 use Rattle.std.proofs.lemmas.Bool.Decides.{nat_tests}
@@ -8,17 +9,20 @@ use Rattle.std.proofs.lemmas.Grind.{common_steps}
 use Rattle.ifdb_label.specs.Tags.{are_made}
 use Rattle.ifdb_row.specs.declared.row.Row.{Row}
 use Rattle.ifdb_value.proofs.Lists.{all_wider}
-use Rattle.ifdb_row.proofs.SlotOrder.{slot_itself}
-use Rattle.ifdb_row.proofs.ContentLaws.{all-place, rising_place}
+use Rattle.ifdb_bound.specs.declared.schema.ViewDef.{ViewDef}
 use Rattle.ifdb_bound.specs.declared.request.Change.{Change}
 use Rattle.ifdb_bound.specs.declared.request.Change.TheVariants as change
-use Rattle.ifdb_catalog.specs.Public.{Public, changed}
+use Rattle.ifdb_catalog.specs.Public.{KnownTag, Public, changed, tag_names}
+use Rattle.ifdb_catalog.specs.Fits.{change_fits, view_fits}
 use Rattle.ifdb_model.specs.Session.{Session, Txn, Seen, closed, in_txn}
 use Rattle.ifdb_model.specs.Log.{Entry, changes, commits}
-use Rattle.ifdb_row.specs.Seen.{are_rows_made}
-use Rattle.ifdb_db.specs.Rows.{with_row}
-use Rattle.ifdb_db.specs.Kept.{is_plain_table, IsSound, is_kept}
-use Rattle.ifdb_db.specs.Numbers.{is_plain_change}
+use Rattle.ifdb_view.specs.Made.{is_view_made, are_views_made}
+use Rattle.ifdb_laws.specs.RowLaws.{row_fits}
+use Rattle.ifdb_laws.proofs.rows.Fitting.{fits_changed}
+use Rattle.ifdb_db.specs.Kept.{IsSound, is_kept}
+use Rattle.ifdb_db.proofs.ViewLemmas.{view_is_made}
+use Rattle.ifdb_db.specs.Publishing.{new_tag}
+use Rattle.ifdb_db.specs.Reading.{is_narrow_change}
 use Rattle.ifdb_db.specs.Answer.{with_entry}
 use Rattle.ifdb_value.proofs.Lists.{all_at}
 
@@ -42,9 +46,6 @@ tags_grow_by x (Some (commits ws)) = omega arith
 
 pub made_more : (m n : ℕ) (label : List ℕ) → m ≤ n → are_made m label ≡ true → are_made n label ≡ true
 made_more m n label h k = all_wider (λ t. nat_lt t m) (λ t. nat_lt t n) label (λ t e. grind (arith, nat_tests)) k
-
-pub rows_made_more : (m n : ℕ) (rows : List Row) → m ≤ n → are_rows_made m rows ≡ true → are_rows_made n rows ≡ true
-rows_made_more m n rows h k = all_wider (λ (r : Row). are_made m r.slot.label) (λ (r : Row). are_made n r.slot.label) rows (λ r e. made_more m n r.slot.label h e) k
 
 -- ---- sessions
 
@@ -74,29 +75,48 @@ no_txn (Some x) h = cc
 
 -- ---- what is true of the public state and the rows
 
-sound_more : (p : Public) (c : Change) (rows : List Row) → IsSound p rows → (changed p c).views ≡ [] → list_all is_plain_table (changed p c).tables ≡ true → IsSound (changed p c) rows
-sound_more p c rows h v t = record {
-  views = v;
-  tables = t;
+view_made_more : (m n : ℕ) (v : ViewDef) → m ≤ n → is_view_made m v ≡ true → is_view_made n v ≡ true
+view_made_more m n v h k = grind (arith, nat_tests, made_more m n v.declassifying h)
+
+views_made_more : (m n : ℕ) (views : List ViewDef) → m ≤ n → are_views_made m views ≡ true → are_views_made n views ≡ true
+views_made_more m n views h k = all_wider (is_view_made m) (is_view_made n) views (λ v e. view_made_more m n v h e) k
+
+-- a view that fits, over four sources at most, can be computed
+new_view_made : (p : Public) (v : ViewDef) → view_fits p v ≡ true → nat_le (length v.select.sources) 4 ≡ true → is_view_made (length p.tags) v ≡ true
+new_view_made p v h k = let made = view_is_made p v h in grind (arith, nat_tests)
+
+views_changed : (p : Public) (c : Change) → change_fits p c ≡ true → is_narrow_change c ≡ true → are_views_made (length p.tags) p.views ≡ true
+    → are_views_made (length (changed p c).tags) (changed p c).views ≡ true
+views_changed p (change.Principal asker name key) f n h = h
+views_changed p (change.Tag asker name kind parents) f n h = views_made_more (length p.tags) (length (changed p (change.Tag asker name kind parents)).tags) p.views (tags_grow p (change.Tag asker name kind parents)) h
+views_changed p (change.Table asker schema) f n h = h
+views_changed p (change.View v) f n h = all_push (is_view_made (length p.tags)) p.views v (new_view_made p v f n) h
+views_changed p (change.Grant asker tag to) f n h = h
+views_changed p (change.Revoke asker tag from) f n h = h
+
+names_changed : (p : Public) (c : Change) → tag_names (changed p c) ≡ tag_names p ++ option_to_list (new_tag c)
+names_changed p (change.Principal asker name key) = sym (append-nil (tag_names p))
+names_changed p (change.Tag asker name kind parents) = map-append (λ (t : KnownTag). t.name) p.tags _
+names_changed p (change.Table asker schema) = sym (append-nil (tag_names p))
+names_changed p (change.View view) = sym (append-nil (tag_names p))
+names_changed p (change.Grant asker tag to) = sym (append-nil (tag_names p))
+names_changed p (change.Revoke asker tag from) = sym (append-nil (tag_names p))
+
+sound_changed : (p : Public) (c : Change) (rows : List Row) (names : List (List ℕ)) → change_fits p c ≡ true → is_narrow_change c ≡ true → IsSound p rows names
+    → IsSound (changed p c) rows (names ++ option_to_list (new_tag c))
+sound_changed p c rows names f n h = record {
+  names = ap (λ ns. ns ++ option_to_list (new_tag c)) h.names ∙ sym (names_changed p c);
+  views = views_changed p c f n h.views;
+  fit = all_wider (row_fits p) (row_fits (changed p c)) rows (λ r e. fits_changed p c r e) h.fit;
   in_order = h.in_order;
-  made = rows_made_more (length p.tags) (length (changed p c).tags) rows (tags_grow p c) h.made;
 }
 
-pub sound_changed : (p : Public) (c : Change) (rows : List Row) → is_plain_change c ≡ true → IsSound p rows → IsSound (changed p c) rows
-sound_changed p (change.Principal asker name key) rows e h = sound_more p (change.Principal asker name key) rows h h.views h.tables
-sound_changed p (change.Tag asker name kind parents) rows e h = sound_more p (change.Tag asker name kind parents) rows h h.views h.tables
-sound_changed p (change.Table asker schema) rows e h = sound_more p (change.Table asker schema) rows h h.views (all_push is_plain_table p.tables schema e h.tables)
-sound_changed p (change.View view) rows e h = cc
-sound_changed p (change.Grant asker tag to) rows e h = sound_more p (change.Grant asker tag to) rows h h.views h.tables
-sound_changed p (change.Revoke asker tag from) rows e h = sound_more p (change.Revoke asker tag from) rows h h.views h.tables
-
-pub sound_placed : (p : Public) (row : Row) (rows : List Row) → are_made (length p.tags) row.slot.label ≡ true → IsSound p rows → IsSound p (with_row row rows)
-sound_placed p row rows m h = record {
-  views = h.views;
-  tables = h.tables;
-  in_order = rising_place row.slot (Some row) rows (slot_itself row.slot) h.in_order;
-  made = all-place (λ (r : Row). are_made (length p.tags) r.slot.label) row.slot (Some row) rows (grind (arith, nat_tests)) h.made;
-}
+pub sound_after : (p q : Public) (c : Change) (rows : List Row) (names more : List (List ℕ)) (o : Option (List ℕ)) → q ≡ changed p c → o ≡ new_tag c → more ≡ names ++ option_to_list o
+    → change_fits p c ≡ true → is_narrow_change c ≡ true → IsSound p rows names → IsSound q rows more
+sound_after p q c rows names more o e t m f n h =
+    let back = sym e in
+    let same : names ++ option_to_list (new_tag c) ≡ more = ap (λ u. names ++ option_to_list u) (sym t) ∙ sym m in
+    subst (λ ns. IsSound q rows ns) same (subst (λ z. IsSound z rows (names ++ option_to_list (new_tag c))) back (sound_changed p c rows names f n h))
 
 -- ---- one session of many
 

@@ -1,9 +1,9 @@
-mod RowLemmas
-mod Selecting
-mod Inserting
 mod Keeping
 mod Greeting
-mod Bindings
 mod Naming
+mod Narrow
+mod ViewLemmas
 mod Answering
+mod Selecting
+mod Writing
 mod RoomLaws

@@ -1,76 +1,118 @@
--- What the SELECT of one column of one table comes to.
-use Rattle.std.proofs.Common.{◌≡◌, ℕ, Bool, true, false, List, [], ◌∷◌, ◌∙◌, refl, ap, Some, None}
-use Rattle.std.specs.Prelude.{map, filter, flat_map, option_map, ◌==◌}
+-- What a SELECT tells.
+use Rattle.std.proofs.Common.{◌≡◌, ℕ, Bool, true, false, List, [], ◌∷◌, length, refl, sym, ap, ◌∙◌, arith, ◌&&◌, inl, inr}
+use Rattle.std.specs.Prelude.{◌⊎◌, ◌==◌, Result, Ok, Err}
+use Rattle.std.specs.List.{list_all}
+use Rattle.std.proofs.lemmas.Bool.Decides.{nat_tests}
 use Rattle.ifdb_value.specs.declared.value.Value.{Value}
 use Rattle.ifdb_label.specs.Tags.{MadeTag}
-use Rattle.ifdb_label.specs.Label.{flows}
 use Rattle.ifdb_row.specs.declared.row.Row.{Row}
-use Rattle.ifdb_bound.specs.declared.expression.BoundExpr.TheVariants as expr
-use Rattle.ifdb_bound.specs.declared.select.BoundItem.{BoundItem}
-use Rattle.ifdb_bound.specs.declared.select.BoundItem.TheVariants as item
-use Rattle.ifdb_bound.specs.Expressions.{value_at}
-use Rattle.ifdb_bound.specs.Conditions.{passes}
-use Rattle.ifdb_bound.specs.Query.{SourceRow, Combination, values_of, all_some, answer_row, sorted_by, with_row, select}
-use Rattle.ifdb_bound.proofs.Meanings.{value_of-Column}
-use Rattle.ifdb_expr.specs.View.{table_rows}
-use Rattle.ifdb_expr.specs.Query.{answered}
+use Rattle.ifdb_bound.specs.declared.schema.ViewDef.{ViewDef}
+use Rattle.ifdb_bound.specs.declared.select.BoundSelect.{BoundSelect}
+use Rattle.ifdb_bound.specs.declared.select.BoundSource.{BoundSource}
+use Rattle.ifdb_bound.specs.declared.select.Relation.{Relation}
+use Rattle.ifdb_bound.specs.declared.select.Relation.TheVariants as relation
+use Rattle.ifdb_row.specs.Slots.{is_same_key}
+use Rattle.ifdb_plan.specs.Keys.{fields}
+use Rattle.ifdb_exec.specs.Given.{is_keyed}
+use Rattle.ifdb_view.specs.Keyed.{is_relation_keyed, are_sources_keyed, are_views_keyed}
+use Rattle.ifdb_expr.specs.Query.{QueryFault, view_authority, out_of_range, query}
+use Rattle.ifdb_view.specs.declared.fault.ViewFault.{ViewFault}
+use Rattle.ifdb_view.specs.declared.fault.ViewFault.TheVariants as view
+use Rattle.ifdb_view.specs.Faults.{TellsQuery}
+use Rattle.ifdb_view.specs.Made.{setting}
+use Rattle.ifdb_wire.specs.declared.fault.Fault.{Fault}
+use Rattle.ifdb_wire.specs.declared.fault.Fault.TheVariants as fault
+use Rattle.ifdb_wire.specs.declared.reply.Reply.{Reply}
 use Rattle.ifdb_wire.specs.declared.reply.Reply.TheVariants as reply
-use Rattle.ifdb_catalog.specs.Public.{Public, tags_of}
-use Rattle.ifdb_model.specs.Query.{setting_of, table_reply, select_reply}
-use Rattle.ifdb_db.specs.Rows.{shown_values}
-use Rattle.ifdb_db.specs.Numbers.{column_of, one_column}
+use Rattle.ifdb_catalog.specs.Public.{Public, tags_of, tag_names, has_tags, table_at}
+use Rattle.ifdb_catalog.specs.Fits.{same_places, source_fits, query_fits, view_fits, state_fits}
+use Rattle.ifdb_catalog.specs.Queries.{key_of}
+use Rattle.ifdb_laws.specs.RowLaws.{row_fits}
+use Rattle.ifdb_model.specs.Query.{select_reply, table_reply}
+use Rattle.ifdb_db.specs.Selecting.{view_fault}
+use Rattle.ifdb_db.proofs.ViewLemmas.{first_of, rest_of, all_views_fit}
 
--- ---- the order
+-- whose views may be used
+abbrev owners_of : Public → ViewDef → Bool
+owners_of p v = has_tags p v.owner v.declassifying
 
-stays_first : (row : List Value) (rows : List (List Value)) → with_row [] row rows ≡ row ∷ rows
-stays_first row [] = refl
-stays_first row (r ∷ rows) = refl
+module _ (p : Public) (rows : List Row) (label : List ℕ) (s : BoundSelect) (tags : List MadeTag) (names : List (List ℕ)) (t : tags ≡ tags_of p) (n : names ≡ tag_names p) where
+  asked : select_reply p rows label s ≡ table_reply (length s.items) (query (setting tags names p.views (owners_of p)) rows label s)
+  asked =
+      let u = sym t in
+      let m = sym n in
+      λ i. table_reply (length s.items) (query (setting (u i) (m i) p.views (owners_of p)) rows label s)
 
-unsorted : (rows : List (List Value)) → sorted_by [] rows ≡ rows
-unsorted [] = refl
-unsorted (row ∷ rows) = ap (with_row [] row) (unsorted rows) ∙ stays_first row rows
+  -- the rows of the answer
+  pub table_told : (table : List (List Value)) → TellsQuery (query (setting tags names p.views (owners_of p)) rows label s) (Ok table)
+      → select_reply p rows label s ≡ reply.Rows (record { columns = length s.items; rows = table })
+  table_told table h = asked ∙ ap (table_reply (length s.items)) h
 
--- ---- the rows of the answer
+  -- the refusal
+  pub fault_told : (f : ViewFault) → TellsQuery (query (setting tags names p.views (owners_of p)) rows label s) (Err f)
+      → (view_fault f ≡ fault.OutOfMemory) ⊎ (select_reply p rows label s ≡ reply.Refused (view_fault f))
+  fault_told view.ViewAuthority h = inr (asked ∙ ap (table_reply (length s.items)) h)
+  fault_told view.OutOfRange h = inr (asked ∙ ap (table_reply (length s.items)) h)
+  fault_told view.OutOfMemory h = inl refl
 
-abbrev the_items : ℕ → List BoundItem
-the_items column = item.Expr (expr.Column (column_of column)) ∷ []
+-- a refusal by another name
+pub refused_as : {r q : Reply} {f g : Fault} → g ≡ f → q ≡ r → (f ≡ fault.OutOfMemory) ⊎ (r ≡ reply.Refused f) → (g ≡ fault.OutOfMemory) ⊎ (q ≡ reply.Refused g)
+refused_as e h (inl m) = inl (e ∙ m)
+refused_as e h (inr k) = inr (h ∙ k ∙ ap reply.Refused (sym e))
 
-one_row : (names : List (List ℕ)) (column : ℕ) (r : SourceRow) → answer_row names (the_items column) ((r ∷ []) ∷ []) ≡ Some (value_at r.values column ∷ [])
-one_row names column r = rw (value_of-Column (r.values ∷ []) (column_of column)) refl
+-- ---- rows by their keys
 
-abbrev shown : ℕ → List SourceRow → List (List Value)
-shown column rows = map (λ (r : SourceRow). value_at r.values column ∷ []) rows
+-- places that are the same are one list
+places_are : (xs ys : List ℕ) → same_places xs ys ≡ true → xs ≡ ys
+places_are [] [] h = refl
+places_are [] (y ∷ ys) h = cc
+places_are (x ∷ xs) [] h = cc
+places_are (x ∷ xs) (y ∷ ys) h =
+    let e : x ≡ y = grind (arith, nat_tests) in
+    let rest = places_are xs ys (grind (arith, nat_tests)) in
+    λ i. e i ∷ rest i
 
-abbrev alone : List Combination → List (List Combination)
-alone all = map (λ rows. rows ∷ []) all
+table_keyed : (p : Public) (t : ℕ) (rows : List Row) → list_all (row_fits p) rows ≡ true → is_keyed rows t (table_at p t).key ≡ true
+table_keyed p t [] h = refl
+table_keyed p t (r ∷ rows) h = by (table_keyed p t rows (grind (arith, nat_tests))) (r.slot.table == t) refl where
+  by : is_keyed rows t (table_at p t).key ≡ true → (b : Bool) → (r.slot.table == t) ≡ b → is_keyed (r ∷ rows) t (table_at p t).key ≡ true
+  by more true e =
+      let same : r.slot.table ≡ t = grind (arith, nat_tests) in
+      let one : is_same_key r.slot.key (fields (table_at p t).key r.values) ≡ true =
+      ap (λ n. is_same_key r.slot.key (fields (table_at p n).key r.values)) (sym same) ∙ grind (arith, nat_tests) in
+      grind (arith, nat_tests, more)
+  by more false e = grind (arith, nat_tests, more)
 
--- each row of the source gives one row of the answer
-each_row : (names : List (List ℕ)) (column : ℕ) (rows : List SourceRow)
-    → all_some (map (answer_row names (the_items column)) (alone (filter (λ c. passes None (values_of c)) (flat_map (λ (r : SourceRow). (r ∷ []) ∷ []) rows)))) ≡ Some (shown column rows)
-each_row names column [] = refl
-each_row names column (r ∷ rows) = rw (one_row names column r, each_row names column rows) refl
+source_keyed : (p : Public) (rows : List Row) (x : BoundSource) → list_all (row_fits p) rows ≡ true → source_fits p x ≡ true → is_relation_keyed rows x.key x.relation ≡ true
+source_keyed p rows x h f = by x.relation refl where
+  by : (o : Relation) → x.relation ≡ o → is_relation_keyed rows x.key o ≡ true
+  by (relation.View v) e = refl
+  by (relation.Table t) e =
+      let fits : same_places x.key (key_of p x.relation) ≡ true = grind (arith, nat_tests) in
+      let key : x.key ≡ (table_at p t).key = places_are x.key (key_of p x.relation) fits ∙ ap (key_of p) e in
+      let keyed : is_keyed rows t x.key ≡ true = ap (is_keyed rows t) key ∙ table_keyed p t rows h in
+      grind (arith, nat_tests)
 
-selected : (names : List (List ℕ)) (table : ℕ) (key : List ℕ) (column : ℕ) (rows : List SourceRow)
-    → select names (one_column table key column) (rows ∷ []) ≡ Some (shown column rows)
-selected names table key column rows =
-    ap (option_map (sorted_by [])) (each_row names column rows) ∙ ap Some (unsorted (shown column rows))
+-- the rows have their keys where the sources of a query that fits say so
+pub sources_keyed : (p : Public) (rows : List Row) (sources : List BoundSource) → list_all (row_fits p) rows ≡ true → list_all (source_fits p) sources ≡ true → are_sources_keyed rows sources ≡ true
+sources_keyed p rows [] h f = refl
+sources_keyed p rows (x ∷ sources) h f = let one = source_keyed p rows x h (grind (arith, nat_tests)) in grind (arith, nat_tests, sources_keyed p rows sources h)
 
--- ---- the rows of the source
+pub query_keyed : (p : Public) (rows : List Row) (s : BoundSelect) → list_all (row_fits p) rows ≡ true → query_fits p s ≡ true → are_sources_keyed rows s.sources ≡ true
+query_keyed p rows s h f = sources_keyed p rows s.sources h (grind (arith, nat_tests))
 
-shown_rows : (tags : List MadeTag) (rows : List Row) (table column : ℕ) (label : List ℕ)
-    → shown column (table_rows tags rows table label) ≡ shown_values tags rows table column label
-shown_rows tags [] table column label = refl
-shown_rows tags (r ∷ rows) table column label = by (flows tags r.slot.label label) (r.slot.table == table) refl refl (shown_rows tags rows table column label) where
-  by : (a b : Bool) → flows tags r.slot.label label ≡ a → (r.slot.table == table) ≡ b
-      → shown column (table_rows tags rows table label) ≡ shown_values tags rows table column label
-      → shown column (table_rows tags (r ∷ rows) table label) ≡ shown_values tags (r ∷ rows) table column label
-  by true true h k rest = rw (h, k) (ap (λ (v : List (List Value)). (value_at r.values column ∷ []) ∷ v) rest)
-  by true false h k rest = rw (h, k) rest
-  by false b h k rest = rw h rest
+both_are : (a b : Bool) → a ≡ true → b ≡ true → (a && b) ≡ true
+both_are true b h k = k
+both_are false b h k = h
 
--- the values in the column of the table's rows that the label sees
-pub select_one : (p : Public) (rows : List Row) (label : List ℕ) (table : ℕ) (key : List ℕ) (column : ℕ)
-    → select_reply p rows label (one_column table key column) ≡ reply.Rows (record { columns = 1; rows = shown_values (tags_of p) rows table column label })
-select_one p rows label table key column =
-    ap (λ o. table_reply 1 (answered o)) (selected (setting_of p).names table key column (table_rows (tags_of p) rows table label))
-    ∙ ap (λ v. reply.Rows (record { columns = 1; rows = v })) (shown_rows (tags_of p) rows table column label)
+views_are_keyed : (p : Public) (rows : List Row) (views : List ViewDef) → list_all (row_fits p) rows ≡ true → list_all (view_fits p) views ≡ true → are_views_keyed rows views ≡ true
+views_are_keyed p rows [] h f = refl
+views_are_keyed p rows (v ∷ views) h f =
+    let fits = first_of (view_fits p v) (list_all (view_fits p) views) f in
+    let rest = rest_of (view_fits p v) (list_all (view_fits p) views) f in
+    let one = query_keyed p rows v.select h (first_of (query_fits p v.select) _ fits) in
+    let more = views_are_keyed p rows views h rest in
+    both_are (are_sources_keyed rows v.select.sources) (are_views_keyed rows views) one more
+
+pub views_keyed : (p : Public) (rows : List Row) → list_all (row_fits p) rows ≡ true → state_fits p ≡ true → are_views_keyed rows p.views ≡ true
+views_keyed p rows h f = views_are_keyed p rows p.views h (all_views_fit p f)

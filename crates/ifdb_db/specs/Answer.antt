@@ -1,25 +1,16 @@
 -- What an open session without a transaction is answered, over what all see, and what its line adds to that.
-use Rattle.std.specs.Prelude.{◌≡◌, ◌⊎◌, ℕ, List, [], ◌∷◌, Option, Some, None, Result, Ok, Err, if◌then◌else◌}
-use Rattle.ifdb_value.specs.declared.value.Value.{Value}
-use Rattle.ifdb_label.specs.Tags.{MadeTag}
-use Rattle.ifdb_row.specs.declared.row.Row.{Row}
-use Rattle.ifdb_row.specs.declared.write.Write.{Write}
+use Rattle.std.specs.Prelude.{◌≡◌, ◌⊎◌, ℕ, List, Option, Some, None, Result, Ok, Err}
 use Rattle.ifdb_row.specs.Content.{after}
-use Rattle.ifdb_row.specs.Seen.{clash}
 use Rattle.ifdb_syntax.specs.declared.request.Request.{Request}
 use Rattle.ifdb_wire.specs.declared.fault.Fault.{Fault}
 use Rattle.ifdb_wire.specs.declared.fault.Fault.TheVariants as fault
-use Rattle.ifdb_wire.specs.declared.reply.Table.{Table}
 use Rattle.ifdb_wire.specs.declared.reply.Reply.{Reply}
-use Rattle.ifdb_wire.specs.declared.reply.Reply.TheVariants as reply
 use Rattle.ifdb_wire.specs.Text.{IsUnbounded}
-use Rattle.ifdb_catalog.specs.Public.{tags_of, changed}
+use Rattle.ifdb_catalog.specs.Public.{changed}
 use Rattle.ifdb_catalog.specs.Binding.{bound}
-use Rattle.ifdb_db.specs.Rows.{shown_values}
 use Rattle.ifdb_model.specs.Log.{Entry, changes, commits}
 use Rattle.ifdb_model.specs.Session.{Session, Seen}
-use Rattle.ifdb_model.specs.Writes.{new_write}
-use Rattle.ifdb_model.specs.Step.{Outcome, refuses, adds, Form, greets, publishes, relabels, shows_label, leaves_us, looks, writes, form_of, hello, bye, publish, set_label, show_label, look, write_bound}
+use Rattle.ifdb_model.specs.Step.{Outcome, refuses, Form, greets, publishes, relabels, shows_label, leaves_us, looks, writes, form_of, hello, bye, publish, set_label, show_label, look, write_bound}
 
 -- what all see once an entry is added, if one is
 abbrev pub with_entry : Seen → Option Entry → Seen
@@ -54,6 +45,11 @@ abbrev pub answered : Seen → Session → Result Request Fault → Outcome
 answered x s (Err f) = refuses s f
 answered x s (Ok r) = answered_by x s s.principal r
 
+-- the session with a new label, if it gets one
+abbrev pub with_label : Session → Option (List ℕ) → Session
+with_label s None = s
+with_label s (Some label) = record s { label = label }
+
 -- the fault is want of memory, or the one that the session is refused with
 abbrev pub IsRefusal : Outcome → Session → Fault → Type 0
 IsRefusal o s f = (f ≡ fault.OutOfMemory) ⊎ (o ≡ refuses s f)
@@ -79,25 +75,3 @@ IsAnswered o s t x y (Err f) = IsUndone o s t x y f
 abbrev pub IsStill : Session → Session → Seen → Seen → Result Reply Fault → Type 0
 IsStill s t x y (Ok r) = IsUnbounded r → (y ≡ x) × (t ≡ s)
 IsStill s t x y (Err f) = Unit {0}
-
--- ---- SELECT of one column
-
--- the table of the values in the column of a table that a label sees
-abbrev pub shown_table : Seen → ℕ → ℕ → List ℕ → Table
-shown_table x table column label = record { columns = 1; rows = shown_values (tags_of x.public) x.rows table column label }
-
--- ---- INSERT of one row of one value
-
--- the row
-abbrev pub value_row : ℕ → Value → List ℕ → Row
-value_row table value label = record { slot = record { table = table; key = value ∷ []; label = label }; values = value ∷ []; refs = [] }
-
--- its write
-abbrev pub value_write : ℕ → Value → List ℕ → Write
-value_write table value label = new_write (value_row table value label).slot (value ∷ []) []
-
--- refused exactly where the session sees a row of the key
-abbrev pub inserted : List MadeTag → List Row → Session → ℕ → Value → Outcome
-inserted tags rows s table value =
-    if clash tags rows table (value ∷ []) s.label then refuses s fault.DuplicateKey
-    else adds s (commits (value_write table value s.label ∷ [])) (reply.Count 1)

@@ -6,11 +6,11 @@ ghost use Rattle.ifdb_db.specs.Answer.{answered, IsAnswered, IsStill};
 ghost use Rattle.ifdb_db.specs.Reading.{read_line};
 
 mod answer;
-mod binding;
 mod hello;
 mod label;
 mod publish;
-mod statement;
+mod select;
+mod write;
 
 use crate::OutOfMemory;
 use crate::reading::read_line;
@@ -18,15 +18,19 @@ use crate::session::Session;
 use ifdb_catalog::Catalog;
 use ifdb_label::Tags;
 use ifdb_store::Content;
+use ifdb_value::Name;
 use ifdb_wire::{Fault, Reply};
 use std::alloc::Global;
 use std::marker::Model;
 
 /// What all sessions see: the public state, and the rows in the order of their slots.
+///
+/// The names of the tags stand once more in the order of the tags, since SELECT reads them by their numbers.
 #[derive(Drop)]
 pub struct Db {
     alloc: Global,
     catalog: Catalog,
+    names: Vec<Name>,
     rows: Content,
 }
 
@@ -44,7 +48,7 @@ impl Model for Db {
 
     ghost view = { λ d. record { public = d.catalog; rows = d.rows } };
 
-    ghost invariant = { λ d. IsSound d.catalog d.rows };
+    ghost invariant = { λ d. IsSound d.catalog d.rows d.names.items };
 }
 
 impl Db {
@@ -56,6 +60,7 @@ impl Db {
         Ok(Db {
             alloc,
             catalog: Catalog::opening(alloc)?,
+            names: Vec::new(alloc),
             rows: Content::new(alloc)?,
         })
     }

@@ -4,8 +4,8 @@
 mod db;
 mod reading;
 mod room;
-mod rows;
 mod session;
+mod views;
 
 pub use db::Db;
 pub use room::Room;

@@ -2,19 +2,18 @@
 ghost use Rattle.std.specs.Prelude.{◌≡◌, ◌⊎◌, Ok, Err, IfOk, IfErr, IsTrue};
 ghost use Rattle.ifdb_parse.specs.Parsed.{parsed};
 ghost use Rattle.ifdb_wire.specs.declared.fault.Fault.TheVariants.{OutOfMemory as NoMemory};
-ghost use Rattle.ifdb_bind.specs.Built.{is_built};
-ghost use Rattle.ifdb_db.specs.Reading.{read_line, request_or_fault};
+ghost use Rattle.ifdb_db.specs.Reading.{is_built, is_narrow, read_line, request_or_fault};
 
-use ifdb_bind::is_built;
 use ifdb_parse::{ParseFault, parse};
 use ifdb_syntax::Request;
 use ifdb_wire::Fault;
 use std::alloc::Global;
 
-/// The request of a line. After the faults of the line, a request of a form that isn't built yet is `Syntax(0)`.
+/// The request of a line. After the faults of the line, a request of a form that isn't answered yet is `Syntax(0)`.
+#[tactic(auto, using(crate::proofs::Narrow::read_narrow))]
 pub(crate) fn read_line(alloc: Global, line: &[u8]) -> Result<Request, Fault>
     ensures request { IfOk result (λ r. read_line line.now ≡ Ok r) }
-    ensures built { IfOk result (λ r. IsTrue (is_built r)) }
+    ensures narrow { IfOk result (λ r. IsTrue (is_narrow r)) }
     ensures refused { IfErr result (λ f. (f ≡ NoMemory) ⊎ (read_line line.now ≡ Err f)) }
 {
     let request = parse_line(alloc, line)?;
@@ -34,5 +33,15 @@ fn parse_line(alloc: Global, line: &[u8]) -> Result<Request, Fault>
         Err(ParseFault::Syntax(at)) => Err(Fault::Syntax(at)),
         Err(ParseFault::Limit) => Err(Fault::Limit),
         Err(ParseFault::OutOfMemory) => Err(Fault::OutOfMemory),
+    }
+}
+
+/// Whether a request is of a form that is answered so far.
+fn is_built(request: &Request) -> bool
+    ensures { result ≡ is_built request.now }
+{
+    match request {
+        Request::Begin | Request::Commit | Request::Rollback => false,
+        _ => true,
     }
 }

@@ -321,8 +321,8 @@ fn statements_write_or_are_refused(rt: HostRuntime) -> Result<(), Fail> {
 fn the_last_of_256_rows_clashes(rt: HostRuntime) -> Result<(), Fail> {
     let alloc = rt.alloc();
     let mut rows = ValueRows::new(alloc);
-    for number in 0..255 {
-        rows.push(values_of(alloc, 1000 - number, number)?)?;
+    for number in 0..255i64 {
+        rows.push(values_of(alloc, number.wrapping_add(100), number)?)?;
     }
     let fits = insert_rows(&rt, alloc, rows.items())?.is_ok();
     assert!(rt; fits);
@@ -474,8 +474,9 @@ fn came_of(
     let label = label_of(alloc, &tags, at)?;
     let given = label_of(alloc, &tags, given)?;
     let schema = schema_of(alloc, which)?;
+    let table = table_of(which);
     assert!(rt; rise(&rows));
-    assert!(rt; are_keyed(alloc, table_of(which), schema.key.items(), &rows)?);
+    assert!(rt; are_keyed(alloc, table, schema.key.items(), &rows)?);
     let rows = ListRows::new(rows);
     let target = Target {
         alloc,
@@ -484,7 +485,7 @@ fn came_of(
             label: &label,
             given: &given,
         },
-        table: table_of(which),
+        table,
         schema: &schema,
     };
     Ok(did(&target, &rows, does)?)

@@ -97,27 +97,6 @@ fn what_is_no_request_is_refused_at_its_place(rt: HostRuntime) -> Result<(), Fai
         (b"1 SHOW LABEL \xff".as_slice(), "1 ERR 1 Syntax 11\n"),
         (b"1 HELLO admin KEY 'x".as_slice(), "1 ERR 1 Syntax 16\n"),
         (b"1 BEGIN".as_slice(), "1 ERR 1 Syntax 0\n"),
-        (b"1 SELECT * FROM note".as_slice(), "1 ERR 1 Syntax 0\n"),
-        (
-            b"1 SELECT note.id FROM note".as_slice(),
-            "1 ERR 1 Syntax 0\n",
-        ),
-        (
-            b"1 SELECT id FROM note WHERE id = 1".as_slice(),
-            "1 ERR 1 Syntax 0\n",
-        ),
-        (
-            b"1 INSERT INTO note VALUES (1), (2)".as_slice(),
-            "1 ERR 1 Syntax 0\n",
-        ),
-        (
-            b"1 INSERT INTO note VALUES ('x')".as_slice(),
-            "1 ERR 1 Syntax 0\n",
-        ),
-        (
-            b"1 CREATE TABLE t (id TEXT, PRIMARY KEY (id))".as_slice(),
-            "1 ERR 1 Syntax 0\n",
-        ),
         (
             b"1 DELETE FROM note WHERE id = 9223372036854775809".as_slice(),
             "1 ERR 22 Limit\n",

@@ -1,9 +1,9 @@
 // What a session is answered.
 ghost use Rattle.std.specs.Prelude.{◌≡◌, IsTrue};
-ghost use Rattle.ifdb_bind.specs.Built.{is_built};
 ghost use Rattle.ifdb_model.specs.Step.{form_of, publishes, relabels, looks, writes, hello, bye, show_label};
 ghost use Rattle.ifdb_db.specs.Kept.{is_kept};
 ghost use Rattle.ifdb_db.specs.Answer.{answered_as, answered_by, answered_new, IsAnswered, IsStill};
+ghost use Rattle.ifdb_db.specs.Reading.{is_narrow};
 
 use super::Db;
 use crate::session::Session;
@@ -14,7 +14,7 @@ use ifdb_wire::{Fault, Reply};
 impl Db {
     /// Answers a request of a session. An error changes nothing, and want of memory is one.
     pub(super) fn answer(&mut self, session: &mut Session, request: Request) -> Result<Reply, Fault>
-        requires built { IsTrue (is_built request) }
+        requires narrow { IsTrue (is_narrow request) }
         requires kept { IsTrue (is_kept self.old.public session.old) }
         ensures answered { IsAnswered (answered_by self.old session.old session.old.principal request) session.old session.new self.old self.new result }
         ensures kept { IsTrue (is_kept self.new.public session.new) }
@@ -48,7 +48,7 @@ impl Db {
         asker: Principal,
         request: Request,
     ) -> Result<Reply, Fault>
-        requires built { IsTrue (is_built request) }
+        requires narrow { IsTrue (is_narrow request) }
         requires kept { IsTrue (is_kept self.old.public session.old) }
         ensures answered { IsAnswered (answered_as self.old session.old asker request (form_of request)) session.old session.new self.old self.new result }
         ensures kept { IsTrue (is_kept self.new.public session.new) }
@@ -59,16 +59,16 @@ impl Db {
             Request::CreatePrincipal { .. } => self.change(session, asker, request),
             Request::CreateTag { .. } => self.change(session, asker, request),
             Request::CreateTable { .. } => self.change(session, asker, request),
+            Request::CreateView { .. } => self.change(session, asker, request),
             Request::Grant { .. } => self.change(session, asker, request),
             Request::Revoke { .. } => self.change(session, asker, request),
             Request::SetLabel { .. } => self.set_label(session, asker, request),
             Request::ShowLabel => self.show_label(session),
             Request::Bye => self.bye(session),
             Request::Select(_) => self.read(session, asker, request),
-            Request::Insert { .. } => self.write(session, asker, request),
-            Request::CreateView { .. } | Request::Update { .. } | Request::Delete { .. } => {
-                Err(Fault::Syntax(0))
-            }
+            Request::Insert { .. } => self.change_rows(session, asker, request),
+            Request::Update { .. } => self.change_rows(session, asker, request),
+            Request::Delete { .. } => self.change_rows(session, asker, request),
             Request::Begin | Request::Commit | Request::Rollback => Err(Fault::Syntax(0)),
         }
     }
@@ -104,8 +104,7 @@ impl Db {
         asker: Principal,
         request: Request,
     ) -> Result<Reply, Fault>
-        requires built { IsTrue (is_built request) }
-        requires form { form_of request ≡ publishes }
+        requires narrow { IsTrue (is_narrow request) }
         requires kept { IsTrue (is_kept self.old.public session.old) }
         ensures answered { IsAnswered (answered_as self.old session.old asker request publishes) session.old session.new self.old self.new result }
         ensures kept { IsTrue (is_kept self.new.public session.new) }
@@ -122,15 +121,14 @@ impl Db {
         asker: Principal,
         request: Request,
     ) -> Result<Reply, Fault>
-        requires built { IsTrue (is_built request) }
-        requires form { form_of request ≡ relabels }
         requires kept { IsTrue (is_kept self.now.public session.old) }
         ensures answered { IsAnswered (answered_as self.now session.old asker request relabels) session.old session.new self.now self.now result }
         ensures kept { IsTrue (is_kept self.now.public session.new) }
         ensures still { IsStill session.old session.new self.now self.now result }
     {
-        let label = self.new_label(asker, session, request)?;
-        session.relabel(label);
+        if let Some(label) = self.new_label(asker, session, request)? {
+            session.relabel(label);
+        }
         Ok(Reply::Done)
     }
 
@@ -152,8 +150,7 @@ impl Db {
         asker: Principal,
         request: Request,
     ) -> Result<Reply, Fault>
-        requires built { IsTrue (is_built request) }
-        requires form { form_of request ≡ looks }
+        requires narrow { IsTrue (is_narrow request) }
         requires kept { IsTrue (is_kept self.now.public session.old) }
         ensures answered { IsAnswered (answered_as self.now session.old asker request looks) session.old session.new self.now self.now result }
         ensures kept { IsTrue (is_kept self.now.public session.new) }
@@ -163,22 +160,20 @@ impl Db {
         Ok(reply)
     }
 
-    /// INSERT.
+    /// INSERT, UPDATE and DELETE.
     #[tactic(auto, using(crate::proofs::Keeping::kept_by))]
-    fn write(
+    fn change_rows(
         &mut self,
         session: &mut Session,
         asker: Principal,
         request: Request,
     ) -> Result<Reply, Fault>
-        requires built { IsTrue (is_built request) }
-        requires form { form_of request ≡ writes }
         requires kept { IsTrue (is_kept self.old.public session.old) }
         ensures answered { IsAnswered (answered_as self.old session.old asker request writes) session.old session.new self.old self.new result }
         ensures kept { IsTrue (is_kept self.new.public session.new) }
         ensures still { IsStill session.old session.new self.old self.new result }
     {
-        self.insert(asker, session, request)?;
-        Ok(Reply::Count(1))
+        let count = self.write(asker, session, request)?;
+        Ok(Reply::Count(count))
     }
 }

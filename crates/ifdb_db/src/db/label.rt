@@ -1,21 +1,21 @@
 // SET LABEL and SHOW LABEL.
-ghost use Rattle.std.specs.Prelude.{◌≡◌, ◌++◌, ◌⊎◌, Ok, Err, IfOk, IfErr, IsTrue, OnOk, length, slice_index_or, string_bytes, []};
+ghost use Rattle.std.specs.Prelude.{◌≡◌, ◌++◌, Ok, IfOk, IfErr, IfSome, IsTrue, OnOk, length, slice_index_or, string_bytes, []};
 ghost use Rattle.ifdb_label.specs.Tags.{AreMade};
 ghost use Rattle.ifdb_label.specs.Label.{strip};
-ghost use Rattle.ifdb_bound.specs.declared.request.Bound.TheVariants as b;
 ghost use Rattle.ifdb_bound.specs.Query.{label_names};
 ghost use Rattle.ifdb_wire.specs.declared.reply.Reply.TheVariants.{Done};
 ghost use Rattle.ifdb_catalog.specs.Public.{has_tags, tag_names, tags_of};
 ghost use Rattle.ifdb_catalog.specs.Binding.{bound};
-ghost use Rattle.ifdb_model.specs.Step.{relabels, form_of, set_label, show_label, tells};
-ghost use Rattle.ifdb_bind.specs.Built.{is_built};
+ghost use Rattle.ifdb_catalog.specs.Fits.{bound_fits};
+ghost use Rattle.ifdb_model.specs.Step.{relabelled, set_label, show_label, tells};
 ghost use Rattle.ifdb_db.specs.Kept.{is_kept};
-ghost use Rattle.ifdb_db.specs.Answer.{IsRefusal};
+ghost use Rattle.ifdb_db.specs.Answer.{IsRefusal, with_label};
 
 use super::Db;
-use super::binding::bind_label;
 use crate::OutOfMemory;
 use crate::session::Session;
+use ifdb_bind::bind;
+use ifdb_bound::Bound;
 use ifdb_catalog::Catalog;
 use ifdb_label::{Label, Tag};
 use ifdb_syntax::Request;
@@ -25,25 +25,65 @@ use std::alloc::Global;
 
 impl Db {
     /// The label that SET LABEL gives the session. Each tag that it gives up must be held.
-    #[tactic(auto, using(crate::proofs::Answering::label_set, crate::proofs::Answering::label_unheld, crate::proofs::Answering::label_unbound))]
+    #[tactic(auto, using(ifdb_catalog::proofs::BoundRequestsFit::bound_is_fitting, crate::proofs::Answering::label_bound, crate::proofs::Answering::label_refused, crate::proofs::Answering::label_unbound))]
     pub(super) fn new_label(
         &self,
         asker: Principal,
         session: &Session,
         request: Request,
-    ) -> Result<Label, Fault>
-        requires built { IsTrue (is_built request) }
-        requires form { form_of request ≡ relabels }
+    ) -> Result<Option<Label>, Fault>
         requires kept { IsTrue (is_kept self.now.public session.now) }
-        ensures set { IfOk result (λ label. set_label self.now.public asker session.now (bound self.now.public asker request) ≡ tells (record session.now { label = label }) Done) }
-        ensures made { IfOk result (λ label. AreMade (length self.now.public.tags) label) }
-        ensures refused { IfErr result (IsRefusal (set_label self.now.public asker session.now (bound self.now.public asker request)) session.now) }
+        ensures set { IfOk result (λ label. set_label self.now.public asker session.now
+            (bound self.now.public asker request) ≡ tells (with_label session.now label) Done) }
+        ensures made { IfOk result (λ label. IfSome label (AreMade (length self.now.public.tags))) }
+        ensures refused { IfErr result (IsRefusal
+            (set_label self.now.public asker session.now (bound self.now.public asker request)) session.now) }
     {
-        let label = bind_label(self.alloc, &self.catalog, asker, request)?;
+        let found = bind(self.alloc, &self.catalog, asker, request)?;
+        self.label_in(asker, session, found)
+    }
+
+    /// The label that is bound, if one is.
+    fn label_in(
+        &self,
+        asker: Principal,
+        session: &Session,
+        found: Bound,
+    ) -> Result<Option<Label>, Fault>
+        requires fits { IsTrue (bound_fits self.now.public found) }
+        requires kept { IsTrue (is_kept self.now.public session.now) }
+        ensures set { IfOk result (λ label.
+            set_label self.now.public asker session.now (Ok found) ≡ tells (with_label session.now label) Done) }
+        ensures made { IfOk result (λ label. IfSome label (AreMade (length self.now.public.tags))) }
+        ensures refused { IfErr result (IsRefusal
+            (set_label self.now.public asker session.now (Ok found)) session.now) }
+    {
+        match found {
+            Bound::SetLabel { label } => self.label_held(asker, session, label),
+            _ => Ok(None),
+        }
+    }
+
+    /// The label, if the principal holds each tag that it gives up.
+    #[tactic(auto, using(crate::proofs::Answering::label_set, crate::proofs::Answering::label_unheld))]
+    fn label_held(
+        &self,
+        asker: Principal,
+        session: &Session,
+        label: Label,
+    ) -> Result<Option<Label>, Fault>
+        requires made { AreMade (length self.now.public.tags) label }
+        requires kept { IsTrue (is_kept self.now.public session.now) }
+        ensures set { IfOk result (λ new.
+            relabelled self.now.public asker session.now label ≡ tells (with_label session.now new) Done) }
+        ensures made { IfOk result (λ new. IfSome new (AreMade (length self.now.public.tags))) }
+        ensures refused { IfErr result (IsRefusal
+            (relabelled self.now.public asker session.now label) session.now) }
+    {
         if !self.may_give_up(asker, session.label(), &label)? {
             return Err(Fault::NoAuthority);
         }
-        Ok(label)
+        Ok(Some(label))
     }
 
     /// Whether a principal holds each tag of a label that doesn't flow to another label.
