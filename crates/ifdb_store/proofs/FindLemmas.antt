@@ -131,21 +131,6 @@ module _ {X : Type 0} (p : Slot → Bool) (f : Falls p) (rows : X → List Row) 
     by more true e = grind (arith, nat_tests, more)
     by more false e = let n = none_later x parts (grind (arith, nat_tests)) (grind (arith, nat_tests)) e k in grind (arith, nat_tests, n)
 
-  -- each part has a row
-  pub len_parts : (parts : List X) → list_all is_part parts ≡ true → length parts ≤ length (flat_map rows parts)
-  len_parts [] h = omega arith
-  len_parts (x ∷ parts) h =
-      let b = begins x (grind (arith, nat_tests)) in
-      let more = len_parts parts (grind (arith, nat_tests)) in
-      let one : length (rows x) ≡ suc (length b.1) = ap length b.2 in
-      let all = length-append (rows x) (flat_map rows parts) in
-      omega arith
-
-  pub len_part : (parts : List X) (i : ℕ) (x : X) → i < length parts → x ≡ get_or parts i x → length (rows x) ≤ length (flat_map rows parts)
-  len_part [] i x lt e = absurd (omega arith)
-  len_part (y ∷ parts) zero x lt e = let all = length-append (rows y) (flat_map rows parts) in let one : length (rows x) ≡ length (rows y) = ap (λ z. length (rows z)) e in omega arith
-  len_part (y ∷ parts) (suc i) x lt e = let all = length-append (rows y) (flat_map rows parts) in let more = len_part parts i x (omega arith) e in omega arith
-
 -- ---- rows before all writes
 
 under_write : (s : Slot) (y : Row) (xs : List Row) → slot_lt s y.slot ≡ false → list_all (λ (x : Row). slot_lt x.slot y.slot) xs ≡ true → list_all (λ (x : Row). slot_lt x.slot s) xs ≡ true

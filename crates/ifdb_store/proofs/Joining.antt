@@ -1,12 +1,13 @@
 -- Pages joined with their neighbours.
 use Rattle.std.proofs.Common.{◌≡◌, true, false, List, [], ◌∷◌, ◌++◌, refl, sym, ap, ◌∙◌, arith}
+use Rattle.std.specs.List.{list_any}
 use Rattle.std.proofs.lemmas.Bool.Decides.{nat_tests}
 use Rattle.std.proofs.lemmas.List.{length-append, append_assoc, append-nil}
 use Rattle.std.proofs.lemmas.Grind.{flat_map-append}
 use Rattle.ifdb_row.specs.Content.{rising}
 use Rattle.ifdb_row.proofs.Rising.{rising_back, rising_front}
 use Rattle.ifdb_row.specs.declared.row.Row.{Row}
-use Rattle.ifdb_store.specs.Pages.{are_joined, flat, may_join}
+use Rattle.ifdb_store.specs.Pages.{are_joined, flat, is_small, may_join}
 
 -- pages at the front of joined ones are joined
 pub joined_front : (pages : List (List Row)) (q : List Row) → are_joined (pages ++ q ∷ []) ≡ true → are_joined pages ≡ true
@@ -19,6 +20,12 @@ pub joined_more : (pages : List (List Row)) (p q : List Row) → are_joined (pag
 joined_more [] p q h n = grind (arith, nat_tests)
 joined_more (x ∷ []) p q h n = grind (arith, nat_tests)
 joined_more (x ∷ y ∷ pages) p q h n = grind (arith, nat_tests, joined_more (y ∷ pages) p q)
+
+-- pages of which none is small are joined
+pub none_small : (pages : List (List Row)) → list_any is_small pages ≡ false → are_joined pages ≡ true
+none_small [] h = refl
+none_small (p ∷ []) h = refl
+none_small (p ∷ q ∷ pages) h = grind (arith, nat_tests, none_small (q ∷ pages))
 
 wider : (x p q : List Row) → may_join x p ≡ false → may_join x (p ++ q) ≡ false
 wider x p q h = let all = length-append p q in grind (arith, nat_tests)

@@ -13,9 +13,13 @@ use Rattle.ifdb_row.specs.Content.{after, rising}
 abbrev pub is_page : List Row → Bool
 is_page rows = nat_lt 0 (length rows) && (nat_lt (length rows) 65 && rising rows)
 
--- one of two pages is small, of fewer than 16 rows, and both fit into one
+-- fewer than 16 rows
+abbrev pub is_small : List Row → Bool
+is_small page = nat_lt (length page) 16
+
+-- one of two pages is small, and both fit into one
 abbrev pub may_join : List Row → List Row → Bool
-may_join p q = (nat_lt (length p) 16 || nat_lt (length q) 16) && nat_lt (length p + length q) 65
+may_join p q = (is_small p || is_small q) && nat_lt (length p + length q) 65
 
 -- no two neighbours may be joined
 abbrev pub are_joined : List (List Row) → Bool

@@ -1,8 +1,8 @@
 // Small pages joined with their neighbours.
 ghost use Rattle.std.specs.Prelude.{◌≡◌, ◌≤◌, ◌++◌, ◌∷◌, [], IfOk, IsTrue, OnOk, length};
-ghost use Rattle.std.specs.List.{list_all};
+ghost use Rattle.std.specs.List.{list_all, list_any};
 ghost use Rattle.ifdb_row.specs.Content.{rising};
-ghost use Rattle.ifdb_store.specs.Pages.{are_joined, flat, is_page, may_join};
+ghost use Rattle.ifdb_store.specs.Pages.{are_joined, flat, is_page, is_small, may_join};
 
 use crate::page::{PAGE_ROWS, Page};
 use crate::put::add_shared;
@@ -10,14 +10,30 @@ use ifdb_row::OutOfMemory;
 use ifdb_value::Shared;
 use std::alloc::Global;
 
-/// A page of fewer rows is joined with a neighbour where both fit into one.
+/// A page of fewer rows is small, and is joined with a neighbour where both fit into one.
 const SMALL_PAGE: usize = 16;
 
-/// Pages of the same rows, of which no two neighbours may be joined.
+/// Pages of the same rows, of which no two neighbours may be joined: the same pages, where none is small.
 pub(crate) fn joined(
     alloc: Global,
     pages: Vec<Shared<Page>>,
 ) -> Result<Vec<Shared<Page>>, OutOfMemory>
+    requires good { IsTrue (list_all is_page pages.items) }
+    requires rising { IsTrue (rising (flat pages.items)) }
+    ensures rows { IfOk result (λ all. flat all.items ≡ flat pages.items) }
+    ensures good { IfOk result (λ all. IsTrue (list_all is_page all.items)) }
+    ensures rising { IfOk result (λ all. IsTrue (rising (flat all.items))) }
+    ensures joined { IfOk result (λ all. IsTrue (are_joined all.items)) }
+{
+    if is_some_small(&pages) {
+        all_joined(alloc, pages)
+    } else {
+        Ok(pages)
+    }
+}
+
+/// The same, by a look at each page.
+fn all_joined(alloc: Global, pages: Vec<Shared<Page>>) -> Result<Vec<Shared<Page>>, OutOfMemory>
     requires good { IsTrue (list_all is_page pages.items) }
     requires rising { IsTrue (rising (flat pages.items)) }
     ensures rows { IfOk result (λ all. flat all.items ≡ flat pages.items) }
@@ -30,6 +46,20 @@ pub(crate) fn joined(
         add_joined(alloc, page, &mut all)?;
     }
     Ok(all)
+}
+
+/// Whether some page is small.
+fn is_some_small(pages: &[Shared<Page>]) -> bool
+    ensures { result ≡ list_any is_small pages.now }
+{
+    pages.iter().any(|page| is_small(page.get()))
+}
+
+/// Whether a page is small.
+fn is_small(page: &Page) -> bool
+    ensures { result ≡ is_small page.now }
+{
+    page.rows().len() < SMALL_PAGE
 }
 
 /// Adds a page behind others, or its rows to the last of them.
@@ -82,9 +112,8 @@ fn add_pair(
 fn may_join(page: &Shared<Page>, other: &Shared<Page>) -> bool
     ensures { result ≡ may_join page.now other.now }
 {
-    let rows = page.get().rows().len();
-    let others = other.get().rows().len();
-    (rows < SMALL_PAGE || others < SMALL_PAGE) && rows + others <= PAGE_ROWS
+    let fits = page.get().rows().len() + other.get().rows().len() <= PAGE_ROWS;
+    fits && (is_small(page.get()) || is_small(other.get()))
 }
 
 /// The page of the rows of two.

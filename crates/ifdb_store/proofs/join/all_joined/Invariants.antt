@@ -1,7 +1,7 @@
 use Rattle.std.proofs.Common.{◌≡◌, ◌++◌, true}
 use Rattle.std.specs.List.{list_all}
 use Rattle.ifdb_store.specs.Pages.{are_joined, flat, is_page}
-use Rattle.ifdb_store.proofs.join.joined.Given as goal
+use Rattle.ifdb_store.proofs.join.all_joined.Given as goal
 
 abbrev pub invariant-loop-page : goal.invariant-loop-page
 invariant-loop-page l = record {
