@@ -418,12 +418,17 @@ fn takes(catalog: &Catalog, table: TableId, values: &[Value]) -> bool
 fn are_of_kinds(columns: &[Column], values: &[Value]) -> bool
     ensures { result ≡ values_fit (kinds_of columns.now) values.now }
 {
-    match (columns, values) {
-        ([], []) => true,
-        ([column, columns @ ..], [value, values @ ..]) => {
-            is_of_kind(column.kind, value.kind()) && are_of_kinds(columns, values)
-        }
-        _ => false,
+    match columns {
+        [] => match values {
+            [] => true,
+            [_, ..] => false,
+        },
+        [column, columns @ ..] => match values {
+            [] => false,
+            [value, values @ ..] => {
+                is_of_kind(column.kind, value.kind()) && are_of_kinds(columns, values)
+            }
+        },
     }
 }
 
