@@ -1,5 +1,5 @@
 // Rows in one list.
-ghost use Rattle.std.specs.Prelude.{◌≡◌, IsTrue};
+ghost use Rattle.std.specs.Prelude.{◌≡◌, IsTrue, SomeIff};
 ghost use Rattle.std.specs.Option.{option_copied};
 ghost use Rattle.ifdb_row.specs.Content.{rising};
 ghost use Rattle.ifdb_row.specs.Edges.{lies_before};
@@ -39,6 +39,17 @@ impl ListRows {
         ListRows { rows }
     }
 
+    /// The rows of a list that may not rise by slots, each slot once; `None` exactly where it doesn't. Takes no memory.
+    pub fn try_new(rows: Vec<Shared<Row>>) -> Option<Self>
+        ensures { SomeIff result (IsTrue (rising rows.items)) rows.items }
+    {
+        if do_rise(&rows) {
+            Some(ListRows { rows })
+        } else {
+            None
+        }
+    }
+
     /// The rows, in the order of their slots.
     fn rows(&self) -> &[Shared<Row>]
         ensures rows { result.now ≡ self.now }
@@ -58,6 +69,20 @@ impl Rows for ListRows {
     fn bound_to(&self, slot: &Slot, after: Option<&Slot>) -> Option<&Row> {
         first_bound(self.rows(), slot, after)
     }
+}
+
+/// Whether rows rise by their slots: each stands before the next one.
+#[tactic(auto, using(crate::proofs::Neighbours::one_more, crate::proofs::Neighbours::falls_at))]
+fn do_rise(rows: &[Shared<Row>]) -> bool
+    ensures { result ≡ rising rows.now }
+{
+    for place in 1..rows.len() {
+        let before = &rows[place - 1].get().slot;
+        if !before.is_before(&rows[place].get().slot) {
+            return false;
+        }
+    }
+    true
 }
 
 /// The rows from an edge on, found by binary search.
