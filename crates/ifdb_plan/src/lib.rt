@@ -3,10 +3,15 @@
 #![tactic(auto)]
 
 mod equation;
+mod keyed;
 mod source_key;
 mod test;
 
 pub use equation::{Equation, equation_in};
+pub use keyed::are_keyed;
 pub use source_key::{key_beside, key_operands, whole_key};
 pub use std::alloc::AllocError as OutOfMemory;
 pub use test::{Test, hold_at, hold_from, tests};
+
+#[cfg(test)]
+mod plan_tests;
