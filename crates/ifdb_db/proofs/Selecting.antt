@@ -12,8 +12,7 @@ use Rattle.ifdb_bound.specs.declared.select.BoundSource.{BoundSource}
 use Rattle.ifdb_bound.specs.declared.select.Relation.{Relation}
 use Rattle.ifdb_bound.specs.declared.select.Relation.TheVariants as relation
 use Rattle.ifdb_row.specs.Slots.{is_same_key}
-use Rattle.ifdb_plan.specs.Keys.{fields}
-use Rattle.ifdb_exec.specs.Given.{is_keyed}
+use Rattle.ifdb_plan.specs.Keys.{are_keyed, fields}
 use Rattle.ifdb_view.specs.Keyed.{is_relation_keyed, are_sources_keyed, are_views_keyed}
 use Rattle.ifdb_expr.specs.Query.{QueryFault, view_authority, out_of_range, query}
 use Rattle.ifdb_view.specs.declared.fault.ViewFault.{ViewFault}
@@ -72,10 +71,10 @@ places_are (x ∷ xs) (y ∷ ys) h =
     let rest = places_are xs ys (grind (arith, nat_tests)) in
     λ i. e i ∷ rest i
 
-table_keyed : (p : Public) (t : ℕ) (rows : List Row) → list_all (row_fits p) rows ≡ true → is_keyed rows t (table_at p t).key ≡ true
+table_keyed : (p : Public) (t : ℕ) (rows : List Row) → list_all (row_fits p) rows ≡ true → are_keyed t (table_at p t).key rows ≡ true
 table_keyed p t [] h = refl
 table_keyed p t (r ∷ rows) h = by (table_keyed p t rows (grind (arith, nat_tests))) (r.slot.table == t) refl where
-  by : is_keyed rows t (table_at p t).key ≡ true → (b : Bool) → (r.slot.table == t) ≡ b → is_keyed (r ∷ rows) t (table_at p t).key ≡ true
+  by : are_keyed t (table_at p t).key rows ≡ true → (b : Bool) → (r.slot.table == t) ≡ b → are_keyed t (table_at p t).key (r ∷ rows) ≡ true
   by more true e =
       let same : r.slot.table ≡ t = grind (arith, nat_tests) in
       let one : is_same_key r.slot.key (fields (table_at p t).key r.values) ≡ true =
@@ -90,7 +89,7 @@ source_keyed p rows x h f = by x.relation refl where
   by (relation.Table t) e =
       let fits : same_places x.key (key_of p x.relation) ≡ true = grind (arith, nat_tests) in
       let key : x.key ≡ (table_at p t).key = places_are x.key (key_of p x.relation) fits ∙ ap (key_of p) e in
-      let keyed : is_keyed rows t x.key ≡ true = ap (is_keyed rows t) key ∙ table_keyed p t rows h in
+      let keyed : are_keyed t x.key rows ≡ true = ap (λ k. are_keyed t k rows) key ∙ table_keyed p t rows h in
       grind (arith, nat_tests)
 
 -- the rows have their keys where the sources of a query that fits say so

@@ -4,4 +4,3 @@ pub mod Probing
 pub mod Walking
 pub mod Answering
 mod Finding
-pub mod Neighbours

@@ -3,7 +3,8 @@ ghost use Rattle.std.specs.Prelude.{◌≡◌, IfSome, List, ℕ};
 ghost use Rattle.ifdb_label.specs.Tags.{MadeTag};
 ghost use Rattle.ifdb_row.specs.declared.row.Row.{Row as AnyRow};
 ghost use Rattle.ifdb_expr.specs.View.{table_rows};
-ghost use Rattle.ifdb_exec.specs.Given.{is_given_keyed, is_keyed, rows_given};
+ghost use Rattle.ifdb_plan.specs.Keys.{are_keyed};
+ghost use Rattle.ifdb_exec.specs.Given.{is_given_keyed, rows_given};
 
 use crate::view_row::ViewRows;
 use ifdb_value::TableId;
@@ -32,7 +33,7 @@ impl<'k> Given<'k> {
     /// The table and the columns of its key, if it says that they are.
     pub(crate) fn keyed(&self) -> Option<KeyedTable<'k>>
         ensures keyed { IfSome result (λ it. (rows : List AnyRow)
-            → is_given_keyed rows self.now ≡ is_keyed rows it.table it.key.now) }
+            → is_given_keyed rows self.now ≡ are_keyed it.table it.key.now rows) }
         ensures rows { IfSome result (λ it. (tags : List MadeTag) (rows : List AnyRow) (label : List ℕ)
             → rows_given tags rows label self.now ≡ table_rows tags rows it.table label) }
     {

@@ -1,10 +1,7 @@
 // Parents of rows, and what writes leave without them, over plain rows.
 ghost use Rattle.std.specs.Prelude.{◌≡◌, IfOk, IsTrue, OnOk, length};
-ghost use Rattle.std.specs.List.{list_all};
 ghost use Rattle.ifdb_label.specs.Tags.{AreMade};
-ghost use Rattle.ifdb_row.specs.Content.{rising};
 ghost use Rattle.ifdb_row.specs.Seen.{are_rows_made};
-ghost use Rattle.ifdb_row.specs.Slots.{slot_lt};
 ghost use Rattle.ifdb_row.specs.Writes.{is_fitting};
 
 use crate::{Standpoint, bind_parent, first_broken, first_left};
@@ -80,9 +77,7 @@ static BINDINGS: [Binding; 11] = [
 fn a_child_is_bound_to_the_first_row_that_may_serve(rt: HostRuntime) -> Result<(), Fail> {
     let alloc = rt.alloc();
     let tags = two_tags(alloc)?;
-    let rows = all_rows(alloc, &tags)?;
-    assert!(rt; rise(&rows));
-    let rows = ListRows::new(rows);
+    let rows = ListRows::try_new(all_rows(alloc, &tags)?).ok_or("rows that rise")?;
     for binding in &BINDINGS {
         let Binding(at, given, key, want) = binding;
         let label = label_of(alloc, &tags, *at)?;
@@ -202,9 +197,7 @@ static BREAKINGS: [Breaking; 14] = [
 fn writes_break_references(rt: HostRuntime) -> Result<(), Fail> {
     let alloc = rt.alloc();
     let tags = two_tags(alloc)?;
-    let rows = all_rows(alloc, &tags)?;
-    assert!(rt; rise(&rows));
-    let rows = ListRows::new(rows);
+    let rows = ListRows::try_new(all_rows(alloc, &tags)?).ok_or("rows that rise")?;
     for breaking in &BREAKINGS {
         let Breaking(puts, broken, left) = breaking;
         let writes = writes_of(alloc, &tags, puts)?;
@@ -320,22 +313,5 @@ fn key_of(slot: &Slot) -> i64 {
     match slot.key.items() {
         [Value::Int(number)] => *number,
         _ => 0,
-    }
-}
-
-/// Whether a slot stands before those of some rows.
-fn is_before_all(slot: &Slot, rows: &[Shared<Row>]) -> bool
-    ensures { result ≡ list_all (λ r. slot_lt slot.now r.slot) rows.now }
-{
-    rows.iter().all(|row| slot.is_before(&row.get().slot))
-}
-
-/// Whether rows rise by their slots.
-fn rise(rows: &[Shared<Row>]) -> bool
-    ensures { result ≡ rising rows.now }
-{
-    match rows {
-        [] => true,
-        [first, rest @ ..] => is_before_all(&first.get().slot, rest) && rise(rest),
     }
 }

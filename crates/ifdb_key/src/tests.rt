@@ -1,10 +1,7 @@
 // Keys at labels, over plain rows.
 ghost use Rattle.std.specs.Prelude.{◌≡◌, IfOk, IsTrue, length};
-ghost use Rattle.std.specs.List.{list_all};
 ghost use Rattle.ifdb_label.specs.Tags.{AreMade};
-ghost use Rattle.ifdb_row.specs.Content.{rising};
 ghost use Rattle.ifdb_row.specs.Seen.{are_rows_made};
-ghost use Rattle.ifdb_row.specs.Slots.{slot_lt};
 
 use crate::is_free;
 use ifdb_label::{Label, Tag, TagFault, TagKind, Tags};
@@ -56,9 +53,7 @@ static CASES: [Case; 11] = [
 fn a_key_is_free_where_the_label_sees_no_row_of_it(rt: HostRuntime) -> Result<(), Fail> {
     let alloc = rt.alloc();
     let tags = two_tags(alloc)?;
-    let rows = all_rows(alloc, &tags)?;
-    assert!(rt; rise(&rows));
-    let rows = ListRows::new(rows);
+    let rows = ListRows::try_new(all_rows(alloc, &tags)?).ok_or("rows that rise")?;
     for case in &CASES {
         let Case(Keyed(table, key, at), want) = case;
         let label = label_of(alloc, &tags, *at)?;
@@ -120,21 +115,4 @@ fn row_of(alloc: Global, tags: &Tags, keyed: &Keyed) -> Result<Shared<Row>, OutO
         refs: Refs::new(alloc),
     };
     Shared::new(alloc, row)
-}
-
-/// Whether a slot stands before those of some rows.
-fn is_before_all(slot: &Slot, rows: &[Shared<Row>]) -> bool
-    ensures { result ≡ list_all (λ r. slot_lt slot.now r.slot) rows.now }
-{
-    rows.iter().all(|row| slot.is_before(&row.get().slot))
-}
-
-/// Whether rows rise by their slots.
-fn rise(rows: &[Shared<Row>]) -> bool
-    ensures { result ≡ rising rows.now }
-{
-    match rows {
-        [] => true,
-        [first, rest @ ..] => is_before_all(&first.get().slot, rest) && rise(rest),
-    }
 }

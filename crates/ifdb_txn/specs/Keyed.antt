@@ -1,18 +1,12 @@
 -- Rows that stand under the key that their values give.
-use Rattle.std.specs.Prelude.{ℕ, Bool, List, ◌==◌, ◌||◌, not}
+use Rattle.std.specs.Prelude.{Bool, List}
 use Rattle.std.specs.List.{list_all}
 use Rattle.ifdb_row.specs.declared.row.Row.{Row}
 use Rattle.ifdb_row.specs.Slots.{is_same_key}
 use Rattle.ifdb_catalog.specs.Public.{Public, table_at}
 use Rattle.ifdb_plan.specs.Keys.{fields}
 
--- a row of the table has its key's values in these columns
-abbrev pub is_keyed : ℕ → List ℕ → Row → Bool
-is_keyed table key r = not (r.slot.table == table) || is_same_key r.slot.key (fields key r.values)
-
--- so has each row
-abbrev pub are_keyed : ℕ → List ℕ → List Row → Bool
-are_keyed table key rows = list_all (is_keyed table key) rows
+pub use Rattle.ifdb_plan.specs.Keys.{are_keyed, is_keyed}
 
 -- each row has its key's values in the columns of its table's key
 abbrev pub are_all_keyed : Public → List Row → Bool

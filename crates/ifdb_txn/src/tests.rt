@@ -2,11 +2,9 @@
 ghost use Rattle.std.specs.Prelude.{◌≡◌, ◌∷◌, [], IfOk, IsTrue, length};
 ghost use Rattle.std.specs.List.{list_all};
 ghost use Rattle.ifdb_label.specs.Tags.{AreMade};
-ghost use Rattle.ifdb_row.specs.Content.{rising};
 ghost use Rattle.ifdb_row.specs.Seen.{are_rows_made};
-ghost use Rattle.ifdb_row.specs.Slots.{slot_lt};
 ghost use Rattle.ifdb_foreign.specs.Parents.{IsMade};
-ghost use Rattle.ifdb_txn.specs.Keyed.{are_keyed, is_keyed};
+ghost use Rattle.ifdb_txn.specs.Keyed.{are_keyed};
 ghost use Rattle.ifdb_bound.specs.Kinds.{same_kind};
 ghost use Rattle.ifdb_bound.specs.declared.request.Bound.TheVariants as bound;
 ghost use Rattle.ifdb_catalog.specs.Fits.{bound_fits, is_table};
@@ -14,7 +12,6 @@ ghost use Rattle.ifdb_catalog.specs.Public.{table_at};
 ghost use Rattle.ifdb_catalog.specs.Scope.{kinds_of};
 ghost use Rattle.ifdb_catalog.specs.Statements.{values_fit};
 
-use crate::parents::values_at;
 use crate::statement::{Writer, delete_matched, insert_counted, update_matched, writes_of};
 use crate::target::Target;
 use crate::written::Written;
@@ -25,6 +22,7 @@ use ifdb_bound::{
 use ifdb_catalog::Catalog;
 use ifdb_foreign::Standpoint;
 use ifdb_label::{Label, Tag, TagFault, TagKind, Tags};
+use ifdb_plan::are_keyed;
 use ifdb_row::{Key, ListRows, OutOfMemory, Refs, Row, Slot, Values, Write};
 use ifdb_value::{
     Box, Column, Columns, Compare, Name, Principal, Shared, TableId, Value, ValueKind, ValueRow,
@@ -449,8 +447,7 @@ fn insert_rows(
     values: &[ValueRow],
 ) -> Result<Result<Written, Fault>, Fail> {
     let tags = one_tag(alloc)?;
-    let rows = all_rows(alloc, &tags)?;
-    assert!(rt; rise(&rows));
+    let rows = ListRows::try_new(all_rows(alloc, &tags)?).ok_or("rows that rise")?;
     let label = label_of(alloc, &tags, Low)?;
     let schema = schema_of(alloc, Note)?;
     let target = Target {
@@ -463,7 +460,7 @@ fn insert_rows(
         table: TableId(0),
         schema: &schema,
     };
-    Ok(insert_counted(&target, &ListRows::new(rows), values))
+    Ok(insert_counted(&target, &rows, values))
 }
 
 /// What a statement gives at a label, with another that is declassified.
@@ -480,9 +477,8 @@ fn came_of(
     let given = label_of(alloc, &tags, given)?;
     let schema = schema_of(alloc, which)?;
     let table = table_of(which);
-    assert!(rt; rise(&rows));
-    assert!(rt; are_keyed(alloc, table, schema.key.items(), &rows)?);
-    let rows = ListRows::new(rows);
+    assert!(rt; are_keyed(table, schema.key.items(), &rows));
+    let rows = ListRows::try_new(rows).ok_or("rows that rise")?;
     let target = Target {
         alloc,
         from: Standpoint {
@@ -735,48 +731,4 @@ fn slot_of(alloc: Global, tags: &Tags, which: Which, id: i64, at: At) -> Result<
         key: Key::single(alloc, Value::Int(id))?,
         label: label_of(alloc, tags, at)?,
     })
-}
-
-/// Whether a row, if it is of the table, has its key's values in these columns.
-fn is_keyed(alloc: Global, table: TableId, key: &[usize], row: &Row) -> Result<bool, OutOfMemory>
-    ensures { IfOk result (λ keyed. keyed ≡ is_keyed table key.now row.now) }
-{
-    let values = values_at(alloc, row.values.items(), key)?;
-    Ok(row.slot.table != table || row.slot.is_of_key(table, values.items()))
-}
-
-/// Whether each row is so.
-fn are_keyed(
-    alloc: Global,
-    table: TableId,
-    key: &[usize],
-    rows: &[Shared<Row>],
-) -> Result<bool, OutOfMemory>
-    ensures { IfOk result (λ keyed. keyed ≡ are_keyed table key.now rows.now) }
-{
-    match rows {
-        [] => Ok(true),
-        [row, rest @ ..] => {
-            let first = is_keyed(alloc, table, key, row.get())?;
-            let others = are_keyed(alloc, table, key, rest)?;
-            Ok(first && others)
-        }
-    }
-}
-
-/// Whether a slot stands before those of some rows.
-fn is_before_all(slot: &Slot, rows: &[Shared<Row>]) -> bool
-    ensures { result ≡ list_all (λ r. slot_lt slot.now r.slot) rows.now }
-{
-    rows.iter().all(|row| slot.is_before(&row.get().slot))
-}
-
-/// Whether rows rise by their slots.
-fn rise(rows: &[Shared<Row>]) -> bool
-    ensures { result ≡ rising rows.now }
-{
-    match rows {
-        [] => true,
-        [first, rest @ ..] => is_before_all(&first.get().slot, rest) && rise(rest),
-    }
 }

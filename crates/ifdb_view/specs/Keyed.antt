@@ -6,11 +6,11 @@ use Rattle.ifdb_bound.specs.declared.schema.ViewDef.{ViewDef}
 use Rattle.ifdb_bound.specs.declared.select.BoundSource.{BoundSource}
 use Rattle.ifdb_bound.specs.declared.select.Relation.{Relation}
 use Rattle.ifdb_bound.specs.declared.select.Relation.TheVariants as relation
-use Rattle.ifdb_exec.specs.Given.{is_keyed}
+use Rattle.ifdb_plan.specs.Keys.{are_keyed}
 
 -- each row of the table has its key's values in these columns, if there are any
 abbrev pub is_relation_keyed : List Row → List ℕ → Relation → Bool
-is_relation_keyed rows key (relation.Table t) = (length key == 0) || is_keyed rows t key
+is_relation_keyed rows key (relation.Table t) = (length key == 0) || are_keyed t key rows
 is_relation_keyed rows key (relation.View v) = true
 
 -- so for each source with the key that it names

@@ -1,12 +1,7 @@
 // A SELECT over plain rows. What `query` asks of rows, labels and views is tested before it is called.
 ghost use Rattle.std.specs.Prelude.{◌≡◌, IfOk, length};
-ghost use Rattle.std.specs.List.{list_all};
 ghost use Rattle.ifdb_label.specs.Tags.{are_made};
-ghost use Rattle.ifdb_row.specs.Content.{rising};
-ghost use Rattle.ifdb_row.specs.Slots.{key_cmp, slot_lt};
 ghost use Rattle.ifdb_row.specs.Seen.{are_rows_made};
-ghost use Rattle.ifdb_exec.specs.Given.{is_keyed};
-ghost use Rattle.ifdb_plan.specs.Keys.{fields};
 ghost use Rattle.ifdb_view.specs.Keyed.{are_sources_keyed, are_views_keyed, is_relation_keyed};
 ghost use Rattle.ifdb_view.specs.Made.{are_views_made, is_view_made};
 
@@ -16,14 +11,13 @@ use ifdb_bound::{
     BoundSource, OrderKey, Relation, ViewDef,
 };
 use ifdb_exec::Reading;
-use ifdb_expr::{ValueRef, value_in};
 use ifdb_label::{Label, Tag, TagFault, TagKind, Tags};
+use ifdb_plan::are_keyed;
 use ifdb_row::{Key, ListRows, Refs, Row, Slot, Values};
 use ifdb_value::{
     Compare, Name, Names, Principal, Sequence, Shared, TableId, Value, ValueRows, ViewId,
 };
 use std::alloc::Global;
-use std::cmp::Ordering;
 use std::process::Abort;
 use std::test::Fail;
 
@@ -117,23 +111,6 @@ fn all_rows(alloc: Global, tags: &Tags) -> Result<Vec<Shared<Row>>, OutOfMemory>
     Ok(rows)
 }
 
-/// Whether a slot stands before those of some rows.
-fn is_before_all(slot: &Slot, rows: &[Shared<Row>]) -> bool
-    ensures { result ≡ list_all (λ r. slot_lt slot.now r.slot) rows.now }
-{
-    rows.iter().all(|row| slot.is_before(&row.get().slot))
-}
-
-/// Whether rows rise by their slots.
-fn rise(rows: &[Shared<Row>]) -> bool
-    ensures { result ≡ rising rows.now }
-{
-    match rows {
-        [] => true,
-        [first, rest @ ..] => is_before_all(&first.get().slot, rest) && rise(rest),
-    }
-}
-
 /// Whether tags are made.
 fn are_made(tags: &Tags, list: &[Tag]) -> bool
     ensures { result ≡ are_made (length tags.now) list.now }
@@ -162,41 +139,12 @@ fn are_views_made(tags: &Tags, views: &[ViewDef]) -> bool
     views.iter().all(|view| is_view_made(tags, view))
 }
 
-/// The order of a key and a row's values in some columns.
-fn compare_fields(key: &[Value], columns: &[usize], values: &[Value]) -> Ordering
-    ensures { result ≡ key_cmp key.now (fields columns.now values.now) }
-{
-    match key {
-        [] => match columns {
-            [] => Ordering::Equal,
-            [_, ..] => Ordering::Less,
-        },
-        [first, rest @ ..] => match columns {
-            [] => Ordering::Greater,
-            [column, others @ ..] => ValueRef::of(first)
-                .compare(value_in(values, *column))
-                .then(compare_fields(rest, others, values)),
-        },
-    }
-}
-
-/// Whether each row of a table has its key's values in these columns.
-fn is_keyed(rows: &[Shared<Row>], table: TableId, key: &[usize]) -> bool
-    ensures { result ≡ is_keyed rows.now table key.now }
-{
-    rows.iter().all(|row| {
-        let row = row.get();
-        row.slot.table != table
-            || compare_fields(row.slot.key.items(), key, row.values.items()).is_eq()
-    })
-}
-
 fn is_source_keyed(rows: &[Shared<Row>], source: &BoundSource) -> bool
     ensures { result ≡ is_relation_keyed rows.now source.now.key source.now.relation }
 {
     match source.relation {
         Relation::Table(table) => {
-            source.key.is_empty() || is_keyed(rows, table, source.key.items())
+            source.key.is_empty() || are_keyed(table, source.key.items(), rows)
         }
         Relation::View(_) => true,
     }
@@ -240,14 +188,13 @@ fn answer(
     let rows = all_rows(alloc, &tags)?;
     let mut views = Vec::new(alloc);
     views.push(view_of(alloc, &tags)?)?;
-    assert!(rt; rise(&rows));
     assert!(rt; are_rows_made(&tags, &rows));
     assert!(rt; are_views_made(&tags, &views));
     assert!(rt; are_made(&tags, label));
     assert!(rt; are_sources_keyed(&rows, request.sources.items()));
     assert!(rt; are_views_keyed(&rows, &views));
     assert!(rt; request.sources.len() <= 4);
-    let rows = ListRows::new(rows);
+    let rows = ListRows::try_new(rows).ok_or("rows that rise")?;
     let views = AllViews { views, are_allowed };
     let label = Label::reduce(alloc, &tags, label)?;
     let reading = Reading {

@@ -1,7 +1,7 @@
 // Rows and requests of the tests.
 ghost use Rattle.std.specs.Prelude.{◌≡◌, IfOk, length};
 
-use super::checks::{are_given_keyed, are_made, are_rows_made, do_rise};
+use super::checks::{are_given_keyed, are_made, are_rows_made};
 use super::counted::CountedRows;
 use crate::{Given, Reading, answer};
 use ifdb_bound::{
@@ -75,13 +75,12 @@ pub(crate) fn asked(
     given: &[Given<'_>],
 ) -> Result<Answered, Fail> {
     let tags = two_tags(alloc)?;
-    assert!(rt; do_rise(&rows));
     assert!(rt; are_rows_made(&tags, &rows));
     assert!(rt; are_given_keyed(&rows, given));
     assert!(rt; are_made(&tags, label));
     assert!(rt; given.len() <= 4);
     let rows = CountedRows {
-        rows: ListRows::new(rows),
+        rows: ListRows::try_new(rows).ok_or("rows that rise")?,
         asked: Cell::new(0),
     };
     let label = Label::reduce(alloc, &tags, label)?;
