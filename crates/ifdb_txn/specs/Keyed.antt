@@ -5,7 +5,6 @@ use Rattle.ifdb_row.specs.declared.row.Row.{Row}
 use Rattle.ifdb_row.specs.Slots.{is_same_key}
 use Rattle.ifdb_catalog.specs.Public.{Public, table_at}
 use Rattle.ifdb_plan.specs.Keys.{fields}
-
 pub use Rattle.ifdb_plan.specs.Keys.{are_keyed, is_keyed}
 
 -- each row has its key's values in the columns of its table's key
