@@ -50,13 +50,13 @@ fn many_deletions_leave_few_pages(rt: HostRuntime) -> Result<(), Fail> {
 #[test]
 fn chapters_are_bound_anew(rt: HostRuntime) -> Result<(), Fail> {
     let mut store = Store::new(rt.alloc())?;
-    commit(&mut store, range(rt.alloc(), 0, 20_000, 1)?)?;
+    commit(&mut store, range(rt.alloc(), 0, 10_000, 1)?)?;
     let full = store.snapshot()?;
-    commit(&mut store, range(rt.alloc(), 0, 19_000, 0)?)?;
-    assert_eq!(rt; walk(&full).rows, 20_000);
+    commit(&mut store, range(rt.alloc(), 0, 9_000, 0)?)?;
+    assert_eq!(rt; walk(&full).rows, 10_000);
     assert_eq!(rt; walk(store.content()).rows, 1000);
-    assert_eq!(rt; value_at(store.content(), rt.alloc(), 18_999)?, 0);
-    assert_eq!(rt; value_at(store.content(), rt.alloc(), 19_000)?, 1);
+    assert_eq!(rt; value_at(store.content(), rt.alloc(), 8_999)?, 0);
+    assert_eq!(rt; value_at(store.content(), rt.alloc(), 9_000)?, 1);
     Ok(())
 }
 
