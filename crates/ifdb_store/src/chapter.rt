@@ -99,7 +99,7 @@ impl Part for Chapter {
         writes: &[Write],
         out: &mut Vec<Shared<Chapter>>,
     ) -> Result<(), OutOfMemory> {
-        let mut pages = Vec::new(alloc);
+        let mut pages = Vec::with_capacity(alloc, self.pages().len() + 1)?;
         parts_after(alloc, self.pages(), writes, &mut pages)?;
         bind(alloc, joined(alloc, pages)?, out)
     }

@@ -144,7 +144,7 @@ fn chapters_after(
     ensures full { IfOk result (λ all. IsTrue (are_full all.items)) }
     ensures rising { IfOk result (λ all. IsTrue (rising (rows_of all.items))) }
 {
-    let mut all = Vec::new(alloc);
+    let mut all = Vec::with_capacity(alloc, chapters.len() + 1)?;
     if chapters.is_empty() {
         first_chapters(alloc, writes, &mut all)?;
     } else {

@@ -167,7 +167,25 @@ fn share_front<P: Part>(
     Ok(())
 }
 
-/// Adds the parts that hold the rows of some parts after writes. Those that no write touches are shared.
+/// Adds the parts from a place on, shared.
+fn share_rest<P: Part>(
+    parts: &[Shared<P>],
+    from: usize,
+    out: &mut Vec<Shared<P>>,
+) -> Result<(), OutOfMemory>
+    requires within { from ≤ length parts.now }
+    requires parts { IsTrue (list_all P.is_part parts.now) }
+    requires good { IsTrue (list_all P.is_part out.old.items) }
+    ensures rows { OnOk result (flat_map P.rows out.new.items ≡ flat_map P.rows out.old.items ++ flat_map P.rows (drop from parts.now)) }
+    ensures parts { OnOk result (IsTrue (list_all P.is_part out.new.items)) }
+{
+    let (_, rest) = parts.split_at(from);
+    add_shared(rest, out)?;
+    Ok(())
+}
+
+/// Adds the parts that hold the rows of some parts after writes. Those that no write touches are shared, without a look at
+/// those behind all writes.
 pub(crate) fn parts_after<P: Part>(
     alloc: Global,
     parts: &[Shared<P>],
@@ -187,6 +205,9 @@ pub(crate) fn parts_after<P: Part>(
     share_front(parts, first, out)?;
     let mut rest = writes;
     for i in first..parts.len() {
+        if rest.is_empty() {
+            return share_rest(parts, i, out);
+        }
         let (now, later) = rest.split_at(writes_at(parts, i, rest));
         part_after(alloc, &parts[i], now, out)?;
         rest = later;

@@ -72,7 +72,7 @@ pub(crate) fn rows_after(
     ensures rows { IfOk result (λ all. all.items ≡ after rows.now writes.now) }
     ensures rising { IfOk result (λ all. IsTrue (rising all.items)) }
 {
-    let mut all = shared(alloc, rows, rows.len())?;
+    let mut all = shared(alloc, rows, rows.len() + writes.len())?;
     for write in writes {
         put(&mut all, write)?;
     }
