@@ -6,3 +6,4 @@ pub mod Costs
 pub mod KeptLemmas
 pub mod Bounds
 pub mod Joining
+pub mod Marks

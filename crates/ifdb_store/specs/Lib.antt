@@ -2,3 +2,4 @@ pub mod Pages
 pub mod Costs
 pub mod Kept
 pub mod Later
+pub mod Marks

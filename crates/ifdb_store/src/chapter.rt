@@ -4,6 +4,7 @@ ghost use Rattle.std.specs.List.{list_all, flat_map};
 ghost use Rattle.ifdb_row.specs.Content.{after, rising};
 ghost use Rattle.ifdb_store.specs.Pages.{AddsOne, AddsRows, StaysFull, flat, is_chapter, is_full, is_page};
 
+use crate::entry::Entry;
 use crate::join::joined;
 use crate::page::Page;
 use crate::part::{Part, bound_to, end_of, parts_after, run_from};
@@ -25,7 +26,7 @@ const FULL_PAGES: usize = 64;
 /// Neighbouring pages, from 1 to 256 of them.
 #[derive(Drop)]
 pub(crate) struct Chapter {
-    pages: Sequence<Shared<Page>>,
+    pages: Sequence<Entry<Page>>,
 }
 
 impl Model for Chapter {
@@ -42,7 +43,7 @@ impl Model for Chapter {
 
 impl Chapter {
     /// A chapter of these pages.
-    fn new(pages: Vec<Shared<Page>>) -> Chapter
+    fn new(pages: Vec<Entry<Page>>) -> Chapter
         requires { IsTrue (is_chapter pages.items) }
         ensures { result ≡ pages.items }
     {
@@ -59,7 +60,7 @@ impl Chapter {
     }
 
     /// The pages.
-    pub(crate) fn pages(&self) -> &[Shared<Page>]
+    pub(crate) fn pages(&self) -> &[Entry<Page>]
         ensures pages { result.now ≡ self.now }
         ensures some { 0 < length result.now }
         ensures few { length result.now ≤ 256 }
@@ -97,7 +98,7 @@ impl Part for Chapter {
         &self,
         alloc: Global,
         writes: &[Write],
-        out: &mut Vec<Shared<Chapter>>,
+        out: &mut Vec<Entry<Chapter>>,
     ) -> Result<(), OutOfMemory> {
         let mut pages = Vec::with_capacity(alloc, self.pages().len() + 1)?;
         parts_after(alloc, self.pages(), writes, &mut pages)?;
@@ -120,8 +121,8 @@ impl Part for Chapter {
 /// Adds the chapters of some pages: one where they fit into one, else as many as it takes, each at least half full.
 pub(crate) fn bind(
     alloc: Global,
-    pages: Vec<Shared<Page>>,
-    out: &mut Vec<Shared<Chapter>>,
+    pages: Vec<Entry<Page>>,
+    out: &mut Vec<Entry<Chapter>>,
 ) -> Result<(), OutOfMemory>
     requires good { IsTrue (list_all is_page pages.items) }
     requires rising { IsTrue (rising (flat pages.items)) }
@@ -148,8 +149,8 @@ pub(crate) fn bind(
 /// Adds a chapter of the pages, if there are any.
 fn add_chapter(
     alloc: Global,
-    pages: Vec<Shared<Page>>,
-    out: &mut Vec<Shared<Chapter>>,
+    pages: Vec<Entry<Page>>,
+    out: &mut Vec<Entry<Chapter>>,
 ) -> Result<(), OutOfMemory>
     requires few { length pages.items ≤ 256 }
     requires good { IsTrue (list_all is_page pages.items) }
@@ -161,7 +162,7 @@ fn add_chapter(
     ensures one { OnOk result (AddsOne out.old.items out.new.items) }
 {
     if !pages.is_empty() {
-        out.push(Shared::new(alloc, Chapter::new(pages))?)?;
+        out.push(Entry::new(alloc, Chapter::new(pages))?)?;
     }
     Ok(())
 }

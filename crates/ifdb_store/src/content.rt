@@ -8,6 +8,7 @@ ghost use Rattle.ifdb_row.specs.Questions.{IsRun, first_row_from, rows_from};
 ghost use Rattle.ifdb_store.specs.Pages.{are_full, flat, is_chapter, is_full, is_page, rows_of};
 
 use crate::chapter::{Chapter, bind};
+use crate::entry::Entry;
 use crate::page::{Page, cut};
 use crate::part::{bound_to, parts_after, run_from};
 use crate::put::{add_shared, rows_after};
@@ -19,7 +20,7 @@ use std::marker::{Brand, Model};
 use std::sync::ledger::{Blank, Ledger};
 
 /// The chapters of a content.
-type Chapters = Sequence<Shared<Chapter>>;
+type Chapters = Sequence<Entry<Chapter>>;
 
 /// Rows in the order of their slots, each slot once. It never changes: a later version is a content of its own, which
 /// shares what it has in common with this one. Contracts see the list of the rows.
@@ -106,7 +107,7 @@ impl Content {
     }
 
     /// The chapters.
-    fn chapters(&self) -> &[Shared<Chapter>]
+    fn chapters(&self) -> &[Entry<Chapter>]
         ensures rows { rows_of result.now ≡ self.now }
         ensures good { IsTrue (list_all is_chapter result.now) }
         ensures full { IsTrue (are_full result.now) }
@@ -132,9 +133,9 @@ impl Rows for Content {
 #[tactic(auto, using(ifdb_row::proofs::ContentLaws::rising_after))]
 fn chapters_after(
     alloc: Global,
-    chapters: &[Shared<Chapter>],
+    chapters: &[Entry<Chapter>],
     writes: &[Write],
-) -> Result<Vec<Shared<Chapter>>, OutOfMemory>
+) -> Result<Vec<Entry<Chapter>>, OutOfMemory>
     requires good { IsTrue (list_all is_chapter chapters.now) }
     requires in_order { IsTrue (rising (rows_of chapters.now)) }
     requires fitting { IsTrue (are_fitting writes.now) }
@@ -157,14 +158,14 @@ fn chapters_after(
 }
 
 /// Whether each chapter is full, where there are several.
-fn are_full(chapters: &[Shared<Chapter>]) -> bool
+fn are_full(chapters: &[Entry<Chapter>]) -> bool
     ensures { result ≡ are_full chapters.now }
 {
     chapters.len() < 2 || are_all_full(chapters)
 }
 
 /// Whether each chapter is full.
-fn are_all_full(chapters: &[Shared<Chapter>]) -> bool
+fn are_all_full(chapters: &[Entry<Chapter>]) -> bool
     ensures { result ≡ list_all is_full chapters.now }
 {
     chapters.iter().all(|chapter| chapter.get().is_full())
@@ -173,8 +174,8 @@ fn are_all_full(chapters: &[Shared<Chapter>]) -> bool
 /// Full chapters of the same pages.
 fn bound_anew(
     alloc: Global,
-    chapters: &[Shared<Chapter>],
-) -> Result<Vec<Shared<Chapter>>, OutOfMemory>
+    chapters: &[Entry<Chapter>],
+) -> Result<Vec<Entry<Chapter>>, OutOfMemory>
     requires good { IsTrue (list_all is_chapter chapters.now) }
     requires in_order { IsTrue (rising (rows_of chapters.now)) }
     ensures rows { IfOk result (λ all. rows_of all.items ≡ rows_of chapters.now) }
@@ -187,7 +188,7 @@ fn bound_anew(
 }
 
 /// The pages of all chapters, shared.
-fn pages_of(alloc: Global, chapters: &[Shared<Chapter>]) -> Result<Vec<Shared<Page>>, OutOfMemory>
+fn pages_of(alloc: Global, chapters: &[Entry<Chapter>]) -> Result<Vec<Entry<Page>>, OutOfMemory>
     requires { IsTrue (list_all is_chapter chapters.now) }
     ensures rows { IfOk result (λ pages. flat pages.items ≡ rows_of chapters.now) }
     ensures good { IfOk result (λ pages. IsTrue (list_all is_page pages.items)) }
@@ -203,7 +204,7 @@ fn pages_of(alloc: Global, chapters: &[Shared<Chapter>]) -> Result<Vec<Shared<Pa
 fn first_chapters(
     alloc: Global,
     writes: &[Write],
-    out: &mut Vec<Shared<Chapter>>,
+    out: &mut Vec<Entry<Chapter>>,
 ) -> Result<(), OutOfMemory>
     requires empty { out.old.items ≡ [] }
     requires fitting { IsTrue (are_fitting writes.now) }

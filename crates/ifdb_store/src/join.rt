@@ -4,10 +4,10 @@ ghost use Rattle.std.specs.List.{list_all, list_any};
 ghost use Rattle.ifdb_row.specs.Content.{rising};
 ghost use Rattle.ifdb_store.specs.Pages.{are_joined, flat, is_page, is_small, may_join};
 
+use crate::entry::Entry;
 use crate::page::{PAGE_ROWS, Page};
 use crate::put::add_shared;
 use ifdb_row::OutOfMemory;
-use ifdb_value::Shared;
 use std::alloc::Global;
 
 /// A page of fewer rows is small, and is joined with a neighbour where both fit into one.
@@ -16,8 +16,8 @@ const SMALL_PAGE: usize = 16;
 /// Pages of the same rows, of which no two neighbours may be joined: the same pages, where none is small.
 pub(crate) fn joined(
     alloc: Global,
-    pages: Vec<Shared<Page>>,
-) -> Result<Vec<Shared<Page>>, OutOfMemory>
+    pages: Vec<Entry<Page>>,
+) -> Result<Vec<Entry<Page>>, OutOfMemory>
     requires good { IsTrue (list_all is_page pages.items) }
     requires rising { IsTrue (rising (flat pages.items)) }
     ensures rows { IfOk result (λ all. flat all.items ≡ flat pages.items) }
@@ -33,7 +33,7 @@ pub(crate) fn joined(
 }
 
 /// The same, by a look at each page.
-fn all_joined(alloc: Global, pages: Vec<Shared<Page>>) -> Result<Vec<Shared<Page>>, OutOfMemory>
+fn all_joined(alloc: Global, pages: Vec<Entry<Page>>) -> Result<Vec<Entry<Page>>, OutOfMemory>
     requires good { IsTrue (list_all is_page pages.items) }
     requires rising { IsTrue (rising (flat pages.items)) }
     ensures rows { IfOk result (λ all. flat all.items ≡ flat pages.items) }
@@ -49,7 +49,7 @@ fn all_joined(alloc: Global, pages: Vec<Shared<Page>>) -> Result<Vec<Shared<Page
 }
 
 /// Whether some page is small.
-fn is_some_small(pages: &[Shared<Page>]) -> bool
+fn is_some_small(pages: &[Entry<Page>]) -> bool
     ensures { result ≡ list_any is_small pages.now }
 {
     pages.iter().any(|page| is_small(page.get()))
@@ -65,8 +65,8 @@ fn is_small(page: &Page) -> bool
 /// Adds a page behind others, or its rows to the last of them.
 fn add_joined(
     alloc: Global,
-    page: Shared<Page>,
-    all: &mut Vec<Shared<Page>>,
+    page: Entry<Page>,
+    all: &mut Vec<Entry<Page>>,
 ) -> Result<(), OutOfMemory>
     requires page { IsTrue (is_page page) }
     requires good { IsTrue (list_all is_page all.old.items) }
@@ -86,9 +86,9 @@ fn add_joined(
 /// Adds two pages behind others, as one if they may be joined.
 fn add_pair(
     alloc: Global,
-    last: Shared<Page>,
-    page: Shared<Page>,
-    all: &mut Vec<Shared<Page>>,
+    last: Entry<Page>,
+    page: Entry<Page>,
+    all: &mut Vec<Entry<Page>>,
 ) -> Result<(), OutOfMemory>
     requires last { IsTrue (is_page last) }
     requires page { IsTrue (is_page page) }
@@ -109,7 +109,7 @@ fn add_pair(
 }
 
 /// Whether one of two pages is small, and both fit into one.
-fn may_join(page: &Shared<Page>, other: &Shared<Page>) -> bool
+fn may_join(page: &Entry<Page>, other: &Entry<Page>) -> bool
     ensures { result ≡ may_join page.now other.now }
 {
     let fits = page.get().rows().len() + other.get().rows().len() <= PAGE_ROWS;
@@ -119,9 +119,9 @@ fn may_join(page: &Shared<Page>, other: &Shared<Page>) -> bool
 /// The page of the rows of two.
 fn one_page(
     alloc: Global,
-    page: &Shared<Page>,
-    other: &Shared<Page>,
-) -> Result<Shared<Page>, OutOfMemory>
+    page: &Entry<Page>,
+    other: &Entry<Page>,
+) -> Result<Entry<Page>, OutOfMemory>
     requires some { 1 ≤ length page.now }
     requires few { length (page.now ++ other.now) ≤ 64 }
     requires rising { IsTrue (rising (page.now ++ other.now)) }
@@ -130,5 +130,5 @@ fn one_page(
     let mut rows = Vec::with_capacity(alloc, PAGE_ROWS)?;
     add_shared(page.get().rows(), &mut rows)?;
     add_shared(other.get().rows(), &mut rows)?;
-    Shared::new(alloc, Page::new(rows))
+    Entry::new(alloc, Page::new(rows))
 }

@@ -3,8 +3,10 @@
 
 mod chapter;
 mod content;
+mod entry;
 mod join;
 mod laws;
+mod mark;
 mod page;
 mod part;
 mod put;

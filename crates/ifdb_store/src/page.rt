@@ -4,6 +4,7 @@ ghost use Rattle.std.specs.List.{list_all, flat_map};
 ghost use Rattle.ifdb_row.specs.Content.{after, rising};
 ghost use Rattle.ifdb_store.specs.Pages.{flat, is_page};
 
+use crate::entry::Entry;
 use crate::part::{Part, end_of};
 use crate::put::{rows_after, shared};
 use crate::search::{Placed, reach};
@@ -83,7 +84,7 @@ impl Part for Page {
         &self,
         alloc: Global,
         writes: &[Write],
-        out: &mut Vec<Shared<Page>>,
+        out: &mut Vec<Entry<Page>>,
     ) -> Result<(), OutOfMemory> {
         let rows = rows_after(alloc, self.rows(), writes)?;
         cut(alloc, rows, out)
@@ -107,7 +108,7 @@ impl Part for Page {
 pub(crate) fn cut(
     alloc: Global,
     rows: Vec<Shared<Row>>,
-    out: &mut Vec<Shared<Page>>,
+    out: &mut Vec<Entry<Page>>,
 ) -> Result<(), OutOfMemory>
     requires rising { IsTrue (rising rows.items) }
     requires pages { IsTrue (list_all is_page out.old.items) }
@@ -132,7 +133,7 @@ pub(crate) fn cut(
 fn add_page(
     alloc: Global,
     rows: Vec<Shared<Row>>,
-    out: &mut Vec<Shared<Page>>,
+    out: &mut Vec<Entry<Page>>,
 ) -> Result<(), OutOfMemory>
     requires few { length rows.items ≤ 64 }
     requires rising { IsTrue (rising rows.items) }
@@ -141,7 +142,7 @@ fn add_page(
     ensures pages { OnOk result (IsTrue (list_all is_page out.new.items)) }
 {
     if !rows.is_empty() {
-        out.push(Shared::new(alloc, Page::new(rows))?)?;
+        out.push(Entry::new(alloc, Page::new(rows))?)?;
     }
     Ok(())
 }

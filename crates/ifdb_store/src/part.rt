@@ -12,8 +12,9 @@ ghost use Rattle.ifdb_row.specs.Reach.{reach};
 ghost use Rattle.ifdb_store.specs.Pages.{Begins, Divides};
 ghost use Rattle.ifdb_store.specs.Costs.{SearchedIn};
 
+use crate::entry::Entry;
 use crate::put::add_shared;
-use crate::search::{Placed, place, reach};
+use crate::search::{Item, Placed, place, reach};
 use crate::steps::Steps;
 use ifdb_row::{Edge, OutOfMemory, Row, Slot, Write};
 use ifdb_value::{Shared, Value};
@@ -36,7 +37,7 @@ pub(crate) trait Part: Placed + Drop {
         &self,
         alloc: Global,
         writes: &[Write],
-        out: &mut Vec<Shared<Self>>,
+        out: &mut Vec<Entry<Self>>,
     ) -> Result<(), OutOfMemory>
         requires part { IsTrue (is_part self.now) }
         requires fitting { IsTrue (are_fitting writes.now) }
@@ -94,7 +95,7 @@ fn writes_before(writes: &[Write], slot: &Slot) -> usize
 }
 
 /// How many of the writes are of the part at a place: all of them, where it is the last.
-fn writes_at<P: Part>(parts: &[Shared<P>], at: usize, writes: &[Write]) -> usize
+fn writes_at<P: Part>(parts: &[Entry<P>], at: usize, writes: &[Write]) -> usize
     requires there { at < length parts.now }
     requires parts { IsTrue (list_all P.is_part parts.now) }
     requires in_order { IsTrue (rising (flat_map P.rows parts.now)) }
@@ -113,9 +114,9 @@ fn writes_at<P: Part>(parts: &[Shared<P>], at: usize, writes: &[Write]) -> usize
 /// Adds the parts that hold a part's rows after writes. With none it is shared.
 fn part_after<P: Part>(
     alloc: Global,
-    part: &Shared<P>,
+    part: &Entry<P>,
     writes: &[Write],
-    out: &mut Vec<Shared<P>>,
+    out: &mut Vec<Entry<P>>,
 ) -> Result<(), OutOfMemory>
     requires part { IsTrue (P.is_part part.now) }
     requires fitting { IsTrue (are_fitting writes.now) }
@@ -125,14 +126,14 @@ fn part_after<P: Part>(
     ensures parts { OnOk result (IsTrue (list_all P.is_part out.new.items)) }
 {
     if writes.is_empty() {
-        out.push(part.share()?)?;
+        out.push(part.shared()?)?;
         return Ok(());
     }
     part.get().after(alloc, writes, out)
 }
 
 /// How many parts stand before all writes; not all parts.
-fn untouched<P: Part>(parts: &[Shared<P>], writes: &[Write]) -> usize
+fn untouched<P: Part>(parts: &[Entry<P>], writes: &[Write]) -> usize
     requires some { 0 < length parts.now }
     requires parts { IsTrue (list_all P.is_part parts.now) }
     requires in_order { IsTrue (rising (flat_map P.rows parts.now)) }
@@ -153,9 +154,9 @@ fn untouched<P: Part>(parts: &[Shared<P>], writes: &[Write]) -> usize
 
 /// Adds the first parts, shared.
 fn share_front<P: Part>(
-    parts: &[Shared<P>],
+    parts: &[Entry<P>],
     count: usize,
-    out: &mut Vec<Shared<P>>,
+    out: &mut Vec<Entry<P>>,
 ) -> Result<(), OutOfMemory>
     requires within { count ≤ length parts.now }
     requires parts { IsTrue (list_all P.is_part parts.now) }
@@ -169,9 +170,9 @@ fn share_front<P: Part>(
 
 /// Adds the parts from a place on, shared.
 fn share_rest<P: Part>(
-    parts: &[Shared<P>],
+    parts: &[Entry<P>],
     from: usize,
-    out: &mut Vec<Shared<P>>,
+    out: &mut Vec<Entry<P>>,
 ) -> Result<(), OutOfMemory>
     requires within { from ≤ length parts.now }
     requires parts { IsTrue (list_all P.is_part parts.now) }
@@ -188,9 +189,9 @@ fn share_rest<P: Part>(
 /// those behind all writes.
 pub(crate) fn parts_after<P: Part>(
     alloc: Global,
-    parts: &[Shared<P>],
+    parts: &[Entry<P>],
     writes: &[Write],
-    out: &mut Vec<Shared<P>>,
+    out: &mut Vec<Entry<P>>,
 ) -> Result<(), OutOfMemory>
     requires some { 0 < length parts.now }
     requires parts { IsTrue (list_all P.is_part parts.now) }
@@ -217,7 +218,7 @@ pub(crate) fn parts_after<P: Part>(
 
 /// The first rows from an edge on, of all parts, as many as lie side by side. Each comparison of slots is a step.
 pub(crate) fn run_from<'a, P: Part, L: Ledger>(
-    parts: &'a [Shared<P>],
+    parts: &'a [Entry<P>],
     edge: &Edge<'_>,
     steps: &mut Steps<L>,
 ) -> &'a [Shared<Row>]
@@ -237,7 +238,7 @@ pub(crate) fn run_from<'a, P: Part, L: Ledger>(
 }
 
 /// The last part that stands before an edge, or the first one. Each comparison of slots is a step.
-fn part_at<P: Part, L: Ledger>(parts: &[Shared<P>], edge: &Edge<'_>, steps: &mut Steps<L>) -> usize
+fn part_at<P: Part, L: Ledger>(parts: &[Entry<P>], edge: &Edge<'_>, steps: &mut Steps<L>) -> usize
     requires some { 0 < length parts.now }
     requires parts { IsTrue (list_all P.is_part parts.now) }
     requires in_order { IsTrue (rising (flat_map P.rows parts.now)) }
@@ -251,7 +252,7 @@ fn part_at<P: Part, L: Ledger>(parts: &[Shared<P>], edge: &Edge<'_>, steps: &mut
 }
 
 /// The first rows of the parts from a place on.
-fn run_at<P: Part>(parts: &[Shared<P>], at: usize) -> &[Shared<Row>]
+fn run_at<P: Part>(parts: &[Entry<P>], at: usize) -> &[Shared<Row>]
     requires { IsTrue (list_all P.is_part parts.now) }
     ensures { IsRun result.now (flat_map P.rows (drop at parts.now)) }
 {
@@ -263,7 +264,7 @@ fn run_at<P: Part>(parts: &[Shared<P>], at: usize) -> &[Shared<Row>]
 
 /// The first row, of all parts, bound to a slot whose own slot is behind another, or the first row bound to it.
 pub(crate) fn bound_to<'a, P: Part>(
-    parts: &'a [Shared<P>],
+    parts: &'a [Entry<P>],
     slot: &Slot,
     after: Option<&Slot>,
 ) -> Option<&'a Row>

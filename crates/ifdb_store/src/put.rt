@@ -7,6 +7,7 @@ ghost use Rattle.ifdb_row.specs.Content.{after, place, rising};
 ghost use Rattle.ifdb_row.specs.Reach.{reach};
 
 use crate::search;
+use crate::search::Item;
 use ifdb_label::Label;
 use ifdb_row::{Edge, OutOfMemory, Row, Slot, Write};
 use ifdb_value::{Shared, Value};
@@ -80,11 +81,11 @@ pub(crate) fn rows_after(
 }
 
 /// The items, shared, in memory for some number of them.
-pub(crate) fn shared<T: Drop>(
+pub(crate) fn shared<T: Item>(
     alloc: Global,
-    items: &[Shared<T>],
+    items: &[T],
     room: usize,
-) -> Result<Vec<Shared<T>>, OutOfMemory>
+) -> Result<Vec<T>, OutOfMemory>
     ensures { IfOk result (λ all. all.items ≡ items.now) }
 {
     let mut all = Vec::with_capacity(alloc, room)?;
@@ -93,14 +94,11 @@ pub(crate) fn shared<T: Drop>(
 }
 
 /// Adds the items, shared.
-pub(crate) fn add_shared<T: Drop>(
-    items: &[Shared<T>],
-    out: &mut Vec<Shared<T>>,
-) -> Result<(), OutOfMemory>
+pub(crate) fn add_shared<T: Item>(items: &[T], out: &mut Vec<T>) -> Result<(), OutOfMemory>
     ensures { OnOk result (out.new.items ≡ out.old.items ++ items.now) }
 {
     for item in items {
-        out.push(item.share()?)?;
+        out.push(item.shared()?)?;
     }
     Ok(())
 }

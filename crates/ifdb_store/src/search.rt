@@ -1,16 +1,19 @@
 // Binary search for an edge.
-ghost use Rattle.std.specs.Prelude.{◌≡◌, ◌≤◌, ◌+◌, ◌-◌, ◌*◌, ◌^◌, ◌<◌, IsTrue, length};
+ghost use Rattle.std.specs.Prelude.{◌≡◌, ◌≤◌, ◌+◌, ◌-◌, ◌*◌, ◌^◌, ◌<◌, IfOk, IsTrue, length};
 ghost use Rattle.ifdb_row.specs.declared.slot.Slot.{Slot as AnySlot};
 ghost use Rattle.ifdb_row.specs.Edges.{lies_before};
 ghost use Rattle.ifdb_row.specs.Reach.{reach, is_parted};
+ghost use Rattle.ifdb_store.specs.Marks.{edge_mark};
 
+use crate::mark::Mark;
 use crate::steps::Steps;
-use ifdb_row::{Edge, Row, Slot};
+use ifdb_row::{Edge, OutOfMemory, Row, Slot};
 use ifdb_value::Shared;
+use std::cmp::Ordering;
 use std::marker::Brand;
 use std::sync::ledger::{Blank, Ledger};
 
-/// What stands in a list by a slot.
+/// What stands by a slot.
 pub(crate) trait Placed {
     /// The slot.
     ghost place: { Self → AnySlot };
@@ -20,34 +23,56 @@ pub(crate) trait Placed {
         ensures { result.now ≡ place self.now };
 }
 
-impl Placed for Row {
+/// An item of a list in the order of slots. It is shared, and never copied.
+pub(crate) trait Item: Drop {
+    /// The slot that it stands by.
+    ghost spot: { Self → AnySlot };
+
+    /// The same item, shared. `OutOfMemory` comes where it has too many owners; it takes no memory.
+    fn shared(&self) -> Result<Self, OutOfMemory>
+        ensures { IfOk result (λ item. item ≡ self.now) };
+
+    /// Whether it stands before an edge, of which this is the mark. It touches no row where the marks tell.
+    fn is_before(&self, edge: &Edge<'_>, mark: &Mark) -> bool
+        requires { mark.now ≡ edge_mark edge.now }
+        ensures { result ≡ lies_before edge.now (spot self.now) };
+}
+
+impl Item for Shared<Row> {
     ghost use Rattle.ifdb_row.specs.declared.row.Row.{Row};
 
-    ghost place = { λ (r : Row). r.slot };
+    ghost spot = { λ (r : Row). r.slot };
 
-    fn slot(&self) -> &Slot {
-        &self.slot
+    fn shared(&self) -> Result<Shared<Row>, OutOfMemory> {
+        self.share()
+    }
+
+    #[tactic(auto, using(crate::proofs::Marks::told_less, crate::proofs::Marks::told_greater))]
+    fn is_before(&self, edge: &Edge<'_>, mark: &Mark) -> bool {
+        let slot = &self.get().slot;
+        match Mark::of_slot(slot).tell(mark) {
+            Ordering::Less => true,
+            Ordering::Equal => edge.is_behind(slot),
+            Ordering::Greater => false,
+        }
     }
 }
 
 /// How many items stand before an edge, found by binary search. Each comparison is a step.
-pub(crate) fn reach<T: Placed, L: Ledger>(
-    items: &[Shared<T>],
-    edge: &Edge<'_>,
-    steps: &mut Steps<L>,
-) -> usize
-    requires { IsTrue (is_parted (λ x. lies_before edge.now (T.place x)) items.now) }
-    ensures reach { result ≡ reach (λ x. lies_before edge.now (T.place x)) items.now }
+pub(crate) fn reach<T: Item, L: Ledger>(items: &[T], edge: &Edge<'_>, steps: &mut Steps<L>) -> usize
+    requires { IsTrue (is_parted (λ x. lies_before edge.now (T.spot x)) items.now) }
+    ensures reach { result ≡ reach (λ x. lies_before edge.now (T.spot x)) items.now }
     ensures within { result ≤ length items.now }
     ensures more { steps.old ≤ steps.new }
     ensures cost { 2 ^ (steps.new - steps.old) ≤ 2 * length items.now + 1 }
 {
+    let mark = Mark::of_edge(edge);
     let mut low = 0;
     let mut high = items.len();
     while low < high {
         let middle = low + (high - low) / 2;
         steps.tick();
-        if edge.is_behind(items[middle].get().slot()) {
+        if items[middle].is_before(edge, &mark) {
             low = middle + 1;
         } else {
             high = middle;
@@ -57,21 +82,21 @@ pub(crate) fn reach<T: Placed, L: Ledger>(
 }
 
 /// How many items stand before an edge, found by a search that nobody counts.
-pub(crate) fn place<T: Placed>(items: &[Shared<T>], edge: &Edge<'_>) -> usize
-    requires { IsTrue (is_parted (λ x. lies_before edge.now (T.place x)) items.now) }
-    ensures reach { result ≡ reach (λ x. lies_before edge.now (T.place x)) items.now }
+pub(crate) fn place<T: Item>(items: &[T], edge: &Edge<'_>) -> usize
+    requires { IsTrue (is_parted (λ x. lies_before edge.now (T.spot x)) items.now) }
+    ensures reach { result ≡ reach (λ x. lies_before edge.now (T.spot x)) items.now }
     ensures within { result ≤ length items.now }
 {
     uncounted::<T, Brand>(items, edge, Blank::new(1))
 }
 
 /// The same, with a ledger for steps that nobody reads.
-fn uncounted<T: Placed, L: Ledger>(items: &[Shared<T>], edge: &Edge<'_>, blank: Blank) -> usize
+fn uncounted<T: Item, L: Ledger>(items: &[T], edge: &Edge<'_>, blank: Blank) -> usize
     requires name { blank.name ≡ L.name }
     requires parts { blank.parts ≡ L.parts }
     requires some { 0 < blank.parts }
-    requires parted { IsTrue (is_parted (λ x. lies_before edge.now (T.place x)) items.now) }
-    ensures reach { result ≡ reach (λ x. lies_before edge.now (T.place x)) items.now }
+    requires parted { IsTrue (is_parted (λ x. lies_before edge.now (T.spot x)) items.now) }
+    ensures reach { result ≡ reach (λ x. lies_before edge.now (T.spot x)) items.now }
     ensures within { result ≤ length items.now }
 {
     let mut steps = Steps::<L>::new(blank);

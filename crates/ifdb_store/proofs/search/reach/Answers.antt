@@ -14,10 +14,10 @@ loop-low-init g c = record {
   cost = started c.args.steps.now (length c.args.items.now);
 }
 
-pub loop-low-preserved-then-is_behind : goal.loop-low-preserved-then-is_behind
-loop-low-preserved-then-is_behind g c =
+pub loop-low-preserved-then-is_before : goal.loop-low-preserved-then-is_before
+loop-low-preserved-then-is_before g c =
     let i = c.loop-low.invariant in
-    let same : lies_before c.args.edge.now (g.T.Placed.place c.index-items-middle.result) ≡ true = cc in
+    let same : lies_before c.args.edge.now (g.T.Item.spot c.index-items-middle.result) ≡ true = cc in
     let t = c.loop-low-test.true in
     let s = c.tick.ensures in
     record {
@@ -32,7 +32,7 @@ loop-low-preserved-then-is_behind g c =
 pub loop-low-preserved : goal.loop-low-preserved
 loop-low-preserved g c =
     let i = c.loop-low.invariant in
-    let same : lies_before c.args.edge.now (g.T.Placed.place c.index-items-middle.result) ≡ false = cc in
+    let same : lies_before c.args.edge.now (g.T.Item.spot c.index-items-middle.result) ≡ false = cc in
     let t = c.loop-low-test.true in
     let s = c.tick.ensures in
     record {

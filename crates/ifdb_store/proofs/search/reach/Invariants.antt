@@ -5,7 +5,7 @@ use Rattle.ifdb_store.proofs.search.reach.Given as goal
 
 abbrev pub invariant-loop-low : goal.invariant-loop-low
 invariant-loop-low g l =
-    let reached = reach (λ x. lies_before l.edge (g.T.Placed.place x)) l.items in
+    let reached = reach (λ x. lies_before l.edge (g.T.Item.spot x)) l.items in
     record {
       low : l.low ≤ reached;
       high : reached ≤ l.high;
