@@ -4,9 +4,12 @@ use Rattle.std.proofs.Common.{arith}
 use Rattle.std.proofs.lemmas.Bool.{false≢true}
 use Rattle.std.proofs.lemmas.Bool.Decides.{nat_tests}
 use Rattle.std.specs.List.{list_all, flat_map}
+use Rattle.std.specs.declared.vec.Vec.{Vec}
+use Rattle.std.specs.declared.alloc.Global.{Global}
 use Rattle.ifdb_row.specs.declared.row.Row.{Row}
 use Rattle.ifdb_row.specs.declared.slot.Slot.{Slot}
 use Rattle.ifdb_row.specs.declared.write.Write.{Write}
+use Rattle.ifdb_row.specs.Slots.{slot_lt}
 use Rattle.ifdb_row.specs.Content.{after, rising}
 
 -- from 1 to 64 rows, in the order of their slots
@@ -85,3 +88,26 @@ chapter_begins ((r ∷ rows) ∷ pages) h = (r, rows ++ flat pages, refl, refl)
 abbrev pub Divides : {X : Type 0} → (X → List Row) → List X → ℕ → List Write → ℕ → Type 0
 Divides {X} rows parts i ws n = (x : X) → x ≡ get_or parts i x
     → after (flat_map rows (drop i parts)) ws ≡ after (rows x) (take n ws) ++ after (flat_map rows (drop (i + 1) parts)) (drop n ws)
+
+-- the parts hold the rows of more parts, behind the others
+abbrev pub AddsParts : {X : Type 0} → (X → List Row) → Vec X Global → Vec X Global → List X → Type 0
+AddsParts rows old new parts = flat_map rows new.items ≡ flat_map rows old.items ++ flat_map rows parts
+
+-- they hold what writes make of some rows, behind the others
+abbrev pub AddsAfter : {X : Type 0} → (X → List Row) → Vec X Global → Vec X Global → List Row → List Write → Type 0
+AddsAfter rows old new before ws = flat_map rows new.items ≡ flat_map rows old.items ++ after before ws
+
+-- the same of the rows of some parts
+abbrev pub AddsAllAfter : {X : Type 0} → (X → List Row) → Vec X Global → Vec X Global → List X → List Write → Type 0
+AddsAllAfter rows old new parts ws = AddsAfter rows old new (flat_map rows parts) ws
+
+-- writes leave the first n parts as they are
+abbrev pub Leaves : {X : Type 0} → (X → List Row) → List X → List Write → ℕ → Type 0
+Leaves rows parts ws n = after (flat_map rows parts) ws ≡ flat_map rows (take n parts) ++ after (flat_map rows (drop n parts)) ws
+
+-- the writes are all of slots before this one, or of none of them
+abbrev pub are_before : Slot → List Write → Bool
+are_before s ws = list_all (λ (w : Write). slot_lt w.slot s) ws
+
+abbrev pub are_from : Slot → List Write → Bool
+are_from s ws = list_all (λ (w : Write). not (slot_lt w.slot s)) ws

@@ -140,7 +140,7 @@ fn chapters_after(
     requires in_order { IsTrue (rising (rows_of chapters.now)) }
     requires fitting { IsTrue (are_fitting writes.now) }
     requires rising { IsTrue (are_rising writes.now) }
-    ensures rows { IfOk result (λ all. rows_of all.items ≡ after (rows_of chapters.now) writes.now) }
+    ensures rows { IfOk result (λ cs. rows_of cs.items ≡ after (rows_of chapters.now) writes.now) }
     ensures good { IfOk result (λ all. IsTrue (list_all is_chapter all.items)) }
     ensures full { IfOk result (λ all. IsTrue (are_full all.items)) }
     ensures rising { IfOk result (λ all. IsTrue (rising (rows_of all.items))) }

@@ -9,7 +9,7 @@ ghost use Rattle.ifdb_row.specs.Content.{after, rising};
 ghost use Rattle.std.specs.Option.{option_copied};
 ghost use Rattle.ifdb_row.specs.Questions.{IsRun, bound_behind, rows_from};
 ghost use Rattle.ifdb_row.specs.Reach.{reach};
-ghost use Rattle.ifdb_store.specs.Pages.{Begins, Divides};
+ghost use Rattle.ifdb_store.specs.Pages.{AddsAfter, AddsAllAfter, AddsParts, Begins, Divides, Leaves, are_before, are_from};
 ghost use Rattle.ifdb_store.specs.Costs.{SearchedIn};
 
 use crate::entry::Entry;
@@ -43,7 +43,7 @@ pub(crate) trait Part: Placed + Drop {
         requires fitting { IsTrue (are_fitting writes.now) }
         requires rising { IsTrue (are_rising writes.now) }
         requires parts { IsTrue (list_all is_part out.old.items) }
-        ensures rows { OnOk result (flat_map rows out.new.items ≡ flat_map rows out.old.items ++ after (rows self.now) writes.now) }
+        ensures rows { OnOk result (AddsAfter rows out.old out.new (rows self.now) writes.now) }
         ensures parts { OnOk result (IsTrue (list_all is_part out.new.items)) };
 
     /// Its first rows, as many as lie side by side.
@@ -88,8 +88,8 @@ pub(crate) fn end_of(from: usize, len: usize, most: usize) -> usize
 fn writes_before(writes: &[Write], slot: &Slot) -> usize
     requires { IsTrue (are_rising writes.now) }
     ensures within { result ≤ length writes.now }
-    ensures before { IsTrue (list_all (λ w. slot_lt w.slot slot.now) (take result writes.now)) }
-    ensures behind { IsTrue (list_all (λ w. not (slot_lt w.slot slot.now)) (drop result writes.now)) }
+    ensures before { IsTrue (are_before slot.now (take result writes.now)) }
+    ensures behind { IsTrue (are_from slot.now (drop result writes.now)) }
 {
     writes.partition_point(|write| write.slot.is_before(slot))
 }
@@ -122,7 +122,7 @@ fn part_after<P: Part>(
     requires fitting { IsTrue (are_fitting writes.now) }
     requires rising { IsTrue (are_rising writes.now) }
     requires parts { IsTrue (list_all P.is_part out.old.items) }
-    ensures rows { OnOk result (flat_map P.rows out.new.items ≡ flat_map P.rows out.old.items ++ after (P.rows part.now) writes.now) }
+    ensures rows { OnOk result (AddsAfter P.rows out.old out.new (P.rows part.now) writes.now) }
     ensures parts { OnOk result (IsTrue (list_all P.is_part out.new.items)) }
 {
     if writes.is_empty() {
@@ -139,7 +139,7 @@ fn untouched<P: Part>(parts: &[Entry<P>], writes: &[Write]) -> usize
     requires in_order { IsTrue (rising (flat_map P.rows parts.now)) }
     requires rising { IsTrue (are_rising writes.now) }
     ensures within { result < length parts.now }
-    ensures rows { after (flat_map P.rows parts.now) writes.now ≡ flat_map P.rows (take result parts.now) ++ after (flat_map P.rows (drop result parts.now)) writes.now }
+    ensures rows { Leaves P.rows parts.now writes.now result }
 {
     match writes {
         [] => 0,
@@ -161,7 +161,7 @@ fn share_front<P: Part>(
     requires within { count ≤ length parts.now }
     requires parts { IsTrue (list_all P.is_part parts.now) }
     requires good { IsTrue (list_all P.is_part out.old.items) }
-    ensures rows { OnOk result (flat_map P.rows out.new.items ≡ flat_map P.rows out.old.items ++ flat_map P.rows (take count parts.now)) }
+    ensures rows { OnOk result (AddsParts P.rows out.old out.new (take count parts.now)) }
     ensures parts { OnOk result (IsTrue (list_all P.is_part out.new.items)) }
 {
     add_shared(&parts[..count], out)?;
@@ -177,7 +177,7 @@ fn share_rest<P: Part>(
     requires within { from ≤ length parts.now }
     requires parts { IsTrue (list_all P.is_part parts.now) }
     requires good { IsTrue (list_all P.is_part out.old.items) }
-    ensures rows { OnOk result (flat_map P.rows out.new.items ≡ flat_map P.rows out.old.items ++ flat_map P.rows (drop from parts.now)) }
+    ensures rows { OnOk result (AddsParts P.rows out.old out.new (drop from parts.now)) }
     ensures parts { OnOk result (IsTrue (list_all P.is_part out.new.items)) }
 {
     let (_, rest) = parts.split_at(from);
@@ -199,7 +199,7 @@ pub(crate) fn parts_after<P: Part>(
     requires fitting { IsTrue (are_fitting writes.now) }
     requires rising { IsTrue (are_rising writes.now) }
     requires good { IsTrue (list_all P.is_part out.old.items) }
-    ensures rows { OnOk result (flat_map P.rows out.new.items ≡ flat_map P.rows out.old.items ++ after (flat_map P.rows parts.now) writes.now) }
+    ensures rows { OnOk result (AddsAllAfter P.rows out.old out.new parts.now writes.now) }
     ensures parts { OnOk result (IsTrue (list_all P.is_part out.new.items)) }
 {
     let first = untouched(parts, writes);
