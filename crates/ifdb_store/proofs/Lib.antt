@@ -7,3 +7,4 @@ pub mod KeptLemmas
 pub mod Bounds
 pub mod Joining
 pub mod Marks
+pub mod Spans

@@ -11,6 +11,7 @@ mod page;
 mod part;
 mod put;
 mod search;
+mod span;
 mod steps;
 mod store;
 

@@ -8,6 +8,7 @@ use crate::entry::Entry;
 use crate::part::{Part, end_of};
 use crate::put::{rows_after, shared};
 use crate::search::{Placed, reach};
+use crate::span::Span;
 use crate::steps::Steps;
 use ifdb_row::{Edge, OutOfMemory, Row, Slot, Write, first_bound};
 use ifdb_value::{Sequence, Shared};
@@ -62,15 +63,19 @@ impl Placed for Page {
 
     ghost place = { front };
 
+    ghost rows = { λ p. p };
+
     fn slot(&self) -> &Slot {
         &self.rows()[0].get().slot
+    }
+
+    fn span(&self) -> Span {
+        Span::of_rows(self.rows())
     }
 }
 
 impl Part for Page {
     ghost use Rattle.ifdb_store.specs.Pages.{is_page, page_begins};
-
-    ghost rows = { λ p. p };
 
     ghost is_part = { is_page };
 

@@ -23,9 +23,6 @@ use std::sync::ledger::Ledger;
 
 /// Some neighbouring rows of a content, at least one. It stands by its first row's slot.
 pub(crate) trait Part: Placed + Drop {
-    /// The rows.
-    ghost rows: { Self → List AnyRow };
-
     /// It is as a part has to be.
     ghost is_part: { Self → Bool };
 
@@ -43,28 +40,28 @@ pub(crate) trait Part: Placed + Drop {
         requires fitting { IsTrue (are_fitting writes.now) }
         requires rising { IsTrue (are_rising writes.now) }
         requires parts { IsTrue (list_all is_part out.old.items) }
-        ensures rows { OnOk result (AddsAfter rows out.old out.new (rows self.now) writes.now) }
+        ensures rows { OnOk result (AddsAfter Self.rows out.old out.new (Self.rows self.now) writes.now) }
         ensures parts { OnOk result (IsTrue (list_all is_part out.new.items)) };
 
     /// Its first rows, as many as lie side by side.
     fn first_run(&self) -> &[Shared<Row>]
         requires { IsTrue (is_part self.now) }
-        ensures { IsRun result.now (rows self.now) };
+        ensures { IsRun result.now (Self.rows self.now) };
 
     /// Its first rows from an edge on, as many as lie side by side. Each comparison of slots is a step.
     fn run_from<L: Ledger>(&self, edge: &Edge<'_>, steps: &mut Steps<L>) -> &[Shared<Row>]
         requires { IsTrue (is_part self.now) }
-        ensures run { IsRun result.now (rows_from edge.now (rows self.now)) }
+        ensures run { IsRun result.now (rows_from edge.now (Self.rows self.now)) }
         ensures more { steps.old ≤ steps.new }
         ensures cost { bounds self.now (2 ^ (steps.new - steps.old)) };
 
     /// Its first row bound to a slot whose own slot is behind another, or its first row bound to it.
     fn bound_to(&self, slot: &Slot, after: Option<&Slot>) -> Option<&Row>
         requires { IsTrue (is_part self.now) }
-        ensures { option_copied result ≡ bound_behind slot.now after.entry (rows self.now) };
+        ensures { option_copied result ≡ bound_behind slot.now after.entry (Self.rows self.now) };
 
     /// It has a first row, by whose slot it stands.
-    ghost begins: { (x : Self) → is_part x ≡ true → Begins (rows x) (Self.place x) };
+    ghost begins: { (x : Self) → is_part x ≡ true → Begins (Self.rows x) (Self.place x) };
 }
 
 /// Where the next part of some items ends, where a part has no more than so many: half of them, until the rest fits.
@@ -272,10 +269,23 @@ pub(crate) fn bound_to<'a, P: Part>(
     ensures { option_copied result ≡ bound_behind slot.now after.entry (flat_map P.rows parts.now) }
 {
     for part in parts {
-        let row = part.get().bound_to(slot, after);
+        let row = child_in(part, slot, after);
         if row.is_some() {
             return row;
         }
     }
     None
+}
+
+/// The same of one part, which it doesn't touch where no row of it can have a parent in the slot's table.
+#[tactic(auto, using(crate::proofs::Spans::none_bound))]
+fn child_in<'a, P: Part>(part: &'a Entry<P>, slot: &Slot, after: Option<&Slot>) -> Option<&'a Row>
+    requires { IsTrue (P.is_part part.now) }
+    ensures { option_copied result ≡ bound_behind slot.now after.entry (P.rows part.now) }
+{
+    if part.may_refer(slot.table) {
+        part.get().bound_to(slot, after)
+    } else {
+        None
+    }
 }

@@ -6,4 +6,4 @@ use Rattle.ifdb_row.specs.Questions.{row_bound_to}
 use Rattle.ifdb_store.proofs.part.bound_to.Given as goal
 
 abbrev pub invariant-loop-part : goal.invariant-loop-part
-invariant-loop-part g l = row_bound_to l.slot (option_copied l.after) (flat_map g.P.Part.rows (take l.part-index l.parts)) ≡ None
+invariant-loop-part g l = row_bound_to l.slot (option_copied l.after) (flat_map g.P.Placed.rows (take l.part-index l.parts)) ≡ None

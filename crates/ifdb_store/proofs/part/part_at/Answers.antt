@@ -8,7 +8,7 @@ use Rattle.ifdb_store.proofs.part.part_at.Goals as goal
 pub reach-requires : goal.reach-requires
 reach-requires g c =
     subst (λ xs. is_parted (λ x. lies_before c.args.edge.now (g.P.Placed.place x)) xs ≡ true) (sym c.split_at.ensures.back)
-    (parted_others (lies_before c.args.edge.now) (edge_falls c.args.edge.now) g.P.Part.rows g.P.Placed.place g.P.Part.is_part g.met.P.Part.begins c.args.parts.now c.requires.parts c.requires.in_order)
+    (parted_others (lies_before c.args.edge.now) (edge_falls c.args.edge.now) g.P.Placed.rows g.P.Placed.place g.P.Part.is_part g.met.P.Part.begins c.args.parts.now c.requires.parts c.requires.in_order)
 
 pub returns-clause-place : goal.returns-clause-place
 returns-clause-place g c =

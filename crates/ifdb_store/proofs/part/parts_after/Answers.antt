@@ -13,7 +13,7 @@ part_after-requires-clause-rising g c = ap are_rising c.split_at.ensures.front â
 
 pub loop-i-preserved : goal.loop-i-preserved
 loop-i-preserved g c =
-    let rows = g.P.Part.rows in
+    let rows = g.P.Placed.rows in
     let i = c.loop-i.invariant in
     let x = c.index-parts-i.result in
     let d = c.writes_at.ensures.split x c.index-parts-i.is in

@@ -14,24 +14,24 @@ returns-then-is_empty-clause-run g c =
     let p = lies_before c.args.edge.now in
     let y = c.index-parts-at.result in
     let some = c.requires.some in
-    let all = skipped_at p (edge_falls c.args.edge.now) g.P.Part.rows g.P.Placed.place g.P.Part.is_part g.met.P.Part.begins c.args.parts.now c.part_at-at.result y some c.part_at-at.ensures.place c.index-parts-at.is c.requires.parts c.requires.in_order in
-    let found : IsRun c.run_from-run.result.now (skip (λ (r : Row). p r.slot) (g.P.Part.rows c.get.result.now)) = c.run_from-run.ensures.run in
+    let all = skipped_at p (edge_falls c.args.edge.now) g.P.Placed.rows g.P.Placed.place g.P.Part.is_part g.met.P.Part.begins c.args.parts.now c.part_at-at.result y some c.part_at-at.ensures.place c.index-parts-at.is c.requires.parts c.requires.in_order in
+    let found : IsRun c.run_from-run.result.now (skip (λ (r : Row). p r.slot) (g.P.Placed.rows c.get.result.now)) = c.run_from-run.ensures.run in
     let no : c.run_from-run.result.now ≡ [] = empty_run c.run_from-run.result.now (search rules) in
-    let none : skip (λ (r : Row). p r.slot) (g.P.Part.rows y) ≡ [] = ap (λ x. skip (λ (r : Row). p r.slot) (g.P.Part.rows x)) (sym c.get.ensures) ∙ found.some no in
-    let rest = flat_map g.P.Part.rows (drop (c.part_at-at.result + 1) c.args.parts.now) in
-    same_run c.run_at.result.now rest (rows_from c.args.edge.now (flat_map g.P.Part.rows c.args.parts.now)) (sym (all ∙ ap (λ xs. xs ++ rest) none)) c.run_at.ensures
+    let none : skip (λ (r : Row). p r.slot) (g.P.Placed.rows y) ≡ [] = ap (λ x. skip (λ (r : Row). p r.slot) (g.P.Placed.rows x)) (sym c.get.ensures) ∙ found.some no in
+    let rest = flat_map g.P.Placed.rows (drop (c.part_at-at.result + 1) c.args.parts.now) in
+    same_run c.run_at.result.now rest (rows_from c.args.edge.now (flat_map g.P.Placed.rows c.args.parts.now)) (sym (all ∙ ap (λ xs. xs ++ rest) none)) c.run_at.ensures
 
 pub returns-clause-run : goal.returns-clause-run
 returns-clause-run g c =
     let p = lies_before c.args.edge.now in
     let y = c.index-parts-at.result in
     let some = c.requires.some in
-    let all = skipped_at p (edge_falls c.args.edge.now) g.P.Part.rows g.P.Placed.place g.P.Part.is_part g.met.P.Part.begins c.args.parts.now c.part_at-at.result y some c.part_at-at.ensures.place c.index-parts-at.is c.requires.parts c.requires.in_order in
-    let found : IsRun c.run_from-run.result.now (skip (λ (r : Row). p r.slot) (g.P.Part.rows c.get.result.now)) = c.run_from-run.ensures.run in
-    let here : IsRun c.run_from-run.result.now (skip (λ (r : Row). p r.slot) (g.P.Part.rows y)) = same_run c.run_from-run.result.now _ _ (ap (λ x. skip (λ (r : Row). p r.slot) (g.P.Part.rows x)) c.get.ensures) found in
+    let all = skipped_at p (edge_falls c.args.edge.now) g.P.Placed.rows g.P.Placed.place g.P.Part.is_part g.met.P.Part.begins c.args.parts.now c.part_at-at.result y some c.part_at-at.ensures.place c.index-parts-at.is c.requires.parts c.requires.in_order in
+    let found : IsRun c.run_from-run.result.now (skip (λ (r : Row). p r.slot) (g.P.Placed.rows c.get.result.now)) = c.run_from-run.ensures.run in
+    let here : IsRun c.run_from-run.result.now (skip (λ (r : Row). p r.slot) (g.P.Placed.rows y)) = same_run c.run_from-run.result.now _ _ (ap (λ x. skip (λ (r : Row). p r.slot) (g.P.Placed.rows x)) c.get.ensures) found in
     let is = some_run c.run_from-run.result.now (search rules) in
-    let rest = flat_map g.P.Part.rows (drop (c.part_at-at.result + 1) c.args.parts.now) in
-    same_run c.run_from-run.result.now _ (rows_from c.args.edge.now (flat_map g.P.Part.rows c.args.parts.now)) (sym all) (run_more c.run_from-run.result.now (skip (λ (r : Row). p r.slot) (g.P.Part.rows y)) rest here is)
+    let rest = flat_map g.P.Placed.rows (drop (c.part_at-at.result + 1) c.args.parts.now) in
+    same_run c.run_from-run.result.now _ (rows_from c.args.edge.now (flat_map g.P.Placed.rows c.args.parts.now)) (sym all) (run_more c.run_from-run.result.now (skip (λ (r : Row). p r.slot) (g.P.Placed.rows y)) rest here is)
 
 pub returns-then-is_empty-clause-cost : goal.returns-then-is_empty-clause-cost
 returns-then-is_empty-clause-cost g c = record {
