@@ -73,6 +73,18 @@ fn pseudo_random_writes(rt: HostRuntime) -> Result<(), Fail> {
 }
 
 #[test]
+fn a_child_is_found_among_many_rows(rt: HostRuntime) -> Result<(), Fail> {
+    let mut store = Store::new(rt.alloc())?;
+    commit(&mut store, range(rt.alloc(), 0, 200, 1)?)?;
+    commit(&mut store, child(rt.alloc(), 150, 7)?)?;
+    let content = store.content();
+    assert!(rt; content.bound_to(&slot_of(rt.alloc(), 7)?, None).is_some());
+    assert!(rt; content.bound_to(&slot_of(rt.alloc(), 8)?, None).is_none());
+    assert_eq!(rt; walk(content).rows, 200);
+    Ok(())
+}
+
+#[test]
 fn threads_read_one_content(rt: HostRuntime) -> Result<(), Fail> {
     let mut store = Store::new(rt.alloc())?;
     commit(&mut store, range(rt.alloc(), 0, 1000, 3)?)?;
@@ -219,6 +231,18 @@ fn thinned(alloc: Global, first: i64) -> Result<Writes, OutOfMemory> {
 fn one(alloc: Global, key: i64, value: i64) -> Result<Writes, OutOfMemory> {
     let mut writes = Writes::new(alloc);
     writes.put(write_of(alloc, key, value)?)?;
+    Ok(writes)
+}
+
+/// The write that puts a row under a key, bound to the row of another key.
+fn child(alloc: Global, key: i64, parent: i64) -> Result<Writes, OutOfMemory> {
+    let mut writes = Writes::new(alloc);
+    let row = Row {
+        slot: slot_of(alloc, key)?,
+        values: Values::new(alloc),
+        refs: Refs::single(alloc, slot_of(alloc, parent)?)?,
+    };
+    writes.put(Write::of_row(alloc, row)?)?;
     Ok(writes)
 }
 
