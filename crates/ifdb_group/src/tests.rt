@@ -1,0 +1,214 @@
+// Rows, groups, sums and order of a few combinations.
+use crate::{AnswerRows, Groups, Sink, Total, sorted};
+use ifdb_bound::{BoundColumn, BoundExpr, BoundItem, BoundItems, OrderKey};
+use ifdb_expr::{ExprFault, Frame, SeenRow};
+use ifdb_label::Tag;
+use ifdb_row::OutOfMemory;
+use ifdb_value::{Name, Sequence, Value, ValueRow, ValueRows, Word};
+use std::alloc::Global;
+use std::process::Abort;
+use std::test::Fail;
+
+/// Rows of a number and a text, in their order.
+static ROWS: [(i64, &str); 5] = [(3, "b"), (1, "a"), (3, "a"), (1, "b"), (3, "b")];
+
+/// The values of rows.
+fn value_rows(alloc: Global, rows: &[(i64, &str)]) -> Result<ValueRows, OutOfMemory> {
+    let mut all = ValueRows::new(alloc);
+    for (number, text) in rows {
+        let mut row = ValueRow::new(alloc);
+        row.push(Value::Int(*number))?;
+        row.push(Value::Text(Word::of(alloc, text)?))?;
+        all.push(row)?;
+    }
+    Ok(all)
+}
+
+/// Gives each row to a sink.
+fn give<'a>(
+    sink: &mut Sink<'a>,
+    rows: &'a [ValueRow],
+    label: &'a [Tag],
+) -> Result<(), OutOfMemory> {
+    for row in rows {
+        let frame = Frame::empty().with(SeenRow {
+            values: row.items(),
+            label,
+        });
+        sink.take(&frame)?;
+    }
+    Ok(())
+}
+
+/// The rows of the groups by some columns.
+fn grouped<'a>(
+    alloc: Global,
+    rows: &'a [ValueRow],
+    items: &'a [BoundItem],
+    columns: &'a [BoundColumn],
+) -> Result<ValueRows, Fail> {
+    let mut sink = Sink::Groups(Groups::new(alloc, items, columns));
+    give(&mut sink, rows, &[])?;
+    Ok(rows_of(alloc, sink).ok().ok_or("groups")?)
+}
+
+/// The rows of an answer over rows at one label.
+fn labelled<'a>(
+    alloc: Global,
+    rows: &'a [ValueRow],
+    names: &'a [Name],
+    items: &'a [BoundItem],
+    label: &'a [Tag],
+) -> Result<ValueRows, Fail> {
+    let mut sink = Sink::Rows(AnswerRows::new(alloc, names, items));
+    give(&mut sink, rows, label)?;
+    Ok(rows_of(alloc, sink).ok().ok_or("rows")?)
+}
+
+/// The rows that a sink gives, beside those of a total.
+fn rows_of(alloc: Global, sink: Sink<'_>) -> Result<ValueRows, ExprFault> {
+    match sink {
+        Sink::Rows(rows) => rows.rows(),
+        Sink::Groups(groups) => groups.rows(&[]),
+        _ => Ok(ValueRows::new(alloc)),
+    }
+}
+
+/// Tests that rows are these, each written as its values with a space behind each.
+fn are(rt: &impl Abort, alloc: Global, rows: &ValueRows, want: &[&str]) -> Result<(), Fail> {
+    assert_eq!(rt; rows.len(), want.len());
+    for (row, wanted) in rows.items().iter().zip(want) {
+        let mut text = String::new(alloc);
+        for value in row.items() {
+            match value {
+                Value::Int(number) => write!(text, "{number} ")?,
+                Value::Text(word) => write!(text, "{} ", word.as_str())?,
+            }
+        }
+        assert_eq!(rt; text.as_str(), *wanted);
+    }
+    Ok(())
+}
+
+fn column(column: usize) -> BoundColumn {
+    BoundColumn { source: 0, column }
+}
+
+fn item(place: usize) -> BoundItem {
+    BoundItem::Expr(BoundExpr::Column(column(place)))
+}
+
+#[test]
+fn groups_come_as_they_appear(rt: HostRuntime) -> Result<(), Fail> {
+    let alloc = rt.alloc();
+    let rows = value_rows(alloc, &ROWS)?;
+    let mut items = BoundItems::single(alloc, item(1))?;
+    items.push(item(0))?;
+    items.push(BoundItem::CountAll)?;
+    items.push(BoundItem::Sum(column(0)))?;
+    let columns = [column(1), column(0)];
+    let found = grouped(alloc, rows.items(), items.items(), &columns)?;
+    are(
+        &rt,
+        alloc,
+        &found,
+        &["b 3 2 6 ", "a 1 1 1 ", "a 3 1 3 ", "b 1 1 1 "],
+    )
+}
+
+#[test]
+fn least_and_greatest_of_texts(rt: HostRuntime) -> Result<(), Fail> {
+    let alloc = rt.alloc();
+    let rows = value_rows(alloc, &ROWS)?;
+    let mut items = BoundItems::single(alloc, item(0))?;
+    items.push(BoundItem::Min(column(1)))?;
+    items.push(BoundItem::Max(column(1)))?;
+    let columns = [column(0)];
+    let found = grouped(alloc, rows.items(), items.items(), &columns)?;
+    are(&rt, alloc, &found, &["3 a b ", "1 a b "])
+}
+
+/// What COUNT(*) and SUM give of some numbers.
+fn total(alloc: Global, rows: &[(i64, &str)]) -> Result<Result<ValueRow, ExprFault>, Fail> {
+    let rows = value_rows(alloc, rows)?;
+    let mut items = BoundItems::single(alloc, BoundItem::CountAll)?;
+    items.push(BoundItem::Sum(column(0)))?;
+    let mut sink = Sink::Total(Total::new(alloc, items.items())?);
+    give(&mut sink, rows.items(), &[])?;
+    match &sink {
+        Sink::Total(total) => Ok(total.row(alloc, &[])),
+        _ => Ok(Err(ExprFault::OutOfMemory)),
+    }
+}
+
+#[test]
+fn a_sum_is_judged_at_its_end(rt: HostRuntime) -> Result<(), Fail> {
+    let alloc = rt.alloc();
+    let within = total(alloc, &[(i64::MAX, ""), (1, ""), (-1, "")])?;
+    let mut rows = ValueRows::new(alloc);
+    rows.push(within.ok().ok_or("a sum")?)?;
+    are(&rt, alloc, &rows, &["3 9223372036854775807 "])?;
+    let beyond = total(alloc, &[(i64::MIN, ""), (-1, "")])?;
+    assert!(rt; matches!(beyond, Err(ExprFault::OutOfRange)));
+    let mut none = ValueRows::new(alloc);
+    none.push(total(alloc, &[])?.ok().ok_or("a sum")?)?;
+    are(&rt, alloc, &none, &["0 0 "])
+}
+
+#[test]
+fn rows_name_their_labels(rt: HostRuntime) -> Result<(), Fail> {
+    let alloc = rt.alloc();
+    let rows = value_rows(alloc, &ROWS[..1])?;
+    let mut names = Vec::new(alloc);
+    names.push(Name::read(alloc, "p").ok().ok_or("a name")?)?;
+    names.push(Name::read(alloc, "q").ok().ok_or("a name")?)?;
+    let mut items = BoundItems::single(alloc, item(0))?;
+    items.push(BoundItem::LabelOf(0))?;
+    let label = [Tag(0), Tag(1)];
+    let found = labelled(alloc, rows.items(), &names, items.items(), &label)?;
+    are(&rt, alloc, &found, &["3 {p,q} "])
+}
+
+#[test]
+fn order_keeps_ties(rt: HostRuntime) -> Result<(), Fail> {
+    let alloc = rt.alloc();
+    let rising = [OrderKey {
+        place: 0,
+        descending: false,
+    }];
+    let by_number = sorted(&rising, value_rows(alloc, &ROWS)?)?;
+    are(
+        &rt,
+        alloc,
+        &by_number,
+        &["1 a ", "1 b ", "3 b ", "3 a ", "3 b "],
+    )?;
+    let falling = [OrderKey {
+        place: 0,
+        descending: true,
+    }];
+    let turned = sorted(&falling, value_rows(alloc, &ROWS)?)?;
+    are(
+        &rt,
+        alloc,
+        &turned,
+        &["3 b ", "3 a ", "3 b ", "1 a ", "1 b "],
+    )?;
+    let both = [
+        OrderKey {
+            place: 1,
+            descending: true,
+        },
+        OrderKey {
+            place: 0,
+            descending: false,
+        },
+    ];
+    let found = sorted(&both, value_rows(alloc, &ROWS)?)?;
+    are(
+        &rt,
+        alloc,
+        &found,
+        &["1 b ", "3 b ", "3 b ", "1 a ", "3 a "],
+    )
+}
