@@ -50,7 +50,7 @@ pub fn top<T: AllocGlobal, R: Source, W: Sink, S: Site>(
         (R.left input.old) (R.left input.new) (W.written output.old) (W.written output.new) }
 
     ensures cuts { CutsDontMatter }
-    ensures two_worlds { KeepsLevels DEFAULT_LIMIT
+    ensures two_worlds { result ≡ Status.Done → KeepsLevels DEFAULT_LIMIT
         (R.left input.old) (R.left input.new) (W.written output.old) (W.written output.new) }
 
     // Faults, and what was written before them.

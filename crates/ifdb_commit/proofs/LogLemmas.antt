@@ -11,7 +11,7 @@ use Rattle.ifdb_store.proofs.KeptLemmas.{tells}
 use Rattle.ifdb_model.specs.Log.{Entry, changes, commits, commits_of, content_of, written_of, stamped_from}
 use Rattle.ifdb_commit.specs.Laws.{JudgesALog}
 
-writes_stamped : (at : ℕ) (log : List Entry) → map (λ (c : Commit). c.writes) (stamped_from at log) ≡ commits_of log
+pub writes_stamped : (at : ℕ) (log : List Entry) → map (λ (c : Commit). c.writes) (stamped_from at log) ≡ commits_of log
 writes_stamped at [] = refl
 writes_stamped at (changes c ∷ log) = writes_stamped (at + 1) log
 writes_stamped at (commits ws ∷ log) = ap (λ xs. ws ∷ xs) (writes_stamped (at + 1) log)

@@ -24,8 +24,7 @@ use Rattle.ifdb_catalog.specs.Public.{Public}
 use Rattle.ifdb_catalog.specs.Binding.{bound}
 use Rattle.ifdb_catalog.specs.Queries.{bound_source}
 use Rattle.ifdb_catalog.proofs.Judging.{accepted}
-use Rattle.ifdb_model.specs.Step.{if_built}
-use Rattle.ifdb_db.specs.Reading.{is_built, is_narrow, is_narrow_bound, read_line, request_or_fault}
+use Rattle.ifdb_db.specs.Reading.{if_built, is_built, is_narrow, is_narrow_bound, read_line, request_or_fault}
 
 -- ---- what is read
 

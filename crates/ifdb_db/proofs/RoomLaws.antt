@@ -15,13 +15,13 @@ use Rattle.ifdb_wire.specs.declared.reply.Reply.{Reply}
 use Rattle.ifdb_catalog.specs.Public.{Public, changed}
 use Rattle.ifdb_model.specs.Log.{Entry, changes, commits, public_from, public_of, commits_of, content_of}
 use Rattle.ifdb_model.specs.Session.{Txn, Session, new_session, no_session, closed, in_txn, Seen, seen_in, seen}
-use Rattle.ifdb_model.specs.Step.{Form, greets, publishes, relabels, shows_label, begins, ends, rolls_back, leaves_us, looks, writes, form_of, Outcome, refuses, if_built, ask, ask_read, ask_by, ask_as, ask_new}
+use Rattle.ifdb_model.specs.Step.{Form, greets, publishes, relabels, shows_label, begins, ends, rolls_back, leaves_us, looks, writes, form_of, Outcome, refuses, ask, ask_read, ask_by, ask_as, ask_new}
 use Rattle.ifdb_model.specs.Run.{State, session_of, outcome_of, with_outcome, asks, opens, leaves, next}
 use Rattle.ifdb_model.proofs.LogLaws.{public_from-append, content_from-append}
 use Rattle.ifdb_db.specs.Kept.{is_kept}
 use Rattle.ifdb_db.specs.Answer.{with_entry, IsRefusal, answered, answered_by, answered_as, answered_new}
 use Rattle.ifdb_parse.specs.Parsed.{parsed}
-use Rattle.ifdb_db.specs.Reading.{is_built, request_or_fault, read_line}
+use Rattle.ifdb_db.specs.Reading.{if_built, is_built, request_or_fault, read_line}
 use Rattle.ifdb_db.specs.Room.{Hall, StandsFor, session_in, outcome_in, with_outcome_in, with_session_in, are_kept}
 use Rattle.ifdb_db.proofs.Keeping.{no_txn}
 

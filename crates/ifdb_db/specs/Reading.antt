@@ -1,5 +1,5 @@
 -- How a line is read.
-use Rattle.std.specs.Prelude.{Bool, true, false, length, nat_le, Result, Ok, Err}
+use Rattle.std.specs.Prelude.{Bool, true, false, length, nat_le, Result, Ok, Err, if◌then◌else◌}
 use Rattle.ifdb_syntax.specs.declared.request.Request.{Request}
 use Rattle.ifdb_syntax.specs.declared.request.Request.TheVariants as q
 use Rattle.ifdb_bound.specs.declared.request.Bound.{Bound}
@@ -11,7 +11,7 @@ use Rattle.ifdb_parse.specs.declared.fault.ParseFault.TheVariants as read
 use Rattle.ifdb_parse.specs.Parsed.{parsed}
 use Rattle.ifdb_wire.specs.declared.fault.Fault.{Fault}
 use Rattle.ifdb_wire.specs.declared.fault.Fault.TheVariants as fault
-use Rattle.ifdb_model.specs.Step.{Reader, built_reader}
+use Rattle.ifdb_model.specs.Step.{Reader}
 
 -- the refusal of a line with a fault
 abbrev pub line_fault : ParseFault → Fault
@@ -31,9 +31,14 @@ is_built q.Commit = false
 is_built q.Rollback = false
 is_built _ = true
 
+-- after the faults of a line, a request of a form that isn't built is no request
+abbrev pub if_built : (Request → Bool) → Result Request Fault → Result Request Fault
+if_built is_built (Err f) = Err f
+if_built is_built (Ok r) = if is_built r then Ok r else Err (fault.Syntax 0)
+
 -- by the grammar, with the faults of a line in their order; a request of a form that isn't built yet is no request
 abbrev pub read_line : Reader
-read_line = built_reader is_built (λ line. request_or_fault (parsed line))
+read_line line = if_built is_built (request_or_fault (parsed line))
 
 -- ---- sources
 

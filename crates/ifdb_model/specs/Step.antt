@@ -27,15 +27,6 @@ use Rattle.ifdb_model.specs.Writes.{Written, writes_of, is_delete}
 abbrev pub Reader : Type 0
 Reader = List ℕ → Result Request Fault
 
--- the same reader where some forms aren't built yet: after the faults of the line, a request of another form is no request
-abbrev pub if_built : (Request → Bool) → Result Request Fault → Result Request Fault
-if_built is_built (Err f) = Err f
-if_built is_built (Ok r) = if is_built r then Ok r else Err (fault.Syntax 0)
-
--- a reader by which some forms aren't built
-abbrev pub built_reader : (Request → Bool) → Reader → Reader
-built_reader is_built read line = if_built is_built (read line)
-
 -- what a line comes to: the session after it, an entry that it adds to the log, and the reply
 pub record Outcome : Type 0 where
   pub session : Session

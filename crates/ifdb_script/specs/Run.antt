@@ -51,8 +51,9 @@ abbrev pub CutsDontMatter : Type 0
 CutsDontMatter = (limit limit' : ℕ) (l0 l1 w0 w1 l0' l1' w0' w1' : Option (List ℕ)) (first : RanWhole limit l0 l1 w0 w1) (second : RanWhole limit' l0' l1' w0' w1')
     → first.input ≡ second.input → refusals first.told ≡ refusals second.told → texts first.told ≡ texts second.told
 
--- Two worlds: where no reply that was written reads error 20, each other script that agrees with this one below a level,
--- neither with a step that crosses it, gives those inside it the bytes that they were given here.
+-- Two worlds: the input was run whole, and what was told is what was written. Where none of it reads error 20, each other
+-- script that agrees with this one below a level, neither with a step that crosses it, gives those inside it the bytes that
+-- they were given here.
 abbrev pub KeepsLevels : ℕ → Option (List ℕ) → Option (List ℕ) → Option (List ℕ) → Option (List ℕ) → Type 0
 KeepsLevels limit left_old left_new written_old written_new =
-    (ran : RanWhole limit left_old left_new written_old written_new) → none_reads_memory ran.told ≡ true → IsHeardAlike read_line ran.input ran.told
+    (ran : RanWhole limit left_old left_new written_old written_new) × (none_reads_memory ran.told ≡ true → IsHeardAlike read_line ran.input ran.told)

@@ -35,6 +35,13 @@ impl Written {
     }
 
     /// The writes.
+    pub fn writes(&self) -> &Writes
+        ensures { result.now ≡ self.now.writes }
+    {
+        &self.writes
+    }
+
+    /// The writes, to keep.
     pub fn into_writes(self) -> Writes
         ensures { result ≡ self.writes }
     {
