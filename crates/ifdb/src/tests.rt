@@ -5,6 +5,7 @@ mod ends;
 mod rows;
 mod spellings;
 mod statements;
+mod transactions;
 mod worlds;
 
 use super::*;

@@ -1,118 +1,213 @@
--- What requests of each form come to, by what they are bound to.
-use Rattle.std.proofs.Common.{◌≡◌, ℕ, true, false, List, ◌∙◌, refl, sym, ap, subst, arith, Option, Some, None, inl, inr}
+-- What a client is answered, by what its request came to.
+use Rattle.std.proofs.Common.{◌≡◌, ℕ, true, false, List, ◌∙◌, refl, sym, ap, subst, Option, Some, None, inl, inr}
 use Rattle.std.specs.Prelude.{◌⊎◌, Result, Ok, Err}
-use Rattle.std.proofs.lemmas.Bool.Decides.{nat_tests}
-use Rattle.ifdb_label.specs.Label.{strip}
-use Rattle.ifdb_row.specs.declared.row.Row.{Row}
-use Rattle.ifdb_bound.specs.declared.request.Bound.{Bound}
-use Rattle.ifdb_bound.specs.declared.request.Bound.TheVariants as b
 use Rattle.ifdb_syntax.specs.declared.request.Request.{Request}
-use Rattle.ifdb_syntax.specs.declared.request.Request.TheVariants as q
 use Rattle.ifdb_wire.specs.declared.fault.Fault.{Fault}
 use Rattle.ifdb_wire.specs.declared.fault.Fault.TheVariants as fault
 use Rattle.ifdb_wire.specs.declared.reply.Reply.{Reply}
 use Rattle.ifdb_wire.specs.declared.reply.Reply.TheVariants as reply
-use Rattle.ifdb_catalog.specs.Public.{Public, tags_of, has_tags}
-use Rattle.ifdb_catalog.specs.Binding.{bound}
-use Rattle.ifdb_catalog.specs.Laws.{BoundIsNew}
-use Rattle.ifdb_model.specs.Session.{Session, Seen, in_txn}
-use Rattle.ifdb_model.specs.Step.{Outcome, tells, refuses, is_empty, form_of, publish, publish_bound, publish_it, relabelled, set_label, look, look_reply}
-use Rattle.ifdb_db.specs.Kept.{is_kept}
-use Rattle.ifdb_db.specs.Publishing.{entry_of, is_new_bound, refusal_of}
-use Rattle.ifdb_db.specs.Answer.{with_entry, answered_new, IsRefusal, IsDone}
+use Rattle.ifdb_model.specs.Log.{Entry, changes, commits}
+use Rattle.ifdb_model.specs.Session.{Session, Seen, Txn}
+use Rattle.ifdb_bound.specs.Query.{label_names}
+use Rattle.ifdb_catalog.specs.Public.{tag_names}
+use Rattle.ifdb_model.specs.Step.{Form, greets, form_of, Outcome, tells, refuses, hello, show_label, bye}
+use Rattle.ifdb_db.specs.Client.{Open, Client, client_of, session_at, txn_at, seen_by, IsBased}
+use Rattle.ifdb_db.specs.Desk.{Desk, with_entry, settled, moved, begins_after}
+use Rattle.ifdb_db.specs.Answer.{answered_as, answered_by, answered_new, fault_of, IsDone, IsUndone, IsAnswered, IsStill}
+use Rattle.ifdb_db.specs.Inside.{session_of, Says, Denies, IsSaid, Inside, IsReplied, IsDenied}
+use Rattle.ifdb_db.specs.Outside.{IsAdded, IsNotAdded, IsPublished}
+use Rattle.ifdb_db.specs.Kept.{IsSound, IsKept}
+use Rattle.ifdb_db.proofs.BeginLaws.{is_settled}
+use Rattle.ifdb_db.proofs.Keeping.{label_kept_by}
 
--- ---- refusals
+-- the parts of a client
+pub client_is : (asker : ℕ) (t : Option Open) (c : Client) → c.is_open ≡ true → c.principal ≡ Some asker → c.txn ≡ t → c ≡ client_of asker c.label t
+client_is asker t c o p e = λ i. record { is_open = o i; principal = p i; label = c.label; txn = e i }
 
--- want of memory, or a refusal with its cause
-pub refused_by : {P : Type 0} (o : Outcome) (s : Session) (f : Fault) → (P → o ≡ refuses s f) → (f ≡ fault.OutOfMemory) ⊎ P → IsRefusal o s f
-refused_by o s f h (inl m) = inl m
-refused_by o s f h (inr x) = inr (h x)
+-- ---- sessions that keep their transaction
 
--- what is added is done
-pub done_by : (o : Outcome) (s t : Session) (x y : Seen) (r : Reply) → o ≡ record { session = t; added = o.added; reply = r } → y ≡ with_entry x o.added → IsDone o t x y r
-done_by o s t x y r h w = record { told = sym (ap (λ (u : Outcome). u.reply) h); session = sym (ap (λ (u : Outcome). u.session) h); seen = w }
+based_same : (now : Seen) (t : Option Open) → IsBased now t t
+based_same now None = tt
+based_same now (Some x) = refl
 
-out_of_txn : (p : Public) (s : Session) → is_kept p s ≡ true → in_txn s.txn ≡ false
-out_of_txn p s k = grind (arith, nat_tests)
+same_txn : (t : Option Txn) (begins : List ℕ) → begins_after t t begins ≡ begins
+same_txn None begins = refl
+same_txn (Some x) begins = refl
 
--- ---- CREATE, GRANT and REVOKE
+-- ---- how a desk moves
 
-publish_adds : (p : Public) (s : Session) (found : Result Bound Fault) (x : Bound) → is_kept p s ≡ true → is_empty s.label ≡ true → found ≡ Ok x → refusal_of p x ≡ None
-    → publish p s found ≡ record { session = s; added = entry_of x; reply = reply.Done }
-publish_adds p s found x k e f r = rw (out_of_txn p s k, e, f) (by x r) where
-  by : (x : Bound) → refusal_of p x ≡ None → publish_bound p s (Ok x) ≡ record { session = s; added = entry_of x; reply = reply.Done }
-  by (b.Change c) r = ap (publish_it s c) r
-  by (b.SetLabel label) r = refl
-  by (b.Select q) r = refl
-  by (b.Insert t rows given) r = refl
-  by (b.Update t sets cond given) r = refl
-  by (b.Delete t cond) r = refl
-  by b.Other r = refl
+same_begins : (d : Desk) (a : Option Entry) → record (with_entry d a) { begins = d.begins } ≡ with_entry d a
+same_begins d None = refl
+same_begins d (Some (changes c)) = refl
+same_begins d (Some (commits ws)) = refl
 
-pub published : (x y : Seen) (s : Session) (found : Result Bound Fault) (c : Bound) → is_kept x.public s ≡ true → is_empty s.label ≡ true → found ≡ Ok c → refusal_of x.public c ≡ None
-    → y ≡ with_entry x (entry_of c) → IsDone (publish x.public s found) s x y reply.Done
-published x y s found c k e f r w = subst (λ (o : Outcome). IsDone o s x y reply.Done) (sym (publish_adds x.public s found c k e f r)) (record { told = refl; session = refl; seen = w })
-
-pub publish_labelled : (p : Public) (s : Session) (found : Result Bound Fault) → is_kept p s ≡ true → is_empty s.label ≡ false → publish p s found ≡ refuses s fault.LabelNotEmpty
-publish_labelled p s found k e = rw (out_of_txn p s k, e) refl
-
-pub publish_unbound : (p : Public) (s : Session) (found : Result Bound Fault) (f : Fault) → is_kept p s ≡ true → is_empty s.label ≡ true → found ≡ Err f → publish p s found ≡ refuses s f
-publish_unbound p s found f k e h = rw (out_of_txn p s k, e, h) refl
-
-pub publish_refused : (p : Public) (s : Session) (found : Result Bound Fault) (x : Bound) (f : Fault) → is_kept p s ≡ true → is_empty s.label ≡ true → found ≡ Ok x → refusal_of p x ≡ Some f
-    → publish p s found ≡ refuses s f
-publish_refused p s found x f k e h r = rw (out_of_txn p s k, e, h) (by x r) where
-  by : (x : Bound) → refusal_of p x ≡ Some f → publish_bound p s (Ok x) ≡ refuses s f
-  by (b.Change c) r = ap (publish_it s c) r
-  by (b.SetLabel label) r = cc
-  by (b.Select q) r = cc
-  by (b.Insert t rows given) r = cc
-  by (b.Update t sets cond given) r = cc
-  by (b.Delete t cond) r = cc
-  by b.Other r = cc
-
--- what is bound makes a new name
-pub bound_is_new : (p : Public) (asker : ℕ) (r : Request) (found : Bound) → BoundIsNew → bound p asker r ≡ Ok found → is_new_bound p found ≡ true
-bound_is_new p asker r (b.Change c) h e = h p asker r c e
-bound_is_new p asker r (b.SetLabel label) h e = refl
-bound_is_new p asker r (b.Select q) h e = refl
-bound_is_new p asker r (b.Insert t rows given) h e = refl
-bound_is_new p asker r (b.Update t sets cond given) h e = refl
-bound_is_new p asker r (b.Delete t cond) h e = refl
-bound_is_new p asker r b.Other h e = refl
-
--- ---- SET LABEL
-
-pub label_set : (p : Public) (asker : ℕ) (s : Session) (label : List ℕ) → has_tags p asker (strip (tags_of p) s.label label) ≡ true
-    → relabelled p asker s label ≡ tells (record s { label = label }) reply.Done
-label_set p asker s label h = rw h refl
-
-pub label_unheld : (p : Public) (asker : ℕ) (s : Session) (label : List ℕ) → has_tags p asker (strip (tags_of p) s.label label) ≡ false
-    → relabelled p asker s label ≡ refuses s fault.NoAuthority
-label_unheld p asker s label h = rw h refl
-
-pub label_bound : (p : Public) (asker : ℕ) (s : Session) (found : Result Bound Fault) (x : Bound) (o : Outcome) → found ≡ Ok x → set_label p asker s (Ok x) ≡ o → set_label p asker s found ≡ o
-label_bound p asker s found x o f h = ap (set_label p asker s) f ∙ h
-
-pub label_refused : (p : Public) (asker : ℕ) (s : Session) (found : Result Bound Fault) (x : Bound) (f : Fault) → found ≡ Ok x → IsRefusal (set_label p asker s (Ok x)) s f → IsRefusal (set_label p asker s found) s f
-label_refused p asker s found x f e (inl m) = inl m
-label_refused p asker s found x f e (inr h) = inr (ap (set_label p asker s) e ∙ h)
-
-pub label_unbound : (p : Public) (asker : ℕ) (s : Session) (found : Result Bound Fault) (f : Fault) → found ≡ Err f → set_label p asker s found ≡ refuses s f
-label_unbound p asker s found f h = rw h refl
-
--- ---- SELECT
-
-pub looked : (p : Public) (rows : List Row) (s : Session) (found : Result Bound Fault) (x : Bound) (r : Reply) → found ≡ Ok x → look_reply p rows s.label (Ok x) ≡ r
-    → look p rows s found ≡ tells s r
-looked p rows s found x r f h = ap (look p rows s) f ∙ ap (tells s) h
-
-pub look_unbound : (p : Public) (rows : List Row) (s : Session) (found : Result Bound Fault) (f : Fault) → found ≡ Err f → look p rows s found ≡ refuses s f
-look_unbound p rows s found f h = rw h refl
+-- where nothing is added, and the transaction goes on or none is open, the desk stays
+pub unmoved : (d : Desk) (s t : Session) (r : Reply) → IsSound d → begins_after s.txn t.txn d.begins ≡ d.begins → moved s (tells t r) d ≡ d
+unmoved d s t r k b = ap (λ bs. settled (record d { begins = bs })) b ∙ is_settled d k
 
 -- ---- before HELLO
 
-pub not_hello : (x : Seen) (s : Session) (r : Request) → ((name key : List ℕ) → r ≡ q.Hello name key → ⊥) → (r ≡ q.Bye → ⊥) → answered_new x s (form_of r) ≡ refuses s fault.NotHello
-not_hello x s (q.Hello name key) h k = absurd (h name key refl)
-not_hello x s q.Bye h k = absurd (k refl)
-not_hello x s r h k = refl
+pub greets_so : (x : Desk) (c e : Client) (name key : List ℕ) (n : ℕ) → IsSound x → e ≡ record c { principal = Some n }
+    → ((s : Session) → hello x.seen.public s name key ≡ tells (record s { principal = Some n }) reply.Done) → IsDone (hello x.seen.public (session_at c) name key) c e x x reply.Done
+greets_so x c e name key n k is h =
+    subst (λ (z : Client). IsDone (hello x.seen.public (session_at c) name key) c z x x reply.Done) (sym is)
+    (subst (λ (o : Outcome). IsDone o c (record c { principal = Some n }) x x reply.Done) (sym (h (session_at c))) (record {
+      told = refl;
+      session = refl;
+      based = based_same x.seen c.txn;
+      desk = sym (unmoved x (session_at c) (record (session_at c) { principal = Some n }) reply.Done k (same_txn (txn_at c.txn) x.begins));
+    }))
+
+pub not_greeted : (x : Desk) (c : Client) (name key : List ℕ) (g : Fault) → ((s : Session) → hello x.seen.public s name key ≡ refuses s g)
+    → IsUndone (hello x.seen.public (session_at c) name key) c c x x g
+not_greeted x c name key g h = record { cause = inr (h (session_at c)); client = refl; desk = refl }
+
+pub not_hello : (x : Desk) (c : Client) (f : Form) → answered_new x.seen.public (session_at c) f ≡ refuses (session_at c) fault.NotHello
+    → IsUndone (answered_new x.seen.public (session_at c) f) c c x x fault.NotHello
+not_hello x c f h = record { cause = inr h; client = refl; desk = refl }
+
+-- ---- outside a transaction
+
+-- SHOW LABEL
+pub label_told : (x : Desk) (c : Client) (told : Reply) → IsSound x → c.txn ≡ None → told ≡ reply.Label (label_names (tag_names x.seen.public) c.label)
+    → IsDone (show_label (seen_by x.seen c.txn).public (session_at c)) c c x x told
+label_told x c told k n h = record {
+  told = h ∙ sym (ap (λ t. reply.Label (label_names (tag_names (seen_by x.seen t).public) c.label)) n);
+  session = refl;
+  based = based_same x.seen c.txn;
+  desk = sym (unmoved x (session_at c) (session_at c) told k (same_txn (txn_at c.txn) x.begins));
+}
+
+-- requests that have no place there
+module _ (x : Desk) (c : Client) (asker : ℕ) (r : Request) where
+  by_form : (f : Form) → form_of r ≡ f → answered_by x c (Some asker) r ≡ answered_as x.count (seen_by x.seen c.txn) (fault_of x c.label c.txn) (session_at c) asker r f
+  by_form f e = ap (answered_as x.count (seen_by x.seen c.txn) (fault_of x c.label c.txn) (session_at c) asker r) e
+
+  pub hello_twice : (name key : List ℕ) → form_of r ≡ greets name key → IsUndone (answered_by x c (Some asker) r) c c x x fault.HelloTwice
+  hello_twice name key e = record { cause = inr (by_form (greets name key) e); client = refl; desk = refl }
+
+module _ (asker : ℕ) (l : List ℕ) (r : Request) (x : Desk) where
+  abbrev free : Client
+  free = client_of asker l None
+
+  added_answers : (y : Desk) (told : Reply) → IsAdded asker l r x y told → IsDone (answered_by x free (Some asker) r) free free x y told
+  added_answers y told a = subst (λ (o : Outcome). IsDone o free free x y told) (sym a.outcome) (record {
+    told = refl;
+    session = refl;
+    based = tt;
+    desk = a.desk ∙ ap settled (sym (same_begins x a.added));
+  })
+
+  not_added : (y : Desk) (g : Fault) → IsNotAdded asker l r x y g → IsUndone (answered_by x free (Some asker) r) free free x y g
+  not_added y g a = record { cause = a.cause; client = refl; desk = a.desk }
+
+  said_answers : (m : List ℕ) (told : Reply) → IsSound x → Says x.seen asker l m r told → IsDone (answered_by x free (Some asker) r) free (client_of asker m None) x x told
+  said_answers m told k h = subst (λ (o : Outcome). IsDone o free (client_of asker m None) x x told) (sym (h x.count None None)) (record {
+    told = refl;
+    session = refl;
+    based = tt;
+    desk = sym (is_settled x k);
+  })
+
+  denied_answers : (g : Fault) → Denies x.seen asker l r g → IsUndone (answered_by x free (Some asker) r) free free x x g
+  denied_answers g d = record { cause = by d; client = refl; desk = refl } where
+    by : Denies x.seen asker l r g → (g ≡ fault.OutOfMemory) ⊎ (answered_by x free (Some asker) r ≡ refuses (session_at free) g)
+    by (inl m) = inl m
+    by (inr h) = inr (h x.count None None)
+
+  module _ (c : Client) (is : c ≡ client_of asker l None) where
+    pub answer_added : (e : Client) (y : Desk) (told : Reply) → e ≡ c → IsAdded asker l r x y told → IsDone (answered_by x c (Some asker) r) c e x y told
+    answer_added e y told k a =
+        subst (λ (d : Client). IsDone (answered_by x c (Some asker) r) c d x y told) (sym k)
+        (subst (λ (d : Client). IsDone (answered_by x d (Some asker) r) d d x y told) (sym is) (added_answers y told a))
+
+    pub answer_not_added : (e : Client) (y : Desk) (g : Fault) → e ≡ c → IsNotAdded asker l r x y g → IsUndone (answered_by x c (Some asker) r) c e x y g
+    answer_not_added e y g k a =
+        subst (λ (d : Client). IsUndone (answered_by x c (Some asker) r) c d x y g) (sym k)
+        (subst (λ (d : Client). IsUndone (answered_by x d (Some asker) r) d d x y g) (sym is) (not_added y g a))
+
+    pub answer_said : (e : Client) (m : List ℕ) (told : Reply) → IsSound x → e ≡ record c { label = m } → Says x.seen asker l m r told → IsDone (answered_by x c (Some asker) r) c e x x told
+    answer_said e m told s k h =
+        subst (λ (d : Client). IsDone (answered_by x c (Some asker) r) c d x x told) (sym k)
+        (subst (λ (d : Client). IsDone (answered_by x d (Some asker) r) d (record d { label = m }) x x told) (sym is) (said_answers m told s h))
+
+    pub answer_denied : (e : Client) (g : Fault) → e ≡ c → Denies x.seen asker l r g → IsUndone (answered_by x c (Some asker) r) c e x x g
+    answer_denied e g k d =
+        subst (λ (d : Client). IsUndone (answered_by x c (Some asker) r) c d x x g) (sym k)
+        (subst (λ (d : Client). IsUndone (answered_by x d (Some asker) r) d d x x g) (sym is) (denied_answers g d))
+
+-- what was published, or written
+module _ (asker : ℕ) (r : Request) (x y : Desk) (c : Client) where
+  pub published_answers : (told : Result Reply Fault) → c.is_open ≡ true → c.principal ≡ Some asker → c.txn ≡ None → IsPublished asker c.label r x y told
+      → IsAnswered (answered_by x c (Some asker) r) c c x y told
+  published_answers (Ok told) o p t a = answer_added asker c.label r x c (client_is asker None c o p t) c y told refl a
+  published_answers (Err g) o p t a = answer_not_added asker c.label r x c (client_is asker None c o p t) c y g refl a
+
+  pub published_keeps : (told : Result Reply Fault) → IsPublished asker c.label r x y told → IsKept x.seen.public c → IsKept y.seen.public c
+  published_keeps (Ok told) a k = subst (λ (z : Desk). IsKept z.seen.public c) (sym a.desk) (label_kept_by x a.added c.label c.txn k)
+  published_keeps (Err g) a k = subst (λ (z : Desk). IsKept z.seen.public c) (sym a.desk) k
+
+  pub published_is_still : (told : Result Reply Fault) → IsPublished asker c.label r x y told → IsStill c c x y told
+  published_is_still (Ok told) a = λ u. absurd (a.bounded u)
+  published_is_still (Err g) a = tt
+
+-- what was said over what all see
+module _ (asker : ℕ) (r : Request) (x : Desk) (c e : Client) where
+  pub said_so : (told : Result Reply Fault) (m : List ℕ) → IsSound x → c.is_open ≡ true → c.principal ≡ Some asker → c.txn ≡ None → e ≡ record c { label = m }
+      → IsSaid x.seen asker c.label m r told → IsAnswered (answered_by x c (Some asker) r) c e x x told
+  said_so (Ok told) m k o p t i s = answer_said asker c.label r x c (client_is asker None c o p t) e m told k i s.0
+  said_so (Err g) m k o p t i s = answer_denied asker c.label r x c (client_is asker None c o p t) e g (i ∙ ap (λ l. record c { label = l }) s.1) s.0
+
+  pub said_is_still : (told : Result Reply Fault) (m : List ℕ) → e ≡ record c { label = m } → IsSaid x.seen asker c.label m r told → IsStill c e x x told
+  said_is_still (Ok told) m i s = λ u. (refl, i ∙ ap (λ l. record c { label = l }) (s.1 u))
+  said_is_still (Err g) m i s = tt
+
+-- BYE
+pub says_bye : (x y : Desk) (c e : Client) → e ≡ record c { is_open = false; txn = None } → y ≡ moved (session_at c) (bye (session_at c)) x → IsDone (bye (session_at c)) c e x y reply.Done
+says_bye x y c e k m = subst (λ (d : Client). IsDone (bye (session_at c)) c d x y reply.Done) (sym k) (record { told = refl; session = refl; based = tt; desk = m })
+
+-- ---- inside a transaction
+
+module _ (asker : ℕ) (l : List ℕ) (r : Request) (x : Desk) (t : Open) where
+  abbrev busy : Client
+  busy = client_of asker l (Some t)
+
+  replied_answers : (m : List ℕ) (u : Open) (told : Reply) → IsSound x → IsReplied asker l m t u r told → IsDone (answered_by x busy (Some asker) r) busy (client_of asker m (Some u)) x x told
+  replied_answers m u told k h = subst (λ (o : Outcome). IsDone o busy (client_of asker m (Some u)) x x told) (sym (h.told x.count (fault_of x l (Some t)))) (record {
+    told = refl;
+    session = refl;
+    based = h.base;
+    desk = sym (is_settled x k);
+  })
+
+  denied_inside : (g : Fault) → IsDenied asker l l t t r g → IsUndone (answered_by x busy (Some asker) r) busy busy x x g
+  denied_inside g d = record { cause = by d.cause; client = refl; desk = refl } where
+    by : (g ≡ fault.OutOfMemory) ⊎ Inside asker l t r (refuses (session_of asker l (txn_at (Some t))) g) → (g ≡ fault.OutOfMemory) ⊎ (answered_by x busy (Some asker) r ≡ refuses (session_at busy) g)
+    by (inl m) = inl m
+    by (inr h) = inr (h x.count (fault_of x l (Some t)))
+
+  module _ (c : Client) (is : c ≡ client_of asker l (Some t)) where
+    pub answer_replied : (e : Client) (m : List ℕ) (u : Open) (told : Reply) → IsSound x → e ≡ record c { label = m; txn = Some u } → IsReplied asker l m t u r told
+        → IsDone (answered_by x c (Some asker) r) c e x x told
+    answer_replied e m u told k w h =
+        subst (λ (d : Client). IsDone (answered_by x c (Some asker) r) c d x x told) (sym w)
+        (subst (λ (d : Client). IsDone (answered_by x d (Some asker) r) d (record d { label = m; txn = Some u }) x x told) (sym is) (replied_answers m u told k h))
+
+    pub answer_denied_inside : (e : Client) (m : List ℕ) (u : Open) (g : Fault) → e ≡ record c { label = m; txn = Some u } → IsDenied asker l m t u r g → IsUndone (answered_by x c (Some asker) r) c e x x g
+    answer_denied_inside e m u g w d =
+        let same : e ≡ c = w ∙ (λ i. record { is_open = c.is_open; principal = c.principal; label = d.label i; txn = Some (d.txn i) }) ∙ put in
+        subst (λ (z : Client). IsUndone (answered_by x c (Some asker) r) c z x x g) (sym same)
+        (subst (λ (z : Client). IsUndone (answered_by x z (Some asker) r) z z x x g) (sym is) (denied_inside g (record { goes_on = d.goes_on; cause = d.cause; label = refl; txn = refl }))) where
+          put : record c { label = l; txn = Some t } ≡ c
+          put = λ i. record { is_open = c.is_open; principal = c.principal; label = (ap (λ (z : Client). z.label) (sym is)) i; txn = (ap (λ (z : Client). z.txn) (sym is)) i }
+
+-- what the database does at an end, for the client as it was
+pub ended_as : (f : Form) (asker : ℕ) (r : Request) (x y : Desk) (c s e : Client) (told : Result Reply Fault) → s ≡ c → form_of r ≡ f
+    → IsAnswered (answered_as x.count (seen_by x.seen s.txn) (fault_of x s.label s.txn) (session_at s) asker r f) s e x y told → IsAnswered (answered_by x c (Some asker) r) c e x y told
+ended_as f asker r x y c s e told i h a =
+    subst (λ (o : Outcome). IsAnswered o c e x y told) (sym (by_form x c asker r f h))
+    (subst (λ (z : Client). IsAnswered (answered_as x.count (seen_by x.seen z.txn) (fault_of x z.label z.txn) (session_at z) asker r f) z e x y told) i a)
+
+-- a client whose transaction and label are as before
+pub unchanged : (c : Client) (m : List ℕ) (u t : Open) → c.txn ≡ Some t → m ≡ c.label → u ≡ t → record c { label = m; txn = Some u } ≡ c
+unchanged c m u t e l k = let same = ap Some k ∙ sym e in λ i. record { is_open = c.is_open; principal = c.principal; label = l i; txn = same i }

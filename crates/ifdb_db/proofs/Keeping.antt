@@ -1,132 +1,158 @@
--- What stays true of sessions, tables and rows as entries are added.
-use Rattle.std.proofs.Common.{◌≡◌, ℕ, zero, suc, ◌<◌, ◌≤◌, Bool, true, List, [], ◌∷◌, ◌++◌, ◌∙◌, length, get_or, refl, sym, ap, subst, arith, Option, Some, None}
-use Rattle.std.specs.Prelude.{not, nat_le, nat_lt, option_to_list}
-use Rattle.std.proofs.lemmas.List.{append-nil, map-append}
+-- What stays true of desks and clients.
+use Rattle.std.proofs.Common.{◌≡◌, ℕ, zero, suc, ◌+◌, ◌≤◌, Bool, true, List, [], ◌∷◌, ◌++◌, length, sym, subst, arith, Option, Some, None}
+use Rattle.std.specs.Prelude.{slice_index_or, slice_set, All}
 use Rattle.std.specs.List.{list_all}
-use Rattle.std.proofs.Math.ListN.{set}
 use Rattle.std.proofs.lemmas.Bool.Decides.{nat_tests}
-use Rattle.std.proofs.lemmas.Grind.{common_steps}
-use Rattle.ifdb_label.specs.Tags.{are_made}
-use Rattle.ifdb_row.specs.declared.row.Row.{Row}
 use Rattle.ifdb_value.proofs.Lists.{all_wider}
-use Rattle.ifdb_bound.specs.declared.schema.ViewDef.{ViewDef}
+use Rattle.ifdb_label.specs.Tags.{are_made, AreMade}
+use Rattle.ifdb_row.specs.declared.write.Write.{Write}
+use Rattle.ifdb_row.specs.declared.commit.Commit.{Commit}
+use Rattle.ifdb_row.specs.Writes.{are_fitting}
+use Rattle.ifdb_store.specs.Later.{are_writes_made}
 use Rattle.ifdb_bound.specs.declared.request.Change.{Change}
-use Rattle.ifdb_bound.specs.declared.request.Change.TheVariants as change
-use Rattle.ifdb_catalog.specs.Public.{KnownTag, Public, changed, tag_names}
-use Rattle.ifdb_catalog.specs.Fits.{change_fits, view_fits}
-use Rattle.ifdb_model.specs.Session.{Session, Txn, Seen, closed, in_txn}
+use Rattle.ifdb_catalog.specs.Public.{Public, changed}
 use Rattle.ifdb_model.specs.Log.{Entry, changes, commits}
-use Rattle.ifdb_view.specs.Made.{is_view_made, are_views_made}
-use Rattle.ifdb_laws.specs.RowLaws.{row_fits}
-use Rattle.ifdb_laws.proofs.rows.Fitting.{fits_changed}
-use Rattle.ifdb_db.specs.Kept.{IsSound, is_kept}
-use Rattle.ifdb_db.proofs.ViewLemmas.{view_is_made}
-use Rattle.ifdb_db.specs.Publishing.{new_tag}
-use Rattle.ifdb_db.specs.Reading.{is_narrow_change}
-use Rattle.ifdb_db.specs.Answer.{with_entry}
-use Rattle.ifdb_value.proofs.Lists.{all_at}
+use Rattle.ifdb_model.specs.Session.{Seen, Session}
+use Rattle.ifdb_model.specs.Step.{Outcome}
+use Rattle.ifdb_snapshot.specs.Sound.{is_sound}
+use Rattle.ifdb_snapshot.specs.Writing.{is_fit, are_fit}
+use Rattle.ifdb_snapshot.proofs.PublicStates.{all_push, made_more, tags_grow}
+use Rattle.ifdb_snapshot.proofs.Sound.{sound_changed, sound_written, write_changed}
+use Rattle.ifdb_db.specs.Client.{Open, Client}
+use Rattle.ifdb_db.specs.Desk.{Desk, oldest, settled, with_entry, moved}
+use Rattle.ifdb_db.specs.Kept.{IsSound, Outgrows, IsLabelKept, IsKept, AreKept, are_ordered}
+use Rattle.ifdb_db.proofs.BeginLaws.{trimmed_later, trimmed_all, ordered_more}
 
--- ---- tags that are made stay made
+-- ---- public states that grow
 
-longer : {X : Type 0} (xs : List X) (x : X) → length xs ≤ length (xs ++ x ∷ [])
-longer xs x = grind (arith, common_steps)
+pub outgrows_itself : (p : Public) → Outgrows p p
+outgrows_itself p = record { tags = omega arith; writes = λ w h. h }
 
-pub tags_grow : (p : Public) (c : Change) → length p.tags ≤ length (changed p c).tags
-tags_grow p (change.Principal asker name key) = omega arith
-tags_grow p (change.Tag asker name kind parents) = longer p.tags _
-tags_grow p (change.Table asker schema) = omega arith
-tags_grow p (change.View view) = omega arith
-tags_grow p (change.Grant asker tag to) = omega arith
-tags_grow p (change.Revoke asker tag from) = omega arith
-
-pub tags_grow_by : (x : Seen) (e : Option Entry) → length x.public.tags ≤ length (with_entry x e).public.tags
-tags_grow_by x None = omega arith
-tags_grow_by x (Some (changes c)) = tags_grow x.public c
-tags_grow_by x (Some (commits ws)) = omega arith
-
-pub made_more : (m n : ℕ) (label : List ℕ) → m ≤ n → are_made m label ≡ true → are_made n label ≡ true
-made_more m n label h k = all_wider (λ t. nat_lt t m) (λ t. nat_lt t n) label (λ t e. grind (arith, nat_tests)) k
-
--- ---- sessions
-
-pub kept_more : (p q : Public) (s : Session) → length p.tags ≤ length q.tags → is_kept p s ≡ true → is_kept q s ≡ true
-kept_more p q s h k = grind (arith, nat_tests, made_more (length p.tags) (length q.tags) s.label h)
-
--- a session stays kept as an entry is added
-pub kept_by : (x y : Seen) (e : Option Entry) (s : Session) → y ≡ with_entry x e → is_kept x.public s ≡ true → is_kept y.public s ≡ true
-kept_by x y e s w k = subst (λ (z : Seen). is_kept z.public s ≡ true) (sym w) (kept_more x.public (with_entry x e).public s (tags_grow_by x e) k)
-
-pub all_kept_more : (p q : Public) (sessions : List Session) → length p.tags ≤ length q.tags → list_all (is_kept p) sessions ≡ true → list_all (is_kept q) sessions ≡ true
-all_kept_more p q sessions h k = all_wider (is_kept p) (is_kept q) sessions (λ s e. kept_more p q s h e) k
-
-pub all_set : {X : Type 0} (test : X → Bool) (xs : List X) (at : ℕ) (x : X) → test x ≡ true → list_all test xs ≡ true → list_all test (set xs at x) ≡ true
-all_set test [] at x h k = k
-all_set test (y ∷ xs) zero x h k = grind (arith, nat_tests)
-all_set test (y ∷ xs) (suc at) x h k = grind (arith, nat_tests, all_set test xs at x h)
-
-pub all_push : {X : Type 0} (test : X → Bool) (xs : List X) (x : X) → test x ≡ true → list_all test xs ≡ true → list_all test (xs ++ x ∷ []) ≡ true
-all_push test [] x h k = grind (arith, nat_tests)
-all_push test (y ∷ xs) x h k = grind (arith, nat_tests, all_push test xs x h)
-
--- a kept session has no transaction
-pub no_txn : (o : Option Txn) → not (in_txn o) ≡ true → o ≡ None
-no_txn None h = refl
-no_txn (Some x) h = cc
-
--- ---- what is true of the public state and the rows
-
-view_made_more : (m n : ℕ) (v : ViewDef) → m ≤ n → is_view_made m v ≡ true → is_view_made n v ≡ true
-view_made_more m n v h k = grind (arith, nat_tests, made_more m n v.declassifying h)
-
-views_made_more : (m n : ℕ) (views : List ViewDef) → m ≤ n → are_views_made m views ≡ true → are_views_made n views ≡ true
-views_made_more m n views h k = all_wider (is_view_made m) (is_view_made n) views (λ v e. view_made_more m n v h e) k
-
--- a view that fits, over four sources at most, can be computed
-new_view_made : (p : Public) (v : ViewDef) → view_fits p v ≡ true → nat_le (length v.select.sources) 4 ≡ true → is_view_made (length p.tags) v ≡ true
-new_view_made p v h k = let made = view_is_made p v h in grind (arith, nat_tests)
-
-views_changed : (p : Public) (c : Change) → change_fits p c ≡ true → is_narrow_change c ≡ true → are_views_made (length p.tags) p.views ≡ true
-    → are_views_made (length (changed p c).tags) (changed p c).views ≡ true
-views_changed p (change.Principal asker name key) f n h = h
-views_changed p (change.Tag asker name kind parents) f n h = views_made_more (length p.tags) (length (changed p (change.Tag asker name kind parents)).tags) p.views (tags_grow p (change.Tag asker name kind parents)) h
-views_changed p (change.Table asker schema) f n h = h
-views_changed p (change.View v) f n h = all_push (is_view_made (length p.tags)) p.views v (new_view_made p v f n) h
-views_changed p (change.Grant asker tag to) f n h = h
-views_changed p (change.Revoke asker tag from) f n h = h
-
-names_changed : (p : Public) (c : Change) → tag_names (changed p c) ≡ tag_names p ++ option_to_list (new_tag c)
-names_changed p (change.Principal asker name key) = sym (append-nil (tag_names p))
-names_changed p (change.Tag asker name kind parents) = map-append (λ (t : KnownTag). t.name) p.tags _
-names_changed p (change.Table asker schema) = sym (append-nil (tag_names p))
-names_changed p (change.View view) = sym (append-nil (tag_names p))
-names_changed p (change.Grant asker tag to) = sym (append-nil (tag_names p))
-names_changed p (change.Revoke asker tag from) = sym (append-nil (tag_names p))
-
-sound_changed : (p : Public) (c : Change) (rows : List Row) (names : List (List ℕ)) → change_fits p c ≡ true → is_narrow_change c ≡ true → IsSound p rows names
-    → IsSound (changed p c) rows (names ++ option_to_list (new_tag c))
-sound_changed p c rows names f n h = record {
-  names = ap (λ ns. ns ++ option_to_list (new_tag c)) h.names ∙ sym (names_changed p c);
-  views = views_changed p c f n h.views;
-  fit = all_wider (row_fits p) (row_fits (changed p c)) rows (λ r e. fits_changed p c r e) h.fit;
-  in_order = h.in_order;
+pub outgrows_changed : (p q : Public) (c : Change) → Outgrows p q → Outgrows p (changed q c)
+outgrows_changed p q c g = record {
+  tags = let le = tags_grow q c in let more = g.tags in omega (arith, le, more);
+  writes = λ w h. write_changed q c w (g.writes w h);
 }
 
-pub sound_after : (p q : Public) (c : Change) (rows : List Row) (names more : List (List ℕ)) (o : Option (List ℕ)) → q ≡ changed p c → o ≡ new_tag c → more ≡ names ++ option_to_list o
-    → change_fits p c ≡ true → is_narrow_change c ≡ true → IsSound p rows names → IsSound q rows more
-sound_after p q c rows names more o e t m f n h =
-    let back = sym e in
-    let same : names ++ option_to_list (new_tag c) ≡ more = ap (λ u. names ++ option_to_list u) (sym t) ∙ sym m in
-    subst (λ ns. IsSound q rows ns) same (subst (λ z. IsSound z rows (names ++ option_to_list (new_tag c))) back (sound_changed p c rows names f n h))
+pub outgrows_by : (p : Public) (x : Seen) (d : Desk) (e : Option Entry) → Outgrows p d.seen.public → Outgrows p (with_entry d e).seen.public
+outgrows_by p x d None g = g
+outgrows_by p x d (Some (changes c)) g = outgrows_changed p d.seen.public c g
+outgrows_by p x d (Some (commits ws)) g = g
 
--- ---- one session of many
+-- writes that fitted an earlier public state
+pub fit_later : (p q : Public) (ws : List Write) → Outgrows p q → are_fit p ws ≡ true → are_fit q ws ≡ true
+fit_later p q ws g h = all_wider (is_fit p) (is_fit q) ws g.writes h
 
-pub set_closed : (p : Public) (sessions : List Session) (k : ℕ) (s t : Session) → list_all (is_kept p) sessions ≡ true → k < length sessions → t ≡ get_or sessions k t → s ≡ closed t
-    → list_all (is_kept p) (set sessions k s) ≡ true
-set_closed p sessions k s t h lt e c =
-    let kept : is_kept p t ≡ true = ap (is_kept p) e ∙ all_at (is_kept p) sessions k t h lt in
-    all_set (is_kept p) sessions k s (ap (is_kept p) c ∙ grind (arith, nat_tests)) h
+-- ---- clients
 
-pub set_answered : (x y : Seen) (e : Option Entry) (sessions : List Session) (k : ℕ) (t : Session) → list_all (is_kept x.public) sessions ≡ true → y ≡ with_entry x e → is_kept y.public t ≡ true
-    → list_all (is_kept y.public) (set sessions k t) ≡ true
-set_answered x y e sessions k t h w kt =
-    all_set (is_kept y.public) sessions k t kt (all_kept_more x.public y.public sessions (subst (λ (z : Seen). length x.public.tags ≤ length z.public.tags) (sym w) (tags_grow_by x e)) h)
+tags_by : (d : Desk) (e : Option Entry) → length d.seen.public.tags ≤ length (with_entry d e).seen.public.tags
+tags_by d None = omega arith
+tags_by d (Some (changes c)) = tags_grow d.seen.public c
+tags_by d (Some (commits ws)) = omega arith
+
+pub label_kept_by : (d : Desk) (e : Option Entry) (l : List ℕ) (t : Option Open) → IsLabelKept d.seen.public l t → IsLabelKept (with_entry d e).seen.public l t
+label_kept_by d e l None k = made_more (length d.seen.public.tags) (length (with_entry d e).seen.public.tags) l (tags_by d e) k
+label_kept_by d e l (Some x) k = (k.0, outgrows_by x.base.public d.seen d e k.1)
+
+-- a client is kept as the desk moves
+pub kept_moved : (d : Desk) (s : Session) (o : Outcome) (c : Client) → IsKept d.seen.public c → IsKept (moved s o d).seen.public c
+kept_moved d s o c k = label_kept_by d o.added c.label c.txn k
+
+pub all_kept_moved : (d e : Desk) (s : Session) (o : Outcome) (clients : List Client) → e ≡ moved s o d → AreKept d.seen.public clients → AreKept e.seen.public clients
+all_kept_moved d e s o clients m k = λ i x lt. subst (λ (z : Desk). IsKept z.seen.public (slice_index_or clients i x)) (sym m) (kept_moved d s o (slice_index_or clients i x) (k i x lt))
+
+-- a label of a transaction is one of now
+pub label_of_now : (p : Public) (l : List ℕ) (x : Open) → IsLabelKept p l (Some x) → AreMade (length p.tags) l
+label_of_now p l x k = made_more (length x.base.public.tags) (length p.tags) l k.1.tags k.0
+
+-- once the transaction is over
+pub kept_over : (p : Public) (l : List ℕ) (t : Option Open) → IsLabelKept p l t → IsLabelKept p l None
+kept_over p l None k = k
+kept_over p l (Some x) k = label_of_now p l x k
+
+pub made_now : (p : Public) (c : Client) → IsKept p c → AreMade (length p.tags) c.label
+made_now p c k = kept_over p c.label c.txn k
+
+pub kept_outside : (p : Public) (c : Client) → c.txn ≡ None → AreMade (length p.tags) c.label → IsKept p c
+kept_outside p c n m = subst (λ (t : Option Open). IsLabelKept p c.label t) (sym n) m
+
+pub ended_kept : (x y : Desk) (c : Client) (l : List ℕ) (t : Option Open) (begins : List ℕ) → IsKept x.seen.public c → y ≡ settled (record x { begins = begins }) → l ≡ c.label → t ≡ None → IsLabelKept y.seen.public l t
+ended_kept x y c l t begins k m e n =
+    subst (λ (z : Desk). IsLabelKept z.seen.public l t) (sym m)
+    (subst (λ (o : Option Open). IsLabelKept x.seen.public l o) (sym n) (subst (AreMade (length x.seen.public.tags)) (sym e) (made_now x.seen.public c k)))
+
+pub installed_kept : (x y : Desk) (c : Client) (l : List ℕ) (t : Option Open) (ws : List Write) (begins : List ℕ) → IsKept x.seen.public c
+    → y ≡ settled (record (with_entry x (Some (commits ws))) { begins = begins }) → l ≡ c.label → t ≡ None → IsLabelKept y.seen.public l t
+installed_kept x y c l t ws begins k m e n =
+    subst (λ (z : Desk). IsLabelKept z.seen.public l t) (sym m)
+    (subst (λ (o : Option Open). IsLabelKept x.seen.public l o) (sym n) (subst (AreMade (length x.seen.public.tags)) (sym e) (made_now x.seen.public c k)))
+
+-- in a transaction that goes on over what it began with
+pub kept_inside : (p : Public) (c e : Client) (t u : Open) → c.txn ≡ Some t → IsKept p c → e.txn ≡ Some u → u.base ≡ t.base → AreMade (length u.base.public.tags) e.label → IsKept p e
+kept_inside p c e t u i k j b m =
+    let was = subst (λ (o : Option Open). IsLabelKept p c.label o) i k in
+    subst (λ (o : Option Open). IsLabelKept p e.label o) (sym j) (m, subst (λ (z : Seen). Outgrows z.public p) (sym b) was.1)
+
+-- ---- commits of made tags
+
+pub writes_made : (p : Public) (ws : List Write) → are_fit p ws ≡ true → are_writes_made (length p.tags) ws ≡ true
+writes_made p ws h = all_wider (is_fit p) (λ (w : Write). are_made (length p.tags) w.slot.label) ws (λ w e. grind (arith, nat_tests)) h
+
+commit_made_more : (m n : ℕ) (c : Commit) → m ≤ n → are_writes_made m c.writes ≡ true → are_writes_made n c.writes ≡ true
+commit_made_more m n c le h = all_wider (λ (w : Write). are_made m w.slot.label) (λ (w : Write). are_made n w.slot.label) c.writes (λ w e. made_more m n w.slot.label le e) h
+
+pub commits_made_more : (m n : ℕ) (cs : List Commit) → m ≤ n → list_all (λ c. are_writes_made m c.writes) cs ≡ true → list_all (λ c. are_writes_made n c.writes) cs ≡ true
+commits_made_more m n cs le h = all_wider (λ c. are_writes_made m c.writes) (λ c. are_writes_made n c.writes) cs (λ c e. commit_made_more m n c le e) h
+
+-- ---- desks
+
+-- an entry fits a desk: a commit's writes do
+abbrev pub entry_fits : Desk → Option Entry → Bool
+entry_fits d None = true
+entry_fits d (Some (changes c)) = true
+entry_fits d (Some (commits ws)) = are_fit d.seen.public ws
+
+-- once commits are given up
+pub sound_settled : (d : Desk) → are_ordered d.begins d.count ≡ true → is_sound d.seen ≡ true → list_all (λ c. are_writes_made (length d.seen.public.tags) c.writes) d.commits ≡ true → IsSound (settled d)
+sound_settled d o s m = record {
+  order = o;
+  seen = s;
+  made = trimmed_all (λ c. are_writes_made (length d.seen.public.tags) c.writes) (oldest d) d.commits m;
+  later = trimmed_later (oldest d) d.commits;
+}
+
+-- once it has another entry, and other transactions are open
+pub sound_changes : (d : Desk) (c : Change) → IsSound d → IsSound (settled (with_entry d (Some (changes c))))
+sound_changes d c k = sound_settled (with_entry d (Some (changes c))) (ordered_more d.begins d.count (d.count + 1) (omega arith) k.order) (sound_changed d.seen c k.seen)
+    (commits_made_more (length d.seen.public.tags) (length (changed d.seen.public c).tags) d.commits (tags_grow d.seen.public c) k.made)
+
+pub sound_commits : (d : Desk) (ws : List Write) (begins : List ℕ) → IsSound d → are_ordered begins (d.count + 1) ≡ true → are_fit d.seen.public ws ≡ true → are_fitting ws ≡ true
+    → IsSound (settled (record (with_entry d (Some (commits ws))) { begins = begins }))
+sound_commits d ws begins k o f g = sound_settled (record (with_entry d (Some (commits ws))) { begins = begins }) o (sound_written d.seen ws k.seen f g)
+    (all_push (λ c. are_writes_made (length d.seen.public.tags) c.writes) d.commits (record { stamp = d.count + 1; writes = ws }) (writes_made d.seen.public ws f) k.made)
+
+pub sound_begins : (d : Desk) (begins : List ℕ) → IsSound d → are_ordered begins d.count ≡ true → IsSound (settled (record d { begins = begins }))
+sound_begins d begins k o = sound_settled (record d { begins = begins }) o k.seen k.made
+
+-- ---- one client of many
+
+pub all_set : {X : Type 0} (P : X → Type 0) (xs : List X) (at : ℕ) (x : X) → P x → All P xs → All P (slice_set xs at x)
+all_set P [] at x h k = λ i d lt. absurd (omega (arith, lt))
+all_set P (y ∷ xs) zero x h k = at where
+  at : All P (x ∷ xs)
+  at zero d lt = h
+  at (suc i) d lt = k (suc i) d lt
+all_set P (y ∷ xs) (suc n) x h k = at (all_set P xs n x h (λ i d lt. k (suc i) d (omega (arith, lt)))) where
+  at : All P (slice_set xs n x) → All P (y ∷ slice_set xs n x)
+  at more zero d lt = k zero d (omega arith)
+  at more (suc i) d lt = more i d (omega (arith, lt))
+
+pub all_add : {X : Type 0} (P : X → Type 0) (xs : List X) (x : X) → P x → All P xs → All P (xs ++ x ∷ [])
+all_add P [] x h k = at where
+  at : All P (x ∷ [])
+  at zero d lt = h
+  at (suc i) d lt = absurd (omega (arith, lt))
+all_add P (y ∷ xs) x h k = at (all_add P xs x h (λ i d lt. k (suc i) d (omega (arith, lt)))) where
+  at : All P (xs ++ x ∷ []) → All P (y ∷ xs ++ x ∷ [])
+  at more zero d lt = k zero d (omega arith)
+  at more (suc i) d lt = more i d (omega (arith, lt))

@@ -1,9 +1,15 @@
-mod Keeping
-mod Greeting
-mod Naming
-mod Narrow
-mod ViewLemmas
 mod Answering
-mod Selecting
-mod Writing
+mod AskLaws
+mod BeginLaws
+mod DeskLaws
+mod Ending
+mod Inside
+mod Keeping
+mod Landing
+mod Narrow
+mod Publishing
 mod RoomLaws
+mod Saying
+pub mod Spares
+mod Transactions
+mod Writing

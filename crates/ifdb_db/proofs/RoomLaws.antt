@@ -1,230 +1,274 @@
 -- A room goes along with each state of the machine that it stands for.
-use Rattle.std.proofs.Common.{◌≡◌, ℕ, zero, suc, ◌-◌, Bool, true, false, List, [], ◌∷◌, ◌++◌, ◌∙◌, length, refl, sym, ap, subst, arith, Option, Some, None, cond, inl, inr}
-use Rattle.std.specs.Prelude.{Result, Ok, Err, not, nat_lt, slice_index_or, slice_set, option_to_list}
-use Rattle.std.specs.List.{list_all}
-use Rattle.std.proofs.Math.ListN.{set}
-use Rattle.std.proofs.lemmas.List.{set-get_or}
-use Rattle.std.proofs.lemmas.Bool.Decides.{nat_tests}
-use Rattle.ifdb_row.specs.declared.row.Row.{Row}
-use Rattle.ifdb_row.specs.Content.{after, content_from}
+use Rattle.std.proofs.Common.{◌≡◌, ℕ, zero, suc, ◌-◌, ◌<◌, ◌≤◌, Bool, true, false, List, [], ◌∷◌, ◌++◌, ◌∙◌, length, take, map, refl, sym, ap, subst, arith, cond, Option, Some, None, inl, inr}
+use Rattle.std.specs.Prelude.{Result, Ok, nat_lt, slice_index_or, slice_set, option_to_list, All}
+use Rattle.std.proofs.lemmas.List.{append-nil, length-append, length-map, map-append, take-append-le, take_all}
+use Rattle.std.proofs.lemmas.Bool.{false≢true}
+use Rattle.ifdb_row.specs.Writes.{merged}
 use Rattle.ifdb_syntax.specs.declared.request.Request.{Request}
-use Rattle.ifdb_syntax.specs.declared.request.Request.TheVariants as q
 use Rattle.ifdb_wire.specs.declared.fault.Fault.{Fault}
 use Rattle.ifdb_wire.specs.declared.fault.Fault.TheVariants as fault
 use Rattle.ifdb_wire.specs.declared.reply.Reply.{Reply}
-use Rattle.ifdb_catalog.specs.Public.{Public, changed}
-use Rattle.ifdb_model.specs.Log.{Entry, changes, commits, public_from, public_of, commits_of, content_of}
-use Rattle.ifdb_model.specs.Session.{Txn, Session, new_session, no_session, closed, in_txn, Seen, seen_in, seen}
-use Rattle.ifdb_model.specs.Step.{Form, greets, publishes, relabels, shows_label, begins, ends, rolls_back, leaves_us, looks, writes, form_of, Outcome, refuses, ask, ask_read, ask_by, ask_as, ask_new}
-use Rattle.ifdb_model.specs.Run.{State, session_of, outcome_of, with_outcome, asks, opens, leaves, next}
-use Rattle.ifdb_model.proofs.LogLaws.{public_from-append, content_from-append}
-use Rattle.ifdb_db.specs.Kept.{is_kept}
-use Rattle.ifdb_db.specs.Answer.{with_entry, IsRefusal, answered, answered_by, answered_as, answered_new}
-use Rattle.ifdb_parse.specs.Parsed.{parsed}
-use Rattle.ifdb_db.specs.Reading.{if_built, is_built, request_or_fault, read_line}
-use Rattle.ifdb_db.specs.Room.{Hall, StandsFor, session_in, outcome_in, with_outcome_in, with_session_in, are_kept}
-use Rattle.ifdb_db.proofs.Keeping.{no_txn}
+use Rattle.ifdb_model.specs.Log.{Entry}
+use Rattle.ifdb_model.specs.Session.{Txn, Session, new_session, no_session, closed, seen_in}
+use Rattle.ifdb_model.specs.Step.{Outcome, refuses, bye, ask}
+use Rattle.ifdb_model.specs.Run.{State, session_of, outcome_of, with_outcome, with_session, asks, opens, leaves, next}
+use Rattle.ifdb_laws.proofs.Shapes.{Shape, stayed, greeted_as, relabelled_to, begun, ended, published, joined, wrote, done, shape}
+use Rattle.ifdb_db.specs.Answer.{IsRefusal, IsDone, IsStill, answered}
+use Rattle.ifdb_db.specs.Client.{Open, Client, new_client, session_at, txn_at, IsBased}
+use Rattle.ifdb_db.specs.Desk.{Desk, oldest, moved}
+use Rattle.ifdb_db.specs.Kept.{IsSound}
+use Rattle.ifdb_db.specs.Reading.{read_line}
+use Rattle.ifdb_db.specs.Room.{Hall, IsOf, times, begin_of, begins_of, IsOver, StandsFor, IsSoundRoom, no_client, client_in, outcome_in}
+use Rattle.ifdb_db.specs.RoomSteps.{IsAsked, IsLeftBy}
+use Rattle.ifdb_db.proofs.AskLaws.{read_same}
+use Rattle.ifdb_db.proofs.DeskLaws.{Follows, moves, begins_above}
+use Rattle.ifdb_db.proofs.Keeping.{all_set, all_add}
 
--- ---- what an added entry does to what all see
+-- ---- the clients of a room
 
-seen_at : List Entry → Option Entry → Seen
-seen_at log e = record { public = public_from (public_of log) (option_to_list e); rows = content_from (content_of log) (commits_of (option_to_list e)) }
+index_map : (clients : List Client) (k : ℕ) → slice_index_or (map session_at clients) k no_session ≡ session_at (slice_index_or clients k no_client)
+index_map [] k = refl
+index_map (c ∷ clients) zero = refl
+index_map (c ∷ clients) (suc k) = index_map clients k
 
-appended : (log : List Entry) (e : Option Entry) → seen_in (log ++ option_to_list e) None ≡ seen_at log e
-unfolding seen_at
-appended log e =
-    let p = public_from-append (public_of []) log (option_to_list e) in
-    let c = content_from-append [] log (option_to_list e) in
-    λ i. record { public = p i; rows = c i }
+set_map : (clients : List Client) (k : ℕ) (c : Client) → map session_at (slice_set clients k c) ≡ slice_set (map session_at clients) k (session_at c)
+set_map [] k c = refl
+set_map (x ∷ clients) zero c = refl
+set_map (x ∷ clients) (suc k) c = ap (λ l. session_at x ∷ l) (set_map clients k c)
 
-one_entry : (log : List Entry) (e : Option Entry) → seen_at log e ≡ with_entry (seen_in log None) e
-unfolding seen_at
-one_entry log None = refl
-one_entry log (Some (changes c)) = refl
-one_entry log (Some (commits ws)) = refl
-
-pub entry_seen : (log : List Entry) (e : Option Entry) → seen_in (log ++ option_to_list e) None ≡ with_entry (seen_in log None) e
-entry_seen log e = appended log e ∙ one_entry log e
-
--- ---- a session without a transaction
-
-new_same : (log : List Entry) (s : Session) (form : Form) → ask_new log s form ≡ answered_new (seen_in log None) s form
-new_same log s (greets name key) = refl
-new_same log s publishes = refl
-new_same log s relabels = refl
-new_same log s shows_label = refl
-new_same log s begins = refl
-new_same log s ends = refl
-new_same log s rolls_back = refl
-new_same log s leaves_us = refl
-new_same log s looks = refl
-new_same log s writes = refl
-
-as_same : (log : List Entry) (s : Session) (x : Seen) (asker : ℕ) (r : Request) → is_built r ≡ true → ask_as log s x asker r (form_of r) ≡ answered_as x s asker r (form_of r)
-as_same log s x asker (q.Hello name key) h = refl
-as_same log s x asker (q.CreatePrincipal name key) h = refl
-as_same log s x asker (q.CreateTag name compound parents) h = refl
-as_same log s x asker (q.CreateTable name columns key foreign) h = refl
-as_same log s x asker (q.CreateView name select tags) h = refl
-as_same log s x asker (q.Grant tag to) h = refl
-as_same log s x asker (q.Revoke tag from) h = refl
-as_same log s x asker (q.SetLabel tags) h = refl
-as_same log s x asker q.ShowLabel h = refl
-as_same log s x asker q.Begin h = cc
-as_same log s x asker q.Commit h = cc
-as_same log s x asker q.Rollback h = cc
-as_same log s x asker q.Bye h = refl
-as_same log s x asker (q.Select select) h = refl
-as_same log s x asker (q.Insert table columns rows tags) h = refl
-as_same log s x asker (q.Update table assignments cond tags) h = refl
-as_same log s x asker (q.Delete table cond) h = refl
-
-by_same : (log : List Entry) (s : Session) (o : Option ℕ) (r : Request) → s.txn ≡ None → is_built r ≡ true → ask_by log s o r ≡ answered_by (seen_in log None) s o r
-by_same log s None r t h = new_same log s (form_of r)
-by_same log s (Some asker) r t h = as_same log s (seen log s) asker r h ∙ ap (λ (x : Option Txn). answered_as (seen_in log x) s asker r (form_of r)) t
-
-read_same : (log : List Entry) (s : Session) (found : Result Request Fault) → s.txn ≡ None → ask_read log s (if_built is_built found) ≡ answered (seen_in log None) s (if_built is_built found)
-read_same log s (Err f) t = refl
-read_same log s (Ok r) t = by (is_built r) refl where
-  by : (b : Bool) → is_built r ≡ b → ask_read log s (cond b (Ok r) (Err (fault.Syntax 0))) ≡ answered (seen_in log None) s (cond b (Ok r) (Err (fault.Syntax 0)))
-  by true h = by_same log s s.principal r t h
-  by false h = refl
-
-ask_same : (log : List Entry) (s : Session) (line : List ℕ) → s.txn ≡ None → ask read_line log s line ≡ answered (seen_in log None) s (read_line line)
-ask_same log s line t = read_same log s (request_or_fault (parsed line)) t
-
--- ---- the sessions of a room
-
-at_kept : (p : Public) (sessions : List Session) (k : ℕ) → list_all (is_kept p) sessions ≡ true → not (in_txn (slice_index_or sessions k no_session).txn) ≡ true
-at_kept p [] k h = refl
-at_kept p (s ∷ sessions) zero h = grind (arith, nat_tests)
-at_kept p (s ∷ sessions) (suc k) h = at_kept p sessions k (grind (arith, nat_tests))
-
-session_txn : (h : Hall) (n : ℕ) → are_kept h ≡ true → (session_in h n).txn ≡ None
-session_txn h n k = by (nat_lt 0 n) where
-  by : (b : Bool) → (cond b (slice_index_or h.sessions (n - 1) no_session) no_session).txn ≡ None
-  by true = no_txn (slice_index_or h.sessions (n - 1) no_session).txn (at_kept h.seen.public h.sessions (n - 1) k)
-  by false = refl
-
-pub outside_txn : (h : Hall) (n : ℕ) → are_kept h ≡ true → in_txn (session_in h n).txn ≡ false
-outside_txn h n k = ap in_txn (session_txn h n k)
-
--- ---- one step
-
-same_session : (h : Hall) (st : State) (n : ℕ) → StandsFor h st → session_of st n ≡ session_in h n
-same_session h st n w = ap (λ (sessions : List Session). cond (nat_lt 0 n) (slice_index_or sessions (n - 1) no_session) no_session) (sym w.sessions)
-
-outcome_by : (h : Hall) (st : State) (n : ℕ) (line : List ℕ) (s : Session) → StandsFor h st → s.txn ≡ None
-    → cond s.is_open (ask read_line st.log s line) (refuses s fault.NoSession) ≡ cond s.is_open (answered h.seen s (read_line line)) (refuses s fault.NoSession)
-outcome_by h st n line s w t = ap (λ (o : Outcome). cond s.is_open o (refuses s fault.NoSession)) (ask_same st.log s line t ∙ ap (λ (x : Seen). answered x s (read_line line)) (sym w.seen))
-
-pub same_outcome : (h : Hall) (st : State) (n : ℕ) (line : List ℕ) → are_kept h ≡ true → StandsFor h st → outcome_of read_line st n line ≡ outcome_in h n line
-same_outcome h st n line k w =
-    ap (λ (s : Session). cond s.is_open (ask read_line st.log s line) (refuses s fault.NoSession)) (same_session h st n w)
-    ∙ outcome_by h st n line (session_in h n) w (session_txn h n k)
-
--- a refusal leaves the hall as it is
-pub refused_hall : (h : Hall) (n : ℕ) (s : Session) (f : Fault) → s ≡ session_in h n → set h.sessions (n - 1) s ≡ h.sessions → with_outcome_in h n (refuses s f) ≡ h
-refused_hall h n s f e k = λ i. record { seen = h.seen; sessions = k i }
-
-same_set : (h : Hall) (n : ℕ) → (session_in h n).is_open ≡ true → set h.sessions (n - 1) (session_in h n) ≡ h.sessions
-same_set h n o = by (nat_lt 0 n) o where
-  by : (b : Bool) → (cond b (slice_index_or h.sessions (n - 1) no_session) no_session).is_open ≡ true → set h.sessions (n - 1) (cond b (slice_index_or h.sessions (n - 1) no_session) no_session) ≡ h.sessions
-  by true e = set-get_or h.sessions (n - 1) no_session
-  by false e = cc
-
-with_any : (h : Hall) (st : State) (n : ℕ) (o : Outcome) → StandsFor h st → StandsFor (with_outcome_in h n o) (with_outcome st n o)
-with_any h st n o w = record {
-  seen = ap (λ (x : Seen). with_entry x o.added) w.seen ∙ sym (entry_seen st.log o.added);
-  sessions = ap (λ (sessions : List Session). slice_set sessions (n - 1) o.session) w.sessions;
-}
-
-open_there : (h : Hall) (st : State) (n : ℕ) (b : Bool) → StandsFor h st → (session_in h n).is_open ≡ b → (session_of st n).is_open ≡ b
-open_there h st n b w e = ap (λ (s : Session). s.is_open) (same_session h st n w) ∙ e
-
-asked_there : (h : Hall) (st : State) (n : ℕ) (line : List ℕ) → are_kept h ≡ true → StandsFor h st → (session_in h n).is_open ≡ true
-    → next read_line st (asks n line) ≡ with_outcome st n (outcome_in h n line)
-asked_there h st n line k w e =
-    let there = open_there h st n true w e in
-    let same = same_outcome h st n line k w in
-    let opened : outcome_of read_line st n line ≡ ask read_line st.log (session_of st n) line = rw there refl in
-    let stepped : next read_line st (asks n line) ≡ with_outcome st n (ask read_line st.log (session_of st n) line) = rw there refl in
-    stepped ∙ ap (with_outcome st n) (sym opened ∙ same)
-
--- an open session's outcome in its place
-pub follows : (h : Hall) (st : State) (n : ℕ) (line : List ℕ) → are_kept h ≡ true → (session_in h n).is_open ≡ true → StandsFor h st
-    → StandsFor (with_outcome_in h n (outcome_in h n line)) (next read_line st (asks n line))
-follows h st n line k e w =
-    subst (StandsFor (with_outcome_in h n (outcome_in h n line))) (sym (asked_there h st n line k w e)) (with_any h st n (outcome_in h n line) w)
-
-refused_open : (h : Hall) (n : ℕ) (f : Fault) → (session_in h n).is_open ≡ true → with_outcome_in h n (refuses (session_in h n) f) ≡ h
-refused_open h n f e = refused_hall h n (session_in h n) f refl (same_set h n e)
-
--- a refusal leaves the hall as it is
-pub stays : (h : Hall) (st : State) (n : ℕ) (line : List ℕ) (f : Fault) → are_kept h ≡ true → outcome_in h n line ≡ refuses (session_in h n) f → StandsFor h st
-    → StandsFor h (next read_line st (asks n line))
-stays h st n line f k o w = by (session_in h n).is_open refl where
-  by : (b : Bool) → (session_in h n).is_open ≡ b → StandsFor h (next read_line st (asks n line))
-  by true e =
-      let same = ap (with_outcome_in h n) o ∙ refused_open h n f e in
-      subst (λ (x : Hall). StandsFor x (next read_line st (asks n line))) same (follows h st n line k e w)
-  by false e =
-      let same : next read_line st (asks n line) ≡ st = rw (open_there h st n false w e) refl in
-      subst (StandsFor h) (sym same) w
-
--- the next session
-pub one_more : (h g : Hall) (st : State) → g ≡ record h { sessions = h.sessions ++ new_session ∷ [] } → StandsFor h st → StandsFor g (next read_line st opens)
-one_more h g st e w = subst (λ (x : Hall). StandsFor x (next read_line st opens)) (sym e) (record { seen = w.seen; sessions = ap (λ (sessions : List Session). sessions ++ new_session ∷ []) w.sessions })
-
--- a session that leaves
-pub one_leaves : (h g : Hall) (st : State) (n : ℕ) → (session_in h n).is_open ≡ true → g ≡ with_session_in h n (closed (session_in h n)) → StandsFor h st → StandsFor g (next read_line st (leaves n))
-one_leaves h g st n o e w =
-    let there = open_there h st n true w o in
-    let stepped : next read_line st (leaves n) ≡ record st { sessions = slice_set st.sessions (n - 1) (closed (session_of st n)) } = rw there refl in
-    let closing = ap closed (same_session h st n w) in
-    let stands : StandsFor (with_session_in h n (closed (session_in h n))) (record st { sessions = slice_set st.sessions (n - 1) (closed (session_in h n)) }) =
-    record { seen = w.seen; sessions = ap (λ (sessions : List Session). slice_set sessions (n - 1) (closed (session_in h n))) w.sessions } in
-    subst (λ (x : Hall). StandsFor x (next read_line st (leaves n))) (sym e)
-    (subst (StandsFor (with_session_in h n (closed (session_in h n)))) (sym (stepped ∙ ap (λ (s : Session). record st { sessions = slice_set st.sessions (n - 1) s }) closing)) stands)
-
-pub none_leaves : (h : Hall) (st : State) (n : ℕ) → (session_in h n).is_open ≡ false → StandsFor h st → StandsFor h (next read_line st (leaves n))
-none_leaves h st n o w =
-    let same : next read_line st (leaves n) ≡ st = rw (open_there h st n false w o) refl in
-    subst (StandsFor h) (sym same) w
-
--- ---- keeping
-
-opened_at : (sessions : List Session) (k : ℕ) → (slice_index_or sessions k no_session).is_open ≡ true → nat_lt k (length sessions) ≡ true
+opened_at : (clients : List Client) (k : ℕ) → (slice_index_or clients k no_client).is_open ≡ true → k < length clients
 opened_at [] k h = cc
-opened_at (s ∷ sessions) zero h = grind (arith, nat_tests)
-opened_at (s ∷ sessions) (suc k) h = grind (arith, nat_tests, opened_at sessions k h)
+opened_at (c ∷ clients) zero h = omega arith
+opened_at (c ∷ clients) (suc k) h = let lt = opened_at clients k h in omega (arith, lt)
 
--- what is known of an open session of a hall
+-- what is known of an open client of a room
 pub record IsThere (h : Hall) (n : ℕ) : Type 0 where
   pub from_1 : nat_lt 0 n ≡ true
-  pub there : nat_lt (n - 1) (length h.sessions) ≡ true
-  pub at : session_in h n ≡ slice_index_or h.sessions (n - 1) no_session
+  pub there : n - 1 < length h.clients
+  pub at : client_in h n ≡ slice_index_or h.clients (n - 1) no_client
 
-pub at_open : (h : Hall) (n : ℕ) → (session_in h n).is_open ≡ true → IsThere h n
+pub at_open : (h : Hall) (n : ℕ) → (client_in h n).is_open ≡ true → IsThere h n
 at_open h n o = by (nat_lt 0 n) refl o where
-  by : (b : Bool) → nat_lt 0 n ≡ b → (cond b (slice_index_or h.sessions (n - 1) no_session) no_session).is_open ≡ true → IsThere h n
-  by true e k = record { from_1 = e; there = opened_at h.sessions (n - 1) k; at = rw e refl }
+  by : (b : Bool) → nat_lt 0 n ≡ b → (cond b (slice_index_or h.clients (n - 1) no_client) no_client).is_open ≡ true → IsThere h n
+  by true e k = record { from_1 = e; there = opened_at h.clients (n - 1) k; at = rw e refl }
   by false e k = cc
 
-pub close_kept : (p : Public) (sessions : List Session) (k : ℕ) → list_all (is_kept p) sessions ≡ true → is_kept p (closed (slice_index_or sessions k no_session)) ≡ true
-close_kept p [] k h = refl
-close_kept p (s ∷ sessions) zero h = grind (arith, nat_tests)
-close_kept p (s ∷ sessions) (suc k) h = close_kept p sessions k (grind (arith, nat_tests))
+-- ---- what they are answered
 
-pub told_there : (h : Hall) (n : ℕ) (line : List ℕ) (s : Session) (r : Reply) → (session_in h n).is_open ≡ true → s ≡ session_in h n
-    → r ≡ (answered h.seen s (read_line line)).reply → r ≡ (outcome_in h n line).reply
-told_there h n line s r o e t = rw o (t ∙ ap (λ (x : Session). (answered h.seen x (read_line line)).reply) e)
+module _ (h : Hall) (st : State) (w : StandsFor h st) where
+  same_session : (n : ℕ) → session_of st n ≡ session_at (client_in h n)
+  same_session n = by (nat_lt 0 n) where
+    by : (b : Bool) → cond b (slice_index_or st.sessions (n - 1) no_session) no_session ≡ session_at (cond b (slice_index_or h.clients (n - 1) no_client) no_client)
+    by true = ap (λ l. slice_index_or l (n - 1) no_session) (sym w.sessions) ∙ index_map h.clients (n - 1)
+    by false = refl
 
--- the reply of an outcome, and that of a refusal
-pub told_reply : (h : Hall) (st : State) (n : ℕ) (line : List ℕ) (r : Reply) → are_kept h ≡ true → r ≡ (outcome_in h n line).reply → StandsFor h st → r ≡ (outcome_of read_line st n line).reply
-told_reply h st n line r k t w = t ∙ sym (ap (λ (o : Outcome). o.reply) (same_outcome h st n line k w))
+  as_many : length h.clients ≡ length st.sessions
+  as_many = sym (length-map h.clients session_at) ∙ ap length w.sessions
+
+  over_at : (n : ℕ) → IsThere h n → IsOver st.log (client_in h n).txn
+  over_at n t = subst (λ (c : Client). IsOver st.log c.txn) (sym t.at) (w.over (n - 1) no_client t.there)
+
+  oldest_at : IsSound h.desk → (n : ℕ) → IsThere h n → (x : Open) → (client_in h n).txn ≡ Some x → oldest h.desk ≤ x.begin
+  oldest_at sound n t x e =
+      let lt : n - 1 < length st.sessions = let a = t.there in let b = as_many in omega (arith, a, b) in
+      let same : slice_index_or st.sessions (n - 1) no_session ≡ session_at (client_in h n) = ap (λ l. slice_index_or l (n - 1) no_session) (sym w.sessions) ∙ index_map h.clients (n - 1) ∙ ap session_at (sym t.at) in
+      begins_above h.desk st (n - 1) (record { begin = x.begin; own = x.own }) w.desk sound lt (ap (λ (s : Session). s.txn) same ∙ ap txn_at e)
+
+  asked_same : IsSound h.desk → (n : ℕ) (line : List ℕ) → (client_in h n).is_open ≡ true → ask read_line st.log (session_of st n) line ≡ outcome_in h n line
+  asked_same sound n line o =
+      let t = at_open h n o in
+      ap (λ (s : Session). ask read_line st.log s line) (same_session n)
+      ∙ read_same h.desk st w.desk (client_in h n) (over_at n t) (oldest_at sound n t) (read_line line) ∙ rw o refl
+
+  pub same_outcome : IsSound h.desk → (n : ℕ) (line : List ℕ) → outcome_of read_line st n line ≡ outcome_in h n line
+  same_outcome sound n line = by (client_in h n).is_open refl where
+    open_same : (b : Bool) → (client_in h n).is_open ≡ b → (session_of st n).is_open ≡ b
+    open_same b e = ap (λ (s : Session). s.is_open) (same_session n) ∙ e
+
+    by : (b : Bool) → (client_in h n).is_open ≡ b → outcome_of read_line st n line ≡ outcome_in h n line
+    by true e =
+        let there : outcome_of read_line st n line ≡ ask read_line st.log (session_of st n) line = rw (open_same true e) refl in
+        there ∙ asked_same sound n line e
+    by false e =
+        let left : outcome_of read_line st n line ≡ refuses (session_of st n) fault.NoSession = rw (open_same false e) refl in
+        let right : outcome_in h n line ≡ refuses (session_at (client_in h n)) fault.NoSession = rw e refl in
+        left ∙ ap (λ (s : Session). refuses s fault.NoSession) (same_session n) ∙ sym right
+
+-- the reply of an outcome
+pub told_reply : (h : Hall) (st : State) (n : ℕ) (line : List ℕ) (r : Reply) → IsSoundRoom h → r ≡ (outcome_in h n line).reply → StandsFor h st → r ≡ (outcome_of read_line st n line).reply
+told_reply h st n line r k t w = t ∙ sym (ap (λ (o : Outcome). o.reply) (same_outcome h st w k.desk n line))
+
+-- ---- transactions over a longer log
+
+over_more : (log zs : List Entry) (t : Option Open) → IsOver log t → IsOver (log ++ zs) t
+over_more log zs None o = tt
+over_more log zs (Some x) o = (long, o.1 ∙ ap (λ l. seen_in l None) (sym (take-append-le x.begin log zs o.0))) where
+  long : x.begin ≤ length (log ++ zs)
+  long = let e = length-append log zs in let le = o.0 in omega (arith, e, le)
+
+-- one that goes on, or begins
+over_moved : (d : Desk) (log zs : List Entry) (n : ℕ) (t u : Option Open) → d.seen ≡ seen_in log None → n ≡ length log → IsOver log t → IsBased d.seen t u → Follows n (txn_at t) (txn_at u)
+    → IsOver (log ++ zs) u
+over_moved d log zs n t None e m o b f = tt
+over_moved d log zs n None (Some y) e m o b f =
+    let at : y.begin ≡ length log = f ∙ m in
+    let front : take y.begin log ≡ log = take_all y.begin log (omega (arith, at)) in
+    over_more log zs (Some y) (let le : y.begin ≤ length log = omega (arith, at) in le, b ∙ e ∙ ap (λ l. seen_in l None) (sym front))
+over_moved d log zs n (Some x) (Some y) e m o b f =
+    over_more log zs (Some y) (let le = o.0 in let long : y.begin ≤ length log = omega (arith, f, le) in long, b ∙ o.1 ∙ ap (λ k. seen_in (take k log) None) (sym f))
+
+-- ---- how a line leaves the sessions' transactions
+
+follows_itself : (n : ℕ) (t : Option Txn) → Follows n t t
+follows_itself n None = tt
+follows_itself n (Some x) = refl
+
+follows_none : (n : ℕ) (t : Option Txn) → Follows n t None
+follows_none n None = tt
+follows_none n (Some x) = tt
+
+follows_shape : (log : List Entry) (s : Session) (line : Result Request Fault) (o : Outcome) → Shape log s line o → Follows (length log) s.txn o.session.txn
+follows_shape log s line _ (stayed r) = follows_itself (length log) s.txn
+follows_shape log s line _ (greeted_as n) = follows_itself (length log) s.txn
+follows_shape log s line _ (relabelled_to asker r label e h) = follows_itself (length log) s.txn
+follows_shape log s line _ (begun t) = subst (λ o. Follows (length log) o (Some (record { begin = length log; own = [] }))) (sym t) refl
+follows_shape log s line _ (ended is_open r) = follows_none (length log) s.txn
+follows_shape log s line _ (published asker r c t e b f) = follows_itself (length log) s.txn
+follows_shape log s line _ (joined asker r b x w i t e) = subst (λ o. Follows (length log) o (Some (record { begin = x.begin; own = merged x.own w.writes }))) (sym t) refl
+follows_shape log s line _ (wrote asker r b w i t e f) = follows_itself (length log) s.txn
+follows_shape log s line _ (done x t j) = follows_none (length log) s.txn
+
+-- ---- one client comes to an outcome
+
+module _ (h : Hall) (st : State) (w : StandsFor h st) (sound : IsSoundRoom h) (n : ℕ) (t : IsThere h n) where
+  here : slice_index_or st.sessions (n - 1) no_session ≡ session_at (client_in h n)
+  here = ap (λ l. slice_index_or l (n - 1) no_session) (sym w.sessions) ∙ index_map h.clients (n - 1) ∙ ap session_at (sym t.at)
+
+  there : n - 1 < length st.sessions
+  there = let a = t.there in let b = as_many h st w in omega (arith, a, b)
+
+  stands_moved : (o : Outcome) (e : Client) (g : Hall) → session_at e ≡ o.session → IsBased h.desk.seen (client_in h n).txn e.txn → Follows (length st.log) (session_at (client_in h n)).txn o.session.txn
+      → g.desk ≡ moved (session_at (client_in h n)) o h.desk → g.clients ≡ slice_set h.clients (n - 1) e → StandsFor g (with_outcome st n o)
+  stands_moved o e g s b f d c = record {
+    desk = subst (λ (z : Desk). IsOf z (with_outcome st n o)) (sym d) (subst (λ (z : Session). IsOf (moved z o h.desk) (with_outcome st n o)) here
+        (moves h.desk st (n - 1) o w.desk sound.desk there (follows_here)));
+    sessions = ap (map session_at) c ∙ set_map h.clients (n - 1) e ∙ ap (λ l. slice_set l (n - 1) (session_at e)) w.sessions ∙ ap (slice_set st.sessions (n - 1)) s;
+    over = subst (All (λ (z : Client). IsOver (st.log ++ option_to_list o.added) z.txn)) (sym c)
+        (all_set (λ (z : Client). IsOver (st.log ++ option_to_list o.added) z.txn) h.clients (n - 1) e mine
+        (λ k x lt. over_more st.log (option_to_list o.added) (slice_index_or h.clients k x).txn (w.over k x lt)));
+  } where
+    follows_here : Follows h.desk.count (slice_index_or st.sessions (n - 1) no_session).txn o.session.txn
+    follows_here = subst (λ m. Follows m (slice_index_or st.sessions (n - 1) no_session).txn o.session.txn) (sym w.desk.count)
+        (subst (λ (z : Session). Follows (length st.log) z.txn o.session.txn) (sym here) f)
+
+    mine : IsOver (st.log ++ option_to_list o.added) e.txn
+    mine = over_moved h.desk st.log (option_to_list o.added) (length st.log) (client_in h n).txn e.txn w.desk.seen refl (over_at h st w n t) b
+        (subst (λ (z : Session). Follows (length st.log) (txn_at (client_in h n).txn) z.txn) (sym s) f)
+
+-- an open session's line
+pub follows : (h g : Hall) (st : State) (n : ℕ) (line : List ℕ) (r : Reply) → IsSoundRoom h → IsAsked n line h g r → StandsFor h st → StandsFor g (next read_line st (asks n line))
+follows h g st n line r k a w =
+    let t = at_open h n a.is_open in
+    let o = outcome_in h n line in
+    let opened : (session_of st n).is_open ≡ true = ap (λ (s : Session). s.is_open) (same_session h st w n) ∙ a.is_open in
+    let same = asked_same h st w k.desk n line a.is_open in
+    let stepped : next read_line st (asks n line) ≡ with_outcome st n (ask read_line st.log (session_of st n) line) = rw opened refl in
+    let goes : Follows (length st.log) (session_of st n).txn (ask read_line st.log (session_of st n) line).session.txn =
+    follows_shape st.log (session_of st n) (read_line line) (ask read_line st.log (session_of st n) line) (shape read_line st.log (session_of st n) line) in
+    let goes_on : Follows (length st.log) (session_at (client_in h n)).txn o.session.txn =
+    subst (λ (z : Outcome). Follows (length st.log) (session_at (client_in h n)).txn z.session.txn) same
+    (subst (λ (s : Session). Follows (length st.log) s.txn (ask read_line st.log (session_of st n) line).session.txn) (same_session h st w n) goes) in
+    subst (StandsFor g) (sym (stepped ∙ ap (with_outcome st n) same))
+    (stands_moved h st w k n t o a.client g a.done.session a.done.based goes_on a.done.desk a.clients)
+
+-- ---- a refusal
+
+set_itself : {X : Type 0} (xs : List X) (k : ℕ) (d : X) → slice_set xs k (slice_index_or xs k d) ≡ xs
+set_itself [] k d = refl
+set_itself (x ∷ xs) zero d = refl
+set_itself (x ∷ xs) (suc k) d = ap (λ l. x ∷ l) (set_itself xs k d)
+
+-- a refusal leaves the state as it is
+refused_state : (st : State) (n : ℕ) (f : Fault) → (session_of st n).is_open ≡ true → with_outcome st n (refuses (session_of st n) f) ≡ st
+refused_state st n f o = by (nat_lt 0 n) refl where
+  by : (b : Bool) → nat_lt 0 n ≡ b → with_outcome st n (refuses (session_of st n) f) ≡ st
+  by true e =
+      let at : session_of st n ≡ slice_index_or st.sessions (n - 1) no_session = rw e refl in
+      let put = ap (slice_set st.sessions (n - 1)) at ∙ set_itself st.sessions (n - 1) no_session in
+      let log = append-nil st.log in
+      λ i. record { log = log i; sessions = put i }
+  by false e =
+      let shut : (session_of st n).is_open ≡ false = rw e refl in
+      absurd (false≢true (sym shut ∙ o))
+
+pub stays : (h g : Hall) (st : State) (n : ℕ) (line : List ℕ) (f : Fault) → IsSoundRoom h → outcome_in h n line ≡ refuses (session_at (client_in h n)) f → g ≡ h → StandsFor h st
+    → StandsFor g (next read_line st (asks n line))
+stays h g st n line f k o e w = subst (λ (z : Hall). StandsFor z (next read_line st (asks n line))) (sym e) (by (session_of st n).is_open refl) where
+  by : (b : Bool) → (session_of st n).is_open ≡ b → StandsFor h (next read_line st (asks n line))
+  by true i =
+      let opened : (client_in h n).is_open ≡ true = sym (ap (λ (s : Session). s.is_open) (same_session h st w n)) ∙ i in
+      let same : ask read_line st.log (session_of st n) line ≡ refuses (session_of st n) f = asked_same h st w k.desk n line opened ∙ o ∙ ap (λ (s : Session). refuses s f) (sym (same_session h st w n)) in
+      let stepped : next read_line st (asks n line) ≡ with_outcome st n (ask read_line st.log (session_of st n) line) = rw i refl in
+      subst (StandsFor h) (sym (stepped ∙ ap (with_outcome st n) same ∙ refused_state st n f i)) w
+  by false i =
+      let same : next read_line st (asks n line) ≡ st = rw i refl in
+      subst (StandsFor h) (sym same) w
 
 -- a refusal that isn't want of memory
 pub refused_so : (o : Outcome) (s : Session) (f : Fault) → (f ≡ fault.OutOfMemory → ⊥) → IsRefusal o s f → o ≡ refuses s f
 refused_so o s f h (inl e) = absurd (h e)
 refused_so o s f h (inr e) = e
+
+-- ---- the next session, and one that leaves
+
+begins_new : (sessions : List Session) (b : ℕ) → times b (begins_of (sessions ++ new_session ∷ [])) ≡ times b (begins_of sessions)
+begins_new sessions b = ap (times b) (added sessions) where
+  added : (sessions : List Session) → begins_of (sessions ++ new_session ∷ []) ≡ begins_of sessions
+  added [] = refl
+  added (s ∷ sessions) = ap (λ l. begin_of s.txn ++ l) (added sessions)
+
+pub one_more : (h g : Hall) (st : State) → g ≡ record h { clients = h.clients ++ new_client ∷ [] } → StandsFor h st → StandsFor g (next read_line st opens)
+one_more h g st e w = subst (λ (x : Hall). StandsFor x (next read_line st opens)) (sym e) (record {
+  desk = record { seen = w.desk.seen; commits = w.desk.commits; count = w.desk.count; begins = λ b. w.desk.begins b ∙ sym (begins_new st.sessions b) };
+  sessions = map-append session_at h.clients (new_client ∷ []) ∙ ap (λ (sessions : List Session). sessions ++ new_session ∷ []) w.sessions;
+  over = all_add (λ (c : Client). IsOver st.log c.txn) h.clients new_client tt w.over;
+})
+
+pub one_leaves : (h g : Hall) (st : State) (n : ℕ) → IsSoundRoom h → (client_in h n).is_open ≡ true → IsLeftBy n h g → StandsFor h st → StandsFor g (next read_line st (leaves n))
+one_leaves h g st n k o l w =
+    let t = at_open h n o in
+    let opened : (session_of st n).is_open ≡ true = ap (λ (s : Session). s.is_open) (same_session h st w n) ∙ o in
+    let stepped : next read_line st (leaves n) ≡ with_session st n (closed (session_of st n)) = rw opened refl in
+    let same : with_outcome st n (bye (session_at (client_in h n))) ≡ with_session st n (closed (session_of st n)) =
+    (let log = append-nil st.log in let s = sym (same_session h st w n) in λ i. record { log = log i; sessions = slice_set st.sessions (n - 1) (closed (s i)) }) in
+    subst (StandsFor g) (same ∙ sym stepped)
+    (stands_moved h st w k n t (bye (session_at (client_in h n))) (record (client_in h n) { is_open = false; txn = None }) g refl tt (follows_none (length st.log) (session_at (client_in h n)).txn) l.desk l.clients)
+
+pub none_leaves : (h : Hall) (st : State) (n : ℕ) → (client_in h n).is_open ≡ false → StandsFor h st → StandsFor h (next read_line st (leaves n))
+none_leaves h st n o w =
+    let shut : (session_of st n).is_open ≡ false = ap (λ (s : Session). s.is_open) (same_session h st w n) ∙ o in
+    let same : next read_line st (leaves n) ≡ st = rw shut refl in
+    subst (StandsFor h) (sym same) w
+
+-- ---- an open client's line, by what the database answered
+
+outcome_open : (h : Hall) (n : ℕ) (line : List ℕ) → (client_in h n).is_open ≡ true → outcome_in h n line ≡ answered h.desk (client_in h n) (read_line line)
+outcome_open h n line o = rw o refl
+
+put_back : (h : Hall) (n : ℕ) (c e : Client) → (client_in h n).is_open ≡ true → c ≡ client_in h n → e ≡ c → slice_set h.clients (n - 1) e ≡ h.clients
+put_back h n c e o i k =
+    let t = at_open h n o in
+    ap (slice_set h.clients (n - 1)) (k ∙ i ∙ t.at) ∙ set_itself h.clients (n - 1) no_client
+
+pub asked_open : (h g : Hall) (n : ℕ) (line : List ℕ) (c e : Client) (r : Reply) → (client_in h n).is_open ≡ true → c ≡ client_in h n
+    → IsDone (answered h.desk c (read_line line)) c e h.desk g.desk r → IsStill c e h.desk g.desk (Ok r) → g.clients ≡ slice_set h.clients (n - 1) e → IsAsked n line h g r
+asked_open h g n line c e r o i d s k = record {
+  client = e;
+  is_open = o;
+  done = subst (λ (z : Outcome). IsDone z (client_in h n) e h.desk g.desk r) (sym (outcome_open h n line o))
+      (subst (λ (z : Client). IsDone (answered h.desk z (read_line line)) z e h.desk g.desk r) i d);
+  clients = k;
+  still = λ u. same (s u);
+} where
+  same : (g.desk ≡ h.desk) × (e ≡ c) → g ≡ h
+  same q = let clients = k ∙ put_back h n c e o i q.1 in λ j. record { desk = q.0 j; clients = clients j }

@@ -1,77 +1,82 @@
--- What an open session without a transaction is answered, over what all see, and what its line adds to that.
+-- What a client is answered, over what all see, and what its line changes. The steps are those of the machine; here they
+-- read what the database keeps in place of the log.
 use Rattle.std.specs.Prelude.{◌≡◌, ◌⊎◌, ℕ, List, Option, Some, None, Result, Ok, Err}
-use Rattle.ifdb_row.specs.Content.{after}
+use Rattle.ifdb_row.specs.Verdict.{verdict, written_by}
+use Rattle.ifdb_store.specs.Kept.{trimmed}
 use Rattle.ifdb_syntax.specs.declared.request.Request.{Request}
 use Rattle.ifdb_wire.specs.declared.fault.Fault.{Fault}
 use Rattle.ifdb_wire.specs.declared.fault.Fault.TheVariants as fault
 use Rattle.ifdb_wire.specs.declared.reply.Reply.{Reply}
 use Rattle.ifdb_wire.specs.Text.{IsUnbounded}
-use Rattle.ifdb_catalog.specs.Public.{changed}
+use Rattle.ifdb_catalog.specs.Public.{Public, tags_of}
 use Rattle.ifdb_catalog.specs.Binding.{bound}
-use Rattle.ifdb_model.specs.Log.{Entry, changes, commits}
-use Rattle.ifdb_model.specs.Session.{Session, Seen}
-use Rattle.ifdb_model.specs.Step.{Outcome, refuses, Form, greets, publishes, relabels, shows_label, leaves_us, looks, writes, form_of, hello, bye, publish, set_label, show_label, look, write_bound}
+use Rattle.ifdb_model.specs.Session.{Session, Seen, Txn}
+use Rattle.ifdb_model.specs.Step.{Outcome, refuses, Form, greets, publishes, relabels, shows_label, begins, ends, rolls_back, leaves_us, looks, writes, form_of, hello, bye, publish, set_label, show_label, look, write_bound, begin, rollback, committed, verdict_fault}
+use Rattle.ifdb_db.specs.Client.{Open, Client, session_at, seen_by, IsBased}
+use Rattle.ifdb_db.specs.Desk.{Desk, moved}
 
--- what all see once an entry is added, if one is
-abbrev pub with_entry : Seen → Option Entry → Seen
-with_entry x None = x
-with_entry x (Some (changes c)) = record x { public = changed x.public c }
-with_entry x (Some (commits ws)) = record x { rows = after x.rows ws }
+-- the refusal of a COMMIT of the transaction at a label, if it is one
+abbrev pub fault_of : Desk → List ℕ → Option Open → Option Fault
+fault_of d label None = None
+fault_of d label (Some x) = verdict_fault (verdict (tags_of d.seen.public) d.seen.rows (written_by (trimmed x.begin d.commits)) x.own label)
 
--- a session that said HELLO; requests of the other forms come later
-abbrev pub answered_as : Seen → Session → ℕ → Request → Form → Outcome
-answered_as x s asker r (greets name key) = refuses s fault.HelloTwice
-answered_as x s asker r publishes = publish x.public s (bound x.public asker r)
-answered_as x s asker r relabels = set_label x.public asker s (bound x.public asker r)
-answered_as x s asker r shows_label = show_label x.public s
-answered_as x s asker r leaves_us = bye s
-answered_as x s asker r looks = look x.public x.rows s (bound x.public asker r)
-answered_as x s asker r writes = write_bound x.public x.rows asker s (bound x.public asker r)
-answered_as x s asker r _ = refuses s (fault.Syntax 0)
+-- a COMMIT that would be refused so, if at all
+abbrev pub ended : Session → Option Txn → Option Fault → Outcome
+ended s None refusal = refuses s fault.NoTransaction
+ended s (Some x) refusal = committed s x.own refusal
+
+-- a session that said HELLO, where the log has so many entries, over what it sees
+abbrev pub answered_as : ℕ → Seen → Option Fault → Session → ℕ → Request → Form → Outcome
+answered_as n x refusal s asker r (greets name key) = refuses s fault.HelloTwice
+answered_as n x refusal s asker r publishes = publish x.public s (bound x.public asker r)
+answered_as n x refusal s asker r relabels = set_label x.public asker s (bound x.public asker r)
+answered_as n x refusal s asker r shows_label = show_label x.public s
+answered_as n x refusal s asker r begins = begin n s
+answered_as n x refusal s asker r ends = ended s s.txn refusal
+answered_as n x refusal s asker r rolls_back = rollback s
+answered_as n x refusal s asker r leaves_us = bye s
+answered_as n x refusal s asker r looks = look x.public x.rows s (bound x.public asker r)
+answered_as n x refusal s asker r writes = write_bound x.public x.rows asker s (bound x.public asker r)
 
 -- a session that didn't
-abbrev pub answered_new : Seen → Session → Form → Outcome
-answered_new x s (greets name key) = hello x.public s name key
-answered_new x s leaves_us = bye s
-answered_new x s _ = refuses s fault.NotHello
+abbrev pub answered_new : Public → Session → Form → Outcome
+answered_new p s (greets name key) = hello p s name key
+answered_new p s leaves_us = bye s
+answered_new p s _ = refuses s fault.NotHello
 
--- a request of a session
-abbrev pub answered_by : Seen → Session → Option ℕ → Request → Outcome
-answered_by x s None r = answered_new x s (form_of r)
-answered_by x s (Some asker) r = answered_as x s asker r (form_of r)
+-- a request of a client
+abbrev pub answered_by : Desk → Client → Option ℕ → Request → Outcome
+answered_by d c None r = answered_new d.seen.public (session_at c) (form_of r)
+answered_by d c (Some asker) r = answered_as d.count (seen_by d.seen c.txn) (fault_of d c.label c.txn) (session_at c) asker r (form_of r)
 
 -- a line that was read
-abbrev pub answered : Seen → Session → Result Request Fault → Outcome
-answered x s (Err f) = refuses s f
-answered x s (Ok r) = answered_by x s s.principal r
-
--- the session with a new label, if it gets one
-abbrev pub with_label : Session → Option (List ℕ) → Session
-with_label s None = s
-with_label s (Some label) = record s { label = label }
+abbrev pub answered : Desk → Client → Result Request Fault → Outcome
+answered d c (Err f) = refuses (session_at c) f
+answered d c (Ok r) = answered_by d c c.principal r
 
 -- the fault is want of memory, or the one that the session is refused with
 abbrev pub IsRefusal : Outcome → Session → Fault → Type 0
 IsRefusal o s f = (f ≡ fault.OutOfMemory) ⊎ (o ≡ refuses s f)
 
--- the reply, the session and what all see are those of the outcome
-pub record IsDone (o : Outcome) (t : Session) (x y : Seen) (r : Reply) : Type 0 where
+-- the reply, the session and the desk are those of the outcome, and the transaction is based on what it was
+pub record IsDone (o : Outcome) (c e : Client) (x y : Desk) (r : Reply) : Type 0 where
   pub told : r ≡ o.reply
-  pub session : t ≡ o.session
-  pub seen : y ≡ with_entry x o.added
+  pub session : session_at e ≡ o.session
+  pub based : IsBased x.seen c.txn e.txn
+  pub desk : y ≡ moved (session_at c) o x
 
 -- the session is refused, or there was no memory, and all is as before
-pub record IsUndone (o : Outcome) (s t : Session) (x y : Seen) (f : Fault) : Type 0 where
-  pub cause : IsRefusal o s f
-  pub session : t ≡ s
-  pub seen : y ≡ x
+pub record IsUndone (o : Outcome) (c e : Client) (x y : Desk) (f : Fault) : Type 0 where
+  pub cause : IsRefusal o (session_at c) f
+  pub client : e ≡ c
+  pub desk : y ≡ x
 
--- A session s over what all see, x, came to t and y, and was told this. An error is a refusal, which changes nothing.
-abbrev pub IsAnswered : Outcome → Session → Session → Seen → Seen → Result Reply Fault → Type 0
-IsAnswered o s t x y (Ok r) = IsDone o t x y r
-IsAnswered o s t x y (Err f) = IsUndone o s t x y f
+-- a client c at a desk x came to e and y, and was told this. An error is a refusal, which changes nothing.
+abbrev pub IsAnswered : Outcome → Client → Client → Desk → Desk → Result Reply Fault → Type 0
+IsAnswered o c e x y (Ok r) = IsDone o c e x y r
+IsAnswered o c e x y (Err f) = IsUndone o c e x y f
 
 -- a reply of any length comes with no change
-abbrev pub IsStill : Session → Session → Seen → Seen → Result Reply Fault → Type 0
-IsStill s t x y (Ok r) = IsUnbounded r → (y ≡ x) × (t ≡ s)
-IsStill s t x y (Err f) = Unit {0}
+abbrev pub IsStill : Client → Client → Desk → Desk → Result Reply Fault → Type 0
+IsStill c e x y (Ok r) = IsUnbounded r → (y ≡ x) × (e ≡ c)
+IsStill c e x y (Err f) = Unit {0}

@@ -1,20 +1,55 @@
--- What is true of every public state, of its rows and of every session.
-use Rattle.std.specs.Prelude.{◌≡◌, ℕ, Bool, ◌&&◌, not, List, length, IsTrue}
-use Rattle.ifdb_label.specs.Tags.{are_made}
+-- What is true of every desk and of every client.
+use Rattle.std.specs.Prelude.{◌≡◌, ◌≤◌, ℕ, Bool, true, ◌&&◌, List, [], ◌∷◌, length, nat_le, IsTrue, Option, Some, None, All}
+use Rattle.std.specs.List.{list_all}
+use Rattle.ifdb_label.specs.Tags.{AreMade}
 use Rattle.ifdb_row.specs.declared.row.Row.{Row}
-use Rattle.ifdb_row.specs.Content.{rising}
-use Rattle.ifdb_catalog.specs.Public.{Public, tag_names}
-use Rattle.ifdb_view.specs.Made.{are_views_made}
-use Rattle.ifdb_model.specs.Session.{Session, in_txn}
-use Rattle.ifdb_laws.specs.RowLaws.{rows_fit}
+use Rattle.ifdb_row.specs.declared.write.Write.{Write}
+use Rattle.ifdb_row.specs.Content.{after}
+use Rattle.ifdb_row.specs.Writes.{are_rising, are_fitting}
+use Rattle.ifdb_store.specs.Kept.{is_later}
+use Rattle.ifdb_store.specs.Later.{are_writes_made}
+use Rattle.ifdb_catalog.specs.Public.{Public}
+use Rattle.ifdb_snapshot.specs.Sound.{is_sound}
+use Rattle.ifdb_snapshot.specs.Writing.{is_fit, are_fit}
+use Rattle.ifdb_db.specs.Client.{Open, Client}
+use Rattle.ifdb_db.specs.Desk.{Desk, oldest}
 
--- these are the names of the tags, each view can be computed, and the rows fit their tables and stand by their slots
-pub record IsSound (p : Public) (rows : List Row) (names_of_tags : List (List ℕ)) : Type 0 where
-  pub names : names_of_tags ≡ tag_names p
-  pub views : IsTrue (are_views_made (length p.tags) p.views)
-  pub fit : IsTrue (rows_fit (record { public = p; rows = rows }))
-  pub in_order : IsTrue (rising rows)
+-- the begins stand in their order, and none is behind the end of the log
+abbrev pub are_ordered : List ℕ → ℕ → Bool
+are_ordered [] count = true
+are_ordered (b ∷ begins) count = nat_le b count && list_all (nat_le b) begins && are_ordered begins count
 
--- a session's label is of made tags, and it has no transaction
-abbrev pub is_kept : Public → Session → Bool
-is_kept p s = are_made (length p.tags) s.label && not (in_txn s.txn)
+-- The rows fit. The commits that are kept are of made tags, and each is later than the oldest open BEGIN: what no open
+-- transaction can meet was given up.
+pub record IsSound (d : Desk) : Type 0 where
+  pub order : IsTrue (are_ordered d.begins d.count)
+  pub seen : IsTrue (is_sound d.seen)
+  pub made : IsTrue (list_all (λ c. are_writes_made (length d.seen.public.tags) c.writes) d.commits)
+  pub later : IsTrue (list_all (is_later (oldest d)) d.commits)
+
+-- what fitted the first public state fits the second, which has no fewer tags
+pub record Outgrows (p q : Public) : Type 0 where
+  pub tags : length p.tags ≤ length q.tags
+  pub writes : (w : Write) → is_fit p w ≡ true → is_fit q w ≡ true
+
+-- the rows that a transaction sees are those of its BEGIN with its own writes, which stand by their slots; all of them fit
+pub record IsSoundTxn (x : Open) (shown : List Row) : Type 0 where
+  pub rows : shown ≡ after x.base.rows x.own
+  pub seen : IsTrue (is_sound (record { public = x.base.public; rows = shown }))
+  pub base : IsTrue (is_sound x.base)
+  pub own : IsTrue (are_fit x.base.public x.own)
+  pub rising : IsTrue (are_rising x.own)
+  pub fitting : IsTrue (are_fitting x.own)
+
+-- a label is of made tags; in a transaction of those of its BEGIN, which the public state of now outgrows
+abbrev pub IsLabelKept : Public → List ℕ → Option Open → Type 0
+IsLabelKept p label None = AreMade (length p.tags) label
+IsLabelKept p label (Some x) = AreMade (length x.base.public.tags) label × Outgrows x.base.public p
+
+-- so it is with a client's
+abbrev pub IsKept : Public → Client → Type 0
+IsKept p c = IsLabelKept p c.label c.txn
+
+-- and with those of all clients
+abbrev pub AreKept : Public → List Client → Type 0
+AreKept p clients = All (IsKept p) clients

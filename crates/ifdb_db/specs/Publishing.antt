@@ -1,9 +1,7 @@
 -- What is bound, as a change of the public state.
-use Rattle.std.specs.Prelude.{Bool, true, ℕ, List, Option, Some, None}
+use Rattle.std.specs.Prelude.{Bool, true, Option, Some, None}
 use Rattle.ifdb_bound.specs.declared.request.Bound.{Bound}
 use Rattle.ifdb_bound.specs.declared.request.Bound.TheVariants as b
-use Rattle.ifdb_bound.specs.declared.request.Change.{Change}
-use Rattle.ifdb_bound.specs.declared.request.Change.TheVariants as change
 use Rattle.ifdb_wire.specs.declared.fault.Fault.{Fault}
 use Rattle.ifdb_catalog.specs.Public.{Public, refusal}
 use Rattle.ifdb_catalog.specs.Fits.{is_new}
@@ -23,8 +21,3 @@ refusal_of p _ = None
 abbrev pub is_new_bound : Public → Bound → Bool
 is_new_bound p (b.Change c) = is_new p c
 is_new_bound p _ = true
-
--- the name of the tag that the change makes, if it makes one
-abbrev pub new_tag : Change → Option (List ℕ)
-new_tag (change.Tag asker name kind parents) = Some name
-new_tag _ = None

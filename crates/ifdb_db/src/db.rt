@@ -1,44 +1,45 @@
-// The public state with the rows.
+// What all see outside transactions.
 ghost use Rattle.std.specs.Prelude.{◌≡◌, [], IfOk, IsTrue};
 ghost use Rattle.ifdb_catalog.specs.Public.{opening as first_public, tags_of};
-ghost use Rattle.ifdb_db.specs.Kept.{is_kept};
 ghost use Rattle.ifdb_db.specs.Answer.{answered, IsAnswered, IsStill};
+ghost use Rattle.ifdb_db.specs.Desk.{settled};
+ghost use Rattle.ifdb_db.specs.Kept.{IsKept, IsSound};
 ghost use Rattle.ifdb_db.specs.Reading.{read_line};
 
 mod answer;
-mod hello;
-mod label;
+mod end;
+mod outside;
 mod publish;
-mod select;
 mod write;
 
 use crate::OutOfMemory;
 use crate::reading::read_line;
 use crate::session::Session;
-use ifdb_catalog::Catalog;
 use ifdb_label::Tags;
-use ifdb_store::Content;
-use ifdb_value::Name;
+use ifdb_snapshot::{SharedState, Snapshot};
+use ifdb_store::Store;
 use ifdb_wire::{Fault, Reply};
 use std::alloc::Global;
 use std::marker::Model;
 
-/// What all sessions see: the public state, and the rows in the order of their slots.
+/// What all sessions see outside transactions: the public state, and the rows; and what it takes to judge a COMMIT: the commits that an open
+/// transaction may meet, how many changes there were, and where the open transactions began.
 ///
-/// The names of the tags stand once more in the order of the tags, since SELECT reads them by their numbers.
+/// It keeps no log. Contracts see a desk, which stands for a log.
 #[derive(Drop)]
 pub struct Db {
     alloc: Global,
-    catalog: Catalog,
-    names: Vec<Name>,
-    rows: Content,
+    public: SharedState,
+    store: Store,
+    count: u64,
+    begins: Vec<u64>,
 }
 
 impl Model for Db {
-    ghost use Rattle.ifdb_model.specs.Session.{Seen};
+    ghost use Rattle.ifdb_db.specs.Desk.{Desk};
     ghost use Rattle.ifdb_db.specs.Kept.{IsSound};
 
-    ghost Value = { Seen };
+    ghost Value = { Desk };
 
     ghost use Rattle.std.specs.Coded.{codes};
     ghost use Rattle.ifdb_bound.specs.contracts.condition.BoundCond as cond;
@@ -46,30 +47,47 @@ impl Model for Db {
 
     ghost coded = { Prim.hlevel (codes, cond.the_row.coded, expr.the_row.coded) };
 
-    ghost view = { λ d. record { public = d.catalog; rows = d.rows } };
+    ghost view = { λ d. record {
+      seen = record { public = d.public; rows = d.store.rows };
+      commits = d.store.commits;
+      count = d.count;
+      begins = d.begins.items;
+    } };
 
-    ghost invariant = { λ d. IsSound d.catalog d.rows d.names.items };
+    ghost invariant = { λ d. IsSound (record {
+      seen = record { public = d.public; rows = d.store.rows };
+      commits = d.store.commits;
+      count = d.count;
+      begins = d.begins.items;
+    }) };
 }
 
 impl Db {
     /// The public state before the first change, and no rows.
     pub fn opening(alloc: Global) -> Result<Db, OutOfMemory>
-        ensures public { IfOk result (λ db. db.public ≡ first_public) }
-        ensures rows { IfOk result (λ db. db.rows ≡ []) }
+        ensures { IfOk result (λ db. db ≡ record {
+          seen = record { public = first_public; rows = [] };
+          commits = [];
+          count = 0;
+          begins = [];
+        }) }
     {
         Ok(Db {
             alloc,
-            catalog: Catalog::opening(alloc)?,
-            names: Vec::new(alloc),
-            rows: Content::new(alloc)?,
+            public: SharedState::opening(alloc)?,
+            store: Store::new(alloc)?,
+            count: 0,
+            begins: Vec::new(alloc),
         })
     }
 
-    /// Answers a line of a session. An error is a refusal, which changes nothing; `OutOfMemory` is want of memory.
+    /// Answers a line of an open session. An error is a refusal or want of memory, and changes nothing.
     pub fn ask(&mut self, session: &mut Session, line: &[u8]) -> Result<Reply, Fault>
-        requires { IsTrue (is_kept self.old.public session.old) }
-        ensures answered { IsAnswered (answered self.old session.old (read_line line.now)) session.old session.new self.old self.new result }
-        ensures kept { IsTrue (is_kept self.new.public session.new) }
+        requires open { IsTrue session.old.is_open }
+        requires kept { IsKept self.old.seen.public session.old }
+        ensures answered { IsAnswered (answered self.old session.old (read_line line.now))
+            session.old session.new self.old self.new result }
+        ensures kept { IsKept self.new.seen.public session.new }
         ensures still { IsStill session.old session.new self.old self.new result }
     {
         let request = read_line(self.alloc, line)?;
@@ -78,8 +96,30 @@ impl Db {
 
     /// All tags.
     pub fn tags(&self) -> &Tags
-        ensures { result.now ≡ tags_of self.now.public }
+        ensures { result.now ≡ tags_of self.now.seen.public }
     {
-        self.catalog.tags()
+        self.public.get().catalog().tags()
+    }
+
+    /// What all see.
+    fn seen(&self) -> Snapshot<'_>
+        ensures seen { result ≡ self.now.seen }
+    {
+        Snapshot::new(self.alloc, self.public.get(), self.store.content())
+    }
+
+    /// What is true of each desk. Does nothing.
+    pub(crate) fn is_sound(&self)
+        ensures { IsSound self.now }
+    {
+        let _ = &self.alloc;
+    }
+
+    /// No commit is kept that no open transaction can meet. Does nothing.
+    #[tactic(auto, using(crate::proofs::BeginLaws::is_settled))]
+    fn is_settled(&self)
+        ensures { settled self.now ≡ self.now }
+    {
+        self.is_sound();
     }
 }

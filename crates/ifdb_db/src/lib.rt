@@ -1,13 +1,14 @@
-//! The running server: sessions with labels, the public state, and rows that each label sees its own part of.
+//! The running server: sessions with labels and transactions, the public state, and rows that each label sees its own part of.
 #![tactic(auto)]
 
+mod begins;
 mod db;
+mod looks;
 mod reading;
 mod room;
 mod session;
-mod views;
+mod told;
+mod txn;
 
-pub use db::Db;
 pub use room::Room;
-pub use session::Session;
 pub use std::alloc::AllocError as OutOfMemory;

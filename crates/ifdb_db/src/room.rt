@@ -1,13 +1,14 @@
 // The sessions over what all see.
-ghost use Rattle.std.specs.Prelude.{◌≡◌, ◌↔◌, ◌++◌, ◌∷◌, [], ℕ, true, false, Some, None, IfOk, IfErr, IfSome, IsSome, IsTrue, OnErr, OnOk, length};
+ghost use Rattle.std.specs.Prelude.{◌≡◌, ◌↔◌, ◌++◌, ◌∷◌, [], ℕ, true, false, Some, IfOk, IfErr, IfSome, IsSome, IsTrue, OnErr, OnOk, length};
+ghost use Rattle.std.specs.Option.{is_some};
 ghost use Rattle.ifdb_wire.specs.declared.reply.Reply.TheVariants as reply;
 ghost use Rattle.ifdb_wire.specs.Text.{reply_text, IsUnbounded};
 ghost use Rattle.ifdb_catalog.specs.Public.{tags_of};
-ghost use Rattle.ifdb_model.specs.Session.{closed, in_txn, new_session};
 ghost use Rattle.ifdb_model.specs.Run.{State, asks, leaves, next, opening, opens, outcome_of};
-ghost use Rattle.ifdb_db.specs.Answer.{IsRefusal};
+ghost use Rattle.ifdb_db.specs.Client.{new_client};
 ghost use Rattle.ifdb_db.specs.Reading.{read_line};
-ghost use Rattle.ifdb_db.specs.Room.{StandsFor, are_kept, outcome_in, session_in, was_opened, with_outcome_in, with_session_in};
+ghost use Rattle.ifdb_db.specs.Room.{StandsFor, IsSoundRoom, client_in, was_opened};
+ghost use Rattle.ifdb_db.specs.RoomSteps.{IsAskedIn, IsLeftBy};
 
 use crate::OutOfMemory;
 use crate::db::Db;
@@ -28,9 +29,7 @@ pub struct Room {
 }
 
 impl Model for Room {
-    ghost use Rattle.std.specs.Prelude.{IsTrue};
-    ghost use Rattle.std.specs.List.{list_all};
-    ghost use Rattle.ifdb_db.specs.Kept.{is_kept};
+    ghost use Rattle.ifdb_db.specs.Kept.{AreKept};
     ghost use Rattle.ifdb_db.specs.Room.{Hall};
 
     ghost Value = { Hall };
@@ -41,9 +40,9 @@ impl Model for Room {
 
     ghost coded = { Prim.hlevel (codes, cond.the_row.coded, expr.the_row.coded) };
 
-    ghost view = { λ r. record { seen = r.db; sessions = r.sessions.items } };
+    ghost view = { λ r. record { desk = r.db; clients = r.sessions.items } };
 
-    ghost invariant = { λ r. IsTrue (list_all (is_kept r.db.public) r.sessions.items) };
+    ghost invariant = { λ r. AreKept r.db.seen.public r.sessions.items };
 }
 
 impl Room {
@@ -90,11 +89,12 @@ impl Room {
         }
     }
 
-    /// Drops a session without BYE. Takes no memory.
+    /// Drops a session without BYE; its transaction, if one is open, is over. Takes no memory.
     #[tactic(auto, using(crate::proofs::RoomLaws::one_leaves, crate::proofs::RoomLaws::none_leaves))]
     pub fn leave(&mut self, n: u64)
         ensures { (st : State) → StandsFor self.old st → StandsFor self.new (next read_line st (leaves n)) }
     {
+        self.is_sound();
         if self.is_open(n) {
             self.close(n);
         }
@@ -102,14 +102,14 @@ impl Room {
 
     /// How many sessions were opened.
     pub fn sessions(&self) -> u64
-        ensures { result ≡ length self.now.sessions }
+        ensures { result ≡ length self.now.clients }
     {
         self.sessions.len() as u64
     }
 
     /// Whether a session is open.
     pub fn is_open(&self, n: u64) -> bool
-        ensures { result ≡ (session_in self.now n).is_open }
+        ensures { result ≡ (client_in self.now n).is_open }
     {
         if !self.was_opened(n) {
             return false;
@@ -117,20 +117,20 @@ impl Room {
         self.sessions[(n - 1) as usize].is_open()
     }
 
-    /// Whether a session has a transaction. None has: BEGIN isn't built yet.
-    #[tactic(auto, using(crate::proofs::RoomLaws::outside_txn))]
+    /// Whether a session has a transaction.
     pub fn in_transaction(&self, n: u64) -> bool
-        ensures { result ≡ in_txn (session_in self.now n).txn }
+        ensures { result ≡ is_some (client_in self.now n).txn }
     {
-        let _ = n;
-        self.keeps_sessions();
-        false
+        if !self.was_opened(n) {
+            return false;
+        }
+        self.sessions[(n - 1) as usize].in_transaction()
     }
 
     /// The label of a session, which it keeps once it is closed; `None` exactly where it was never opened.
     pub fn label(&self, n: u64) -> Option<&Label>
         ensures opened { IsSome result ↔ IsTrue (was_opened self.now n) }
-        ensures label { IfSome result (λ label. label.now ≡ (session_in self.now n).label) }
+        ensures label { IfSome result (λ label. label.now ≡ (client_in self.now n).label) }
     {
         if !self.was_opened(n) {
             return None;
@@ -140,7 +140,7 @@ impl Room {
 
     /// All tags.
     pub fn tags(&self) -> &Tags
-        ensures { result.now ≡ tags_of self.now.seen.public }
+        ensures { result.now ≡ tags_of self.now.desk.seen.public }
     {
         self.db.tags()
     }
@@ -153,9 +153,9 @@ impl Room {
     }
 
     /// The next session.
-    #[tactic(auto, using(crate::proofs::Keeping::all_push))]
+    #[tactic(auto, using(crate::proofs::Keeping::all_add))]
     fn add_session(&mut self) -> Result<(), OutOfMemory>
-        ensures ok { OnOk result (self.new ≡ record self.old { sessions = self.old.sessions ++ new_session ∷ [] }) }
+        ensures ok { OnOk result (self.new ≡ record self.old { clients = self.old.clients ++ new_client ∷ [] }) }
         ensures err { OnErr result (self.new ≡ self.old) }
     {
         let session = Session::new(self.alloc);
@@ -164,12 +164,11 @@ impl Room {
     }
 
     /// Closes an open session.
-    #[tactic(auto, using(crate::proofs::RoomLaws::at_open, crate::proofs::Keeping::set_closed))]
     fn close(&mut self, n: u64)
-        requires { IsTrue (session_in self.old n).is_open }
-        ensures { self.new ≡ with_session_in self.old n (closed (session_in self.old n)) }
+        requires { IsTrue (client_in self.old n).is_open }
+        ensures { IsLeftBy n self.old self.new }
     {
-        self.sessions[(n - 1) as usize].close();
+        self.db.leave(&mut self.sessions[(n - 1) as usize]);
     }
 
     /// The reply to a line of a session. An `Err` changes nothing.
@@ -179,7 +178,7 @@ impl Room {
         ensures still { IfOk result (λ r. IsUnbounded r → self.new ≡ self.old) }
         ensures err { OnErr result (self.new ≡ self.old) }
     {
-        self.keeps_sessions();
+        self.is_sound();
         match self.answer(n, line) {
             Ok(reply) => Ok(reply),
             Err(fault) => {
@@ -189,21 +188,16 @@ impl Room {
         }
     }
 
-    /// Each session's label is of made tags, and none has a transaction. Does nothing.
-    fn keeps_sessions(&self)
-        ensures { IsTrue (are_kept self.now) }
+    /// What is true of every room. Does nothing.
+    fn is_sound(&self)
+        ensures { IsSoundRoom self.now }
     {
-        let _ = &self.alloc;
+        self.db.is_sound();
     }
 
     /// What a line of a session comes to. An error changes nothing, and want of memory is one.
     fn answer(&mut self, n: u64, line: &[u8]) -> Result<Reply, Fault>
-        ensures asked { OnOk result (self.new ≡ with_outcome_in self.old n (outcome_in self.old n line.now)) }
-        ensures open { OnOk result (IsTrue (session_in self.old n).is_open) }
-        ensures told { IfOk result (λ reply. reply ≡ (outcome_in self.old n line.now).reply) }
-        ensures still { IfOk result (λ reply. IsUnbounded reply → self.new ≡ self.old) }
-        ensures refused { IfErr result (IsRefusal (outcome_in self.old n line.now) (session_in self.old n)) }
-        ensures err { OnErr result (self.new ≡ self.old) }
+        ensures { IsAskedIn n line.now self.old self.new result }
     {
         if !self.is_open(n) {
             return Err(Fault::NoSession);
@@ -212,14 +206,9 @@ impl Room {
     }
 
     /// What a line of an open session comes to.
-    #[tactic(auto, using(crate::proofs::RoomLaws::at_open, crate::proofs::Keeping::set_answered))]
     fn answer_open(&mut self, n: u64, line: &[u8]) -> Result<Reply, Fault>
-        requires { IsTrue (session_in self.old n).is_open }
-        ensures asked { OnOk result (self.new ≡ with_outcome_in self.old n (outcome_in self.old n line.now)) }
-        ensures told { IfOk result (λ reply. reply ≡ (outcome_in self.old n line.now).reply) }
-        ensures still { IfOk result (λ reply. IsUnbounded reply → self.new ≡ self.old) }
-        ensures refused { IfErr result (IsRefusal (outcome_in self.old n line.now) (session_in self.old n)) }
-        ensures err { OnErr result (self.new ≡ self.old) }
+        requires { IsTrue (client_in self.old n).is_open }
+        ensures { IsAskedIn n line.now self.old self.new result }
     {
         let reply = self.db.ask(&mut self.sessions[(n - 1) as usize], line)?;
         Ok(reply)

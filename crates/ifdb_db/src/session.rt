@@ -1,40 +1,49 @@
 // Sessions.
-ghost use Rattle.std.specs.Prelude.{◌≡◌, Some};
-ghost use Rattle.ifdb_model.specs.Session.{closed, new_session};
+ghost use Rattle.std.specs.Prelude.{◌≡◌};
+ghost use Rattle.std.specs.Option.{is_some};
+ghost use Rattle.ifdb_db.specs.Client.{new_client};
 
+use crate::txn::Txn;
 use ifdb_label::Label;
 use ifdb_value::Principal;
 use std::alloc::Global;
 use std::marker::Model;
 
-/// A session: whether it is open, the principal that it said HELLO for, and its label, which it keeps once it is closed.
+/// A session: whether it is open, the principal that it said HELLO for, its label, which it keeps once it is closed, and its transaction.
 ///
-/// Contracts see the session of the machine, without a transaction.
+/// Contracts see a client: the machine's session, and what its transaction began with.
 #[derive(Drop)]
 pub struct Session {
-    is_open: bool,
-    principal: Option<Principal>,
-    label: Label,
+    pub(crate) is_open: bool,
+    pub(crate) principal: Option<Principal>,
+    pub(crate) label: Label,
+    pub(crate) txn: Option<Txn>,
 }
 
 impl Model for Session {
-    ghost use Rattle.std.specs.Prelude.{None};
-    ghost use Rattle.ifdb_model.specs.Session.{Session as Known};
+    ghost use Rattle.ifdb_db.specs.Client.{Client};
 
-    ghost Value = { Known };
+    ghost Value = { Client };
 
-    ghost view = { λ s. record { is_open = s.is_open; principal = s.principal; label = s.label; txn = None } };
+    ghost use Rattle.std.specs.Coded.{codes};
+    ghost use Rattle.ifdb_bound.specs.contracts.condition.BoundCond as cond;
+    ghost use Rattle.ifdb_bound.specs.contracts.expression.BoundExpr as expr;
+
+    ghost coded = { Prim.hlevel (codes, cond.the_row.coded, expr.the_row.coded) };
+
+    ghost view = { λ s. record { is_open = s.is_open; principal = s.principal; label = s.label; txn = s.txn } };
 }
 
 impl Session {
     /// An open session without a principal, at the empty label. Takes no memory.
     pub fn new(alloc: Global) -> Self
-        ensures { result ≡ new_session }
+        ensures { result ≡ new_client }
     {
         Session {
             is_open: true,
             principal: None,
             label: Label::empty(alloc),
+            txn: None,
         }
     }
 
@@ -45,13 +54,6 @@ impl Session {
         self.is_open
     }
 
-    /// The principal that the session said HELLO for.
-    pub fn principal(&self) -> Option<Principal>
-        ensures { result ≡ self.now.principal }
-    {
-        self.principal
-    }
-
     /// The session's label.
     pub fn label(&self) -> &Label
         ensures { result.now ≡ self.now.label }
@@ -59,24 +61,10 @@ impl Session {
         &self.label
     }
 
-    /// The session is the principal's from here on.
-    pub(crate) fn greet(&mut self, principal: Principal)
-        ensures { self.new ≡ record self.old { principal = Some principal } }
+    /// Whether a transaction is open.
+    pub fn in_transaction(&self) -> bool
+        ensures { result ≡ is_some self.now.txn }
     {
-        self.principal = Some(principal);
-    }
-
-    /// The session has another label.
-    pub(crate) fn relabel(&mut self, label: Label)
-        ensures { self.new ≡ record self.old { label = label } }
-    {
-        self.label = label;
-    }
-
-    /// The session is over.
-    pub(crate) fn close(&mut self)
-        ensures { self.new ≡ closed self.old }
-    {
-        self.is_open = false;
+        self.txn.is_some()
     }
 }

@@ -6,6 +6,7 @@ pub mod Logs
 pub mod Alike
 pub mod rows
 pub mod Refusals
+mod Memory
 pub mod Frozen
 pub mod Clinic
 pub mod PairExamples

@@ -1,5 +1,5 @@
 -- What the laws of single lines say, for every reading of lines.
-use Rattle.std.specs.Prelude.{◌≡◌, ℕ, ◌<◌, Bool, true, false, ◌&&◌, not, List, take, Option, Some, None, Result, Ok, Err}
+use Rattle.std.specs.Prelude.{◌≡◌, ℕ, ◌<◌, Bool, true, false, ◌&&◌, not, List, [], take, Option, Some, None, Result, Ok, Err}
 use Rattle.std.specs.Option.{is_some}
 use Rattle.ifdb_syntax.specs.declared.request.Request.{Request}
 use Rattle.ifdb_wire.specs.declared.fault.Fault.{Fault}
@@ -11,6 +11,8 @@ use Rattle.ifdb_model.specs.Log.{Entry, all_tags, content_of, commits_since}
 use Rattle.ifdb_model.specs.Session.{Txn, Session}
 use Rattle.ifdb_model.specs.Step.{Reader, Form, ends, form_of, refuses, judged, ask}
 use Rattle.ifdb_model.specs.Run.{State, session_of, asks, outcome_of, next}
+use Rattle.ifdb_model.specs.Output.{is_memory, reads_memory, told_of}
+use Rattle.ifdb_laws.specs.Scripts.{none_reads_memory}
 
 -- the form is COMMIT
 abbrev pub is_ending : Form → Bool
@@ -65,3 +67,18 @@ CommitsAreJudged = (log : List Entry) (s : Session) (x : Txn)
 -- the stamp of a slot that was written since a BEGIN is above the BEGIN
 abbrev pub StampsAreAbove : Type 0
 StampsAreAbove = (log : List Entry) (begin stamp : ℕ) (p : Slot) → last_stamp (commits_since begin log) p ≡ Some stamp → begin < stamp
+
+-- it is want of memory
+abbrev pub lacks_memory : {X : Type 0} → Result X Fault → Bool
+lacks_memory (Err f) = is_memory f
+lacks_memory (Ok x) = false
+
+-- where no line is read as want of memory, no line is told it: error 20 comes of refused memory alone
+abbrev pub MemoryIsNeverTold : Type 0
+MemoryIsNeverTold = (read : Reader) → ((line : List ℕ) → lacks_memory (read line) ≡ false)
+    → (log : List Entry) (s : Session) (line : List ℕ) → reads_memory (ask read log s line).reply ≡ false
+
+-- then no script whose steps all have their memory is told it
+abbrev pub ScriptsAreSpared : Type 0
+ScriptsAreSpared = (read : Reader) → ((line : List ℕ) → lacks_memory (read line) ≡ false)
+    → (input : List ℕ) → none_reads_memory (told_of read input []) ≡ true

@@ -12,7 +12,9 @@ mod worked;
 pub mod worlds;
 
 pub use byte_laws::replies_read_back;
-pub use line_laws::{commits_are_judged, refusals_change_nothing, transactions_are_frozen};
+pub use line_laws::{
+    commits_are_judged, memory_is_never_told, refusals_change_nothing, transactions_are_frozen,
+};
 pub use row_laws::{keys_apart, parents_live, rows_fit};
 pub use worked::{
     clinic_rows, commit_rows, crossing_rows, label_rows, query_rows, reference_rows, view_rows,

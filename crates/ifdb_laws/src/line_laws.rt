@@ -1,5 +1,5 @@
 // Laws of single lines of the whole server: each function's contract is one, and it does nothing.
-ghost use Rattle.ifdb_laws.specs.StepLaws.{CommitsAreJudged, StampsAreAbove, TransactionsAreFrozen, RefusalsChangeNothing, RefusedCommitsEnd, RefusedStepsChangeNothing, UnjudgedCommitsChangeNothing};
+ghost use Rattle.ifdb_laws.specs.StepLaws.{CommitsAreJudged, StampsAreAbove, TransactionsAreFrozen, MemoryIsNeverTold, ScriptsAreSpared, RefusalsChangeNothing, RefusedCommitsEnd, RefusedStepsChangeNothing, UnjudgedCommitsChangeNothing};
 
 /// In a transaction each line but COMMIT is answered by what was before its BEGIN, its own writes and its session alone.
 pub fn transactions_are_frozen()
@@ -19,4 +19,10 @@ pub fn refusals_change_nothing()
 pub fn commits_are_judged()
     ensures verdict { CommitsAreJudged }
     ensures stamps { StampsAreAbove }
+{}
+
+/// The machine never tells want of memory by itself, whatever it is asked: error 20 comes of memory that was refused, and of nothing else.
+pub fn memory_is_never_told()
+    ensures lines { MemoryIsNeverTold }
+    ensures scripts { ScriptsAreSpared }
 {}

@@ -57,3 +57,7 @@ CutsDontMatter = (limit limit' : ℕ) (l0 l1 w0 w1 l0' l1' w0' w1' : Option (Lis
 abbrev pub KeepsLevels : ℕ → Option (List ℕ) → Option (List ℕ) → Option (List ℕ) → Option (List ℕ) → Type 0
 KeepsLevels limit left_old left_new written_old written_new =
     (ran : RanWhole limit left_old left_new written_old written_new) × (none_reads_memory ran.told ≡ true → IsHeardAlike read_line ran.input ran.told)
+
+-- Error 20 comes of refused memory alone: a script whose steps all have their memory is told no want of it.
+abbrev pub MemoryIsRefusedAlone : Type 0
+MemoryIsRefusedAlone = (input : List ℕ) → none_reads_memory (told_of read_line input []) ≡ true

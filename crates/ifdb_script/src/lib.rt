@@ -1,8 +1,10 @@
 //! Scripts: the lines of an input, the step of each, and the bytes that are written for it.
 #![tactic(auto)]
 
+mod laws;
 mod script;
 
+pub use laws::memory_is_refused_alone;
 pub use script::{ScriptEnd, run_script};
 
 #[cfg(test)]

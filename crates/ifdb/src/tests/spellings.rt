@@ -96,7 +96,7 @@ fn what_is_no_request_is_refused_at_its_place(rt: HostRuntime) -> Result<(), Fai
         (b"1 SHOW LABEL ;;".as_slice(), "1 ERR 1 Syntax 12\n"),
         (b"1 SHOW LABEL \xff".as_slice(), "1 ERR 1 Syntax 11\n"),
         (b"1 HELLO admin KEY 'x".as_slice(), "1 ERR 1 Syntax 16\n"),
-        (b"1 BEGIN".as_slice(), "1 ERR 1 Syntax 0\n"),
+        (b"1 BEGINS".as_slice(), "1 ERR 1 Syntax 0\n"),
         (
             b"1 DELETE FROM note WHERE id = 9223372036854775809".as_slice(),
             "1 ERR 22 Limit\n",
@@ -113,9 +113,14 @@ fn what_is_no_request_is_refused_at_its_place(rt: HostRuntime) -> Result<(), Fai
 
 #[test]
 fn forms_come_before_sessions_without_a_principal(rt: HostRuntime) -> Result<(), Fail> {
-    let ran = run(&rt, b"OPEN\n1 BEGIN\n1 SHOW LABEL\n1 BYE\n1 BYE\n", 64)?;
+    let ran = run(
+        &rt,
+        b"OPEN\n1 BEGINS\n1 BEGIN\n1 SHOW LABEL\n1 BYE\n1 BYE\n",
+        64,
+    )?;
     assert_eq!(rt; ran.status, Status::Done);
-    let replies = b"1 OPEN\n1 ERR 1 Syntax 0\n1 ERR 2 NotHello\n1 OK\n1 ERR 28 NoSession\n";
+    let replies =
+        b"1 OPEN\n1 ERR 1 Syntax 0\n1 ERR 2 NotHello\n1 ERR 2 NotHello\n1 OK\n1 ERR 28 NoSession\n";
     assert_eq!(rt; ran.written.as_slice(), replies.as_slice());
     Ok(())
 }

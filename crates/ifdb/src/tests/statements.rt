@@ -2,13 +2,14 @@
 use super::*;
 
 /// Beginning of a script: an administrator with two tags and a table of notes, and a guest.
-const BEGINNING: &[u8] = b"OPEN\n1 HELLO admin KEY 'admin'\n1 CREATE TAG a\n1 CREATE TAG b\n\
+pub(super) const BEGINNING: &[u8] =
+    b"OPEN\n1 HELLO admin KEY 'admin'\n1 CREATE TAG a\n1 CREATE TAG b\n\
     1 CREATE TABLE note (id INT, body TEXT, PRIMARY KEY (id))\n1 CREATE PRINCIPAL guest KEY 'g'\nOPEN\n2 HELLO guest KEY 'g'\n";
 
-const BEGUN: &[u8] = b"1 OPEN\n1 OK\n1 OK\n1 OK\n1 OK\n1 OK\n2 OPEN\n2 OK\n";
+pub(super) const BEGUN: &[u8] = b"1 OPEN\n1 OK\n1 OK\n1 OK\n1 OK\n1 OK\n2 OPEN\n2 OK\n";
 
 /// The table of visits, each of which is bound to a note.
-const VISITS: &[u8] =
+pub(super) const VISITS: &[u8] =
     b"1 CREATE TABLE visit (v INT, note_id INT, PRIMARY KEY (v), FOREIGN KEY (note_id) REFERENCES note)\n";
 
 /// A hidden row.
@@ -76,7 +77,11 @@ const ENDS: (&[u8], &[u8]) = (
 );
 
 /// What is written for a script, behind another.
-fn written(rt: &HostRuntime, begin: &[u8], (script, _): (&[u8], &[u8])) -> Result<Vec<u8>, Fail> {
+pub(super) fn written(
+    rt: &HostRuntime,
+    begin: &[u8],
+    (script, _): (&[u8], &[u8]),
+) -> Result<Vec<u8>, Fail> {
     let script = both(rt.alloc(), begin, script)?;
     let Ran { status: _, written } = run(rt, &script, 65_536)?;
     Ok(written)

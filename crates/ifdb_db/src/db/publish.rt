@@ -1,93 +1,109 @@
 // CREATE, GRANT and REVOKE.
-ghost use Rattle.std.specs.Prelude.{◌≡◌, ◌⊎◌, Some, None, IfOk, IfErr, IsTrue, OnErr, OnOk};
+ghost use Rattle.std.specs.Prelude.{◌≡◌, ◌⊎◌, Some, None, IfErr, IsTrue, OnErr, OnOk};
 ghost use Rattle.ifdb_wire.specs.declared.fault.Fault.TheVariants.{OutOfMemory as NoMemory};
-ghost use Rattle.ifdb_wire.specs.declared.reply.Reply.TheVariants.{Done};
 ghost use Rattle.ifdb_catalog.specs.Public.{refusal};
 ghost use Rattle.ifdb_catalog.specs.Fits.{bound_fits, change_fits, is_new};
-ghost use Rattle.ifdb_catalog.specs.Binding.{bound};
 ghost use Rattle.ifdb_model.specs.Log.{changes};
-ghost use Rattle.ifdb_model.specs.Step.{publish};
-ghost use Rattle.ifdb_db.specs.Kept.{is_kept};
-ghost use Rattle.ifdb_db.specs.Publishing.{entry_of, is_new_bound, new_tag, refusal_of};
-ghost use Rattle.ifdb_db.specs.Reading.{is_narrow, is_narrow_bound, is_narrow_change};
-ghost use Rattle.ifdb_db.specs.Answer.{with_entry, IsDone, IsRefusal};
+ghost use Rattle.ifdb_model.specs.Step.{form_of, publishes};
+ghost use Rattle.ifdb_snapshot.specs.Narrow.{is_narrow, is_narrow_bound, is_narrow_change};
+ghost use Rattle.ifdb_db.specs.Answer.{answered_by, IsAnswered, IsStill};
+ghost use Rattle.ifdb_db.specs.Desk.{settled, with_entry};
+ghost use Rattle.ifdb_db.specs.Kept.{IsKept};
+ghost use Rattle.ifdb_db.specs.Outside.{IsPublished};
+ghost use Rattle.ifdb_db.specs.Publishing.{entry_of, is_new_bound, refusal_of};
 
 use super::Db;
-use crate::OutOfMemory;
+use crate::begins::{oldest_of, settle};
 use crate::session::Session;
-use ifdb_bind::bind;
 use ifdb_bound::{Bound, Change};
 use ifdb_catalog::bound_changes_are_new;
+use ifdb_label::Label;
 use ifdb_syntax::Request;
-use ifdb_value::{Name, Principal};
-use ifdb_wire::Fault;
-use std::alloc::Global;
+use ifdb_value::Principal;
+use ifdb_wire::{Fault, Reply};
 
 impl Db {
-    /// Makes a change of the public state, at the empty label alone.
-    #[tactic(auto, using(ifdb_catalog::proofs::BoundRequestsFit::bound_is_fitting, crate::proofs::Narrow::bound_narrow, crate::proofs::Answering::bound_is_new, crate::proofs::Answering::published, crate::proofs::Answering::publish_labelled, crate::proofs::Answering::publish_unbound, crate::proofs::Answering::publish_refused))]
+    /// CREATE, GRANT and REVOKE outside a transaction.
+    #[tactic(auto, using(crate::proofs::Answering::published_answers, crate::proofs::Answering::published_keeps, crate::proofs::Answering::published_is_still, crate::proofs::Keeping::made_now))]
     pub(super) fn publish(
         &mut self,
+        session: &mut Session,
         asker: Principal,
-        session: &Session,
         request: Request,
-    ) -> Result<(), Fault>
+    ) -> Result<Reply, Fault>
+        requires form { form_of request ≡ publishes }
         requires narrow { IsTrue (is_narrow request) }
-        requires kept { IsTrue (is_kept self.old.public session.now) }
-        ensures done { OnOk result (IsDone (publish self.old.public session.now (bound self.old.public asker request)) session.now self.old self.new Done) }
-        ensures refused { IfErr result (IsRefusal (publish self.old.public session.now (bound self.old.public asker request)) session.now) }
-        ensures err { OnErr result (self.new ≡ self.old) }
+        requires open { IsTrue session.old.is_open }
+        requires asker { session.old.principal ≡ Some asker }
+        requires outside { session.old.txn ≡ None }
+        requires kept { IsKept self.old.seen.public session.old }
+        ensures answered { IsAnswered (answered_by self.old session.old (Some asker) request)
+            session.old session.new self.old self.new result }
+        ensures kept { IsKept self.new.seen.public session.new }
+        ensures still { IsStill session.old session.new self.old self.new result }
     {
-        if !session.label().tags().is_empty() {
+        self.publish_at(asker, &session.label, request)
+    }
+
+    /// Makes a change of the public state, at the empty label alone.
+    #[tactic(auto, using(crate::proofs::Publishing::bound_is_new, crate::proofs::Publishing::published, crate::proofs::Publishing::labelled, crate::proofs::Publishing::unbound, crate::proofs::Publishing::refused))]
+    fn publish_at(
+        &mut self,
+        asker: Principal,
+        label: &Label,
+        request: Request,
+    ) -> Result<Reply, Fault>
+        requires form { form_of request ≡ publishes }
+        requires narrow { IsTrue (is_narrow request) }
+        ensures { IsPublished asker label.now request self.old self.new result }
+    {
+        if !label.tags().is_empty() {
             return Err(Fault::LabelNotEmpty);
         }
-        let found = bind(self.alloc, &self.catalog, asker, request)?;
+        let found = self.seen().bind(asker, request)?;
         bound_changes_are_new();
-        self.make(found)
+        self.make(found)?;
+        Ok(Reply::Done)
     }
 
     /// Makes what is bound, if it is a change.
     fn make(&mut self, found: Bound) -> Result<(), Fault>
-        requires fits { IsTrue (bound_fits self.old.public found) }
-        requires new { IsTrue (is_new_bound self.old.public found) }
+        requires fits { IsTrue (bound_fits self.old.seen.public found) }
+        requires new { IsTrue (is_new_bound self.old.seen.public found) }
         requires narrow { IsTrue (is_narrow_bound found) }
-        ensures done { OnOk result (self.new ≡ with_entry self.old (entry_of found)) }
-        ensures accepted { OnOk result (refusal_of self.old.public found ≡ None) }
-        ensures refused { IfErr result (λ fault. (fault ≡ NoMemory) ⊎ (refusal_of self.old.public found ≡ Some fault)) }
+        ensures done { OnOk result (self.new ≡ settled (with_entry self.old (entry_of found))) }
+        ensures accepted { OnOk result (refusal_of self.old.seen.public found ≡ None) }
+        ensures refused { IfErr result (λ fault. (fault ≡ NoMemory)
+            ⊎ (refusal_of self.old.seen.public found ≡ Some fault)) }
         ensures err { OnErr result (self.new ≡ self.old) }
     {
         match found {
             Bound::Change(change) => self.apply(change),
-            _ => Ok(()),
+            _ => {
+                self.is_settled();
+                Ok(())
+            }
         }
     }
 
-    /// Makes a change that is bound. The name of a tag is kept beside it.
+    /// Makes a change that is bound.
     fn apply(&mut self, change: Change) -> Result<(), Fault>
-        requires fits { IsTrue (change_fits self.old.public change) }
-        requires new { IsTrue (is_new self.old.public change) }
+        requires fits { IsTrue (change_fits self.old.seen.public change) }
+        requires new { IsTrue (is_new self.old.seen.public change) }
         requires narrow { IsTrue (is_narrow_change change) }
-        ensures done { OnOk result (self.new ≡ with_entry self.old (Some (changes change))) }
-        ensures accepted { OnOk result (refusal self.old.public change ≡ None) }
-        ensures refused { IfErr result (λ fault. (fault ≡ NoMemory) ⊎ (refusal self.old.public change ≡ Some fault)) }
+        ensures done { OnOk result (self.new ≡ settled (with_entry self.old (Some (changes change)))) }
+        ensures accepted { OnOk result (refusal self.old.seen.public change ≡ None) }
+        ensures refused { IfErr result (λ fault. (fault ≡ NoMemory)
+            ⊎ (refusal self.old.seen.public change ≡ Some fault)) }
         ensures err { OnErr result (self.new ≡ self.old) }
     {
-        let name = new_tag(self.alloc, &change)?;
-        self.names.reserve(1)?;
-        self.catalog.apply(change)?;
-        if let Some(name) = name {
-            self.names.push_reserved(name);
+        if self.count == u64::MAX {
+            return Err(Fault::OutOfMemory);
         }
+        self.public.apply(change)?;
+        let before = oldest_of(&self.begins, self.count);
+        self.count += 1;
+        settle(&mut self.store, before, oldest_of(&self.begins, self.count));
         Ok(())
-    }
-}
-
-/// A copy of the name of the tag that a change makes, if it makes one.
-fn new_tag(alloc: Global, change: &Change) -> Result<Option<Name>, OutOfMemory>
-    ensures { IfOk result (λ name. name ≡ new_tag change.now) }
-{
-    match change {
-        Change::Tag { name, .. } => Ok(Some(name.copy(alloc)?)),
-        _ => Ok(None),
     }
 }

@@ -1,122 +1,115 @@
-// INSERT, UPDATE and DELETE.
-ghost use Rattle.std.specs.Prelude.{◌≡◌, IfOk, IfErr, IsTrue, OnErr, Ok, OnOk, false};
-ghost use Rattle.ifdb_wire.specs.declared.reply.Reply.TheVariants.{Count};
-ghost use Rattle.ifdb_row.specs.Content.{after};
-ghost use Rattle.ifdb_row.specs.Verdict.{leaves};
-ghost use Rattle.ifdb_catalog.specs.Binding.{bound};
-ghost use Rattle.ifdb_catalog.specs.Fits.{bound_fits};
-ghost use Rattle.ifdb_model.specs.Step.{write_bound};
-ghost use Rattle.ifdb_model.specs.Writes.{is_delete, writes_of};
-ghost use Rattle.ifdb_txn.specs.Answers.{Gives};
-ghost use Rattle.ifdb_db.specs.Answer.{IsDone, IsRefusal};
-ghost use Rattle.ifdb_db.specs.Kept.{is_kept};
-ghost use Rattle.ifdb_db.specs.Writing.{are_fit, IsOrphaning, orphans};
+// INSERT, UPDATE and DELETE outside a transaction, each a commit of its own.
+ghost use Rattle.std.specs.Prelude.{◌≡◌, IfOk, IsTrue, None, OnErr, OnOk, Some, length};
+ghost use Rattle.ifdb_label.specs.Tags.{AreMade};
+ghost use Rattle.ifdb_model.specs.Log.{commits};
+ghost use Rattle.ifdb_model.specs.Step.{form_of, writes};
+ghost use Rattle.ifdb_snapshot.specs.Narrow.{is_narrow};
+ghost use Rattle.ifdb_snapshot.specs.Writing.{are_fit};
+ghost use Rattle.ifdb_db.specs.Answer.{answered_by, IsAnswered, IsStill};
+ghost use Rattle.ifdb_db.specs.Desk.{settled, with_entry};
+ghost use Rattle.ifdb_db.specs.Kept.{IsKept};
+ghost use Rattle.ifdb_db.specs.Outside.{IsPublished, unless_orphaned, Writes as FindsWrites};
+ghost use Rattle.ifdb_model.specs.Writes.{is_delete};
 
 use super::Db;
+use crate::OutOfMemory;
+use crate::begins::{oldest_of, settle};
 use crate::session::Session;
-use ifdb_bind::bind;
 use ifdb_bound::Bound;
-use ifdb_foreign::first_left;
+use ifdb_label::Label;
 use ifdb_row::Writes;
+use ifdb_snapshot::Snapshot;
 use ifdb_syntax::Request;
-use ifdb_txn::{Writer, Written, writes_of};
+use ifdb_txn::Written;
 use ifdb_value::Principal;
-use ifdb_wire::Fault;
+use ifdb_wire::{Fault, Reply};
 
 impl Db {
-    /// Makes what an INSERT, UPDATE or DELETE writes at the session's label, and says how many rows that counts.
-    #[tactic(auto, using(ifdb_catalog::proofs::BoundRequestsFit::bound_is_fitting, crate::proofs::Writing::bound_done, crate::proofs::Writing::bound_refused, crate::proofs::Writing::write_unbound))]
-    pub(super) fn write(
+    /// INSERT, UPDATE and DELETE outside a transaction.
+    #[tactic(auto, using(crate::proofs::Answering::published_answers, crate::proofs::Answering::published_keeps, crate::proofs::Answering::published_is_still, crate::proofs::Keeping::made_now))]
+    pub(super) fn change_rows(
         &mut self,
+        session: &mut Session,
         asker: Principal,
-        session: &Session,
         request: Request,
-    ) -> Result<u64, Fault>
-        requires kept { IsTrue (is_kept self.old.public session.now) }
-        ensures done { IfOk result (λ n. IsDone
-            (write_bound self.old.public self.old.rows asker session.now (bound self.old.public asker request))
-            session.now self.old self.new (Count n)) }
-        ensures refused { IfErr result (IsRefusal
-            (write_bound self.old.public self.old.rows asker session.now (bound self.old.public asker request))
-            session.now) }
-        ensures err { OnErr result (self.new ≡ self.old) }
+    ) -> Result<Reply, Fault>
+        requires form { form_of request ≡ writes }
+        requires narrow { IsTrue (is_narrow request) }
+        requires open { IsTrue session.old.is_open }
+        requires asker { session.old.principal ≡ Some asker }
+        requires outside { session.old.txn ≡ None }
+        requires kept { IsKept self.old.seen.public session.old }
+        ensures answered { IsAnswered (answered_by self.old session.old (Some asker) request)
+            session.old session.new self.old self.new result }
+        ensures kept { IsKept self.new.seen.public session.new }
+        ensures still { IsStill session.old session.new self.old self.new result }
     {
-        let found = bind(self.alloc, &self.catalog, asker, request)?;
-        self.write_found(asker, session, &found)
+        self.change_rows_at(asker, &session.label, request)
     }
 
-    /// Makes what is bound.
-    #[tactic(auto, using(crate::proofs::Writing::written_done, crate::proofs::Writing::written_orphans, crate::proofs::Writing::written_refused))]
-    fn write_found(
+    /// Makes what an INSERT, UPDATE or DELETE writes at a label, and says how many rows that counts. `StillReferenced` where a DELETE leaves
+    /// a row without a parent.
+    #[tactic(auto, using(crate::proofs::Writing::landed, crate::proofs::Writing::not_landed))]
+    fn change_rows_at(
         &mut self,
         asker: Principal,
-        session: &Session,
-        found: &Bound,
-    ) -> Result<u64, Fault>
-        requires fits { IsTrue (bound_fits self.old.public found.now) }
-        requires kept { IsTrue (is_kept self.old.public session.now) }
-        ensures done { IfOk result (λ n. IsDone
-            (write_bound self.old.public self.old.rows asker session.now (Ok found.now))
-            session.now self.old self.new (Count n)) }
-        ensures refused { IfErr result (IsRefusal
-            (write_bound self.old.public self.old.rows asker session.now (Ok found.now))
-            session.now) }
-        ensures err { OnErr result (self.new ≡ self.old) }
+        label: &Label,
+        request: Request,
+    ) -> Result<Reply, Fault>
+        requires form { form_of request ≡ writes }
+        requires narrow { IsTrue (is_narrow request) }
+        requires made { AreMade (length self.old.seen.public.tags) label.now }
+        ensures { IsPublished asker label.now request self.old self.new result }
     {
-        let written = self.written(asker, session, found)?;
+        let written = self.written(asker, label, request)?;
         let count = written.count();
-        self.land(is_delete(found), written.into_writes())?;
-        Ok(count)
+        self.land(written.into_writes())?;
+        Ok(Reply::Count(count))
     }
 
-    /// What a bound request writes at the session's label.
-    #[tactic(auto, using(crate::proofs::Writing::known_made, crate::proofs::Writing::fit_keyed))]
-    fn written(&self, asker: Principal, session: &Session, found: &Bound) -> Result<Written, Fault>
-        requires fits { IsTrue (bound_fits self.now.public found.now) }
-        requires kept { IsTrue (is_kept self.now.public session.now) }
-        ensures written { Gives (writes_of self.now.public asker self.now.rows session.now.label found.now) result }
-        ensures fit { IfOk result (λ written. IsTrue (are_fit self.now.public written.writes)) }
+    /// What an INSERT, UPDATE or DELETE writes, unless it leaves a row without a parent.
+    fn written(&self, asker: Principal, label: &Label, request: Request) -> Result<Written, Fault>
+        requires form { form_of request ≡ writes }
+        requires narrow { IsTrue (is_narrow request) }
+        requires made { AreMade (length self.now.seen.public.tags) label.now }
+        ensures found { FindsWrites asker label.now request self.now result }
+        ensures fit { IfOk result (λ written. IsTrue (are_fit self.now.seen.public written.writes)) }
     {
-        let writer = Writer {
-            alloc: self.alloc,
-            catalog: &self.catalog,
-            asker,
-            label: session.label(),
-        };
-        writes_of(&writer, &self.rows, found)
+        let seen = self.seen();
+        let found = seen.bind(asker, request)?;
+        let written = seen.written(asker, label, &found);
+        unless_orphaned(&seen, &found, written)
     }
 
-    /// Makes writes. `StillReferenced` where they are those of a DELETE and leave a row without a parent.
-    #[tactic(auto, using(crate::proofs::Writing::still_fit, ifdb_row::proofs::ContentLaws::rising_after))]
-    fn land(&mut self, is_delete: bool, writes: Writes) -> Result<(), Fault>
-        requires fit { IsTrue (are_fit self.old.public writes) }
-        ensures ok { OnOk result (self.new ≡ record self.old { rows = after self.old.rows writes }) }
-        ensures kept { OnOk result (orphans is_delete self.old.rows writes ≡ false) }
-        ensures refused { IfErr result (IsOrphaning is_delete self.old.rows writes) }
+    /// Makes writes, which are one commit.
+    fn land(&mut self, writes: Writes) -> Result<(), OutOfMemory>
+        requires fit { IsTrue (are_fit self.old.seen.public writes) }
+        ensures done { OnOk result (self.new ≡ settled (with_entry self.old (Some (commits writes)))) }
         ensures err { OnErr result (self.new ≡ self.old) }
     {
-        if is_delete && self.leaves(&writes) {
-            return Err(Fault::StillReferenced);
+        if self.count == u64::MAX {
+            return Err(OutOfMemory);
         }
-        self.rows = self.rows.after(self.alloc, &writes)?;
+        self.store.reserve(&writes)?;
+        let before = oldest_of(&self.begins, self.count);
+        self.count += 1;
+        self.store.install(self.count, writes);
+        settle(&mut self.store, before, oldest_of(&self.begins, self.count));
         Ok(())
-    }
-
-    /// Whether writes leave a row without a parent.
-    #[tactic(auto, using(crate::proofs::Writing::some_left, crate::proofs::Writing::none_left))]
-    fn leaves(&self, writes: &Writes) -> bool
-        ensures { result ≡ leaves (after self.now.rows writes.now) writes.now }
-    {
-        first_left(&self.rows, writes).is_some()
     }
 }
 
-/// Whether a request is a DELETE.
-fn is_delete(found: &Bound) -> bool
-    ensures { result ≡ is_delete found.now }
+/// What is written. `StillReferenced` where it is a DELETE that leaves a row without a parent.
+fn unless_orphaned(
+    seen: &Snapshot<'_>,
+    found: &Bound,
+    written: Result<Written, Fault>,
+) -> Result<Written, Fault>
+    ensures { result ≡ unless_orphaned (is_delete found.now) seen.now.rows written }
 {
-    match found {
-        Bound::Delete { .. } => true,
-        _ => false,
+    let written = written?;
+    if seen.orphans(found, written.writes()) {
+        return Err(Fault::StillReferenced);
     }
+    Ok(written)
 }

@@ -1,23 +1,16 @@
-use Rattle.std.proofs.Common.{◌≡◌, true, ap, sym, subst, ◌∙◌, List, ℕ, ◌++◌, ◌∷◌, [], rules, Some, None}
-use Rattle.std.specs.Prelude.{option_to_list}
-use Rattle.std.proofs.lemmas.List.{append-nil}
-use Rattle.ifdb_catalog.specs.Fits.{change_fits}
-use Rattle.ifdb_model.specs.Session.{Seen}
-use Rattle.ifdb_db.proofs.Keeping.{sound_after}
+use Rattle.std.proofs.Common.{◌+◌, ap, ◌∙◌}
+use Rattle.ifdb_db.specs.Desk.{Desk, oldest_of}
+use Rattle.ifdb_db.proofs.Landing.{changed_so}
 use Rattle.ifdb_db.proofs.db.Db.apply.Goals as goal
 
-pub invariant_of-self-in-Some : goal.invariant_of-self-in-Some
-invariant_of-self-in-Some c =
-    let fits = subst (λ (x : Seen). change_fits x.public c.args.change ≡ true) (sym c.self.view_is) c.requires.fits in
-    let names : c.reserve.new.self.items ≡ c.self.inside.names.items = search rules in
-    let more : c.push_reserved.new.self.items ≡ c.self.inside.names.items ++ option_to_list (Some c.in-Some.name) = c.push_reserved.ensures.items ∙ ap (λ ns. ns ++ c.in-Some.name ∷ []) names in
-    sound_after c.self.inside.catalog c.apply.new.self c.args.change c.self.inside.rows c.self.inside.names.items c.push_reserved.new.self.items (Some c.in-Some.name)
-    (search rules) (sym c.in-Some.is ∙ c.in_ok-name.ensures) more fits c.requires.narrow c.self.invariant
-
-pub invariant_of-self-in_default : goal.invariant_of-self-in_default
-invariant_of-self-in_default c =
-    let fits = subst (λ (x : Seen). change_fits x.public c.args.change ≡ true) (sym c.self.view_is) c.requires.fits in
-    let names : c.reserve.new.self.items ≡ c.self.inside.names.items = search rules in
-    let more : c.reserve.new.self.items ≡ c.self.inside.names.items ++ option_to_list None = names ∙ sym (append-nil c.self.inside.names.items) in
-    sound_after c.self.inside.catalog c.apply.new.self c.args.change c.self.inside.rows c.self.inside.names.items c.reserve.new.self.items None
-    (search rules) (sym c.in_default.is ∙ c.in_ok-name.ensures) more fits c.requires.narrow c.self.invariant
+pub invariant_of-self-2 : goal.invariant_of-self-2
+invariant_of-self-2 c =
+    let d : Desk = record {
+      seen = record { public = c.self.inside.public; rows = c.self.inside.store.rows };
+      commits = c.self.inside.store.commits;
+      count = c.self.inside.count;
+      begins = c.self.inside.begins.items;
+    } in
+    let oldest = c.oldest_of.ensures ∙ ap (λ begins. oldest_of begins (d.count + 1)) c.deref-2.ensures.value in
+    changed_so d c.self.invariant c.settle.new.store.rows c.settle.new.store.commits c.oldest_of.result c.args.change c.apply.new.self
+    c.in_ok-apply.ensures.done c.settle.ensures.rows oldest c.settle.ensures.commits

@@ -1,15 +1,31 @@
-use Rattle.std.proofs.Common.{arith}
+use Rattle.std.proofs.Common.{◌≡◌, ◌-◌, true, refl, sym, subst, arith}
+use Rattle.std.specs.Prelude.{slice_set}
 use Rattle.std.proofs.lemmas.Grind.{common_steps}
-use Rattle.ifdb_db.proofs.Keeping.{set_answered}
-use Rattle.ifdb_db.proofs.RoomLaws.{at_open, told_there}
+use Rattle.ifdb_db.specs.Answer.{answered}
+use Rattle.ifdb_db.specs.Client.{session_at}
+use Rattle.ifdb_db.specs.Kept.{IsKept}
+use Rattle.ifdb_db.specs.Reading.{read_line}
+use Rattle.ifdb_db.specs.Room.{Hall, client_in}
+use Rattle.ifdb_db.specs.RoomSteps.{IsAsked}
+use Rattle.ifdb_db.proofs.Keeping.{all_kept_moved, all_set}
+use Rattle.ifdb_db.proofs.RoomLaws.{asked_open, at_open}
 use Rattle.ifdb_db.proofs.room.Room.answer_open.Goals as goal
 
 pub invariant_of-self-2 : goal.invariant_of-self-2
 invariant_of-self-2 c =
-    set_answered c.self.inside.db c.ask.new.self _ c.self.inside.sessions.items _ c.ask.new.session c.self.invariant c.in_ok-reply.ensures.answered.seen c.ask.ensures.kept
+    let client = c.index_mut.result.now in
+    let others = all_kept_moved c.self.inside.db c.ask.new.self (session_at client) (answered c.self.inside.db client (read_line c.args.line.now)) c.self.inside.sessions.items
+    c.in_ok-reply.ensures.answered.desk c.self.invariant in
+    all_set (IsKept c.ask.new.self.seen.public) c.self.inside.sessions.items (c.args.n - 1) c.ask.new.session c.ask.ensures.kept others
 
-pub returns-clause-told : goal.returns-clause-told
-returns-clause-told c =
-    let there = at_open c.args.self.now c.args.n c.requires in
-    let told = c.in_ok-reply.ensures.answered.told in
-    told_there c.args.self.now c.args.n c.args.line.now c.index_mut.result.now c.in_ok-reply.reply c.requires (grind (arith, common_steps)) (grind (arith, common_steps))
+pub returns : goal.returns
+returns c =
+    let h : Hall = record { desk = c.self.inside.db; clients = c.self.inside.sessions.items } in
+    let g : Hall = record { desk = c.ask.new.self; clients = slice_set c.self.inside.sessions.items (c.args.n - 1) c.ask.new.session } in
+    let is_open = subst (λ (z : Hall). (client_in z c.args.n).is_open ≡ true) (sym c.self.view_is) c.requires in
+    let there = at_open h c.args.n is_open in
+    let at = there.at in
+    let within = there.there in
+    let is : c.index_mut.result.now ≡ client_in h c.args.n = grind (arith, common_steps) in
+    subst (λ (z : Hall). IsAsked c.args.n c.args.line.now z g c.in_ok-reply.reply) c.self.view_is
+    (asked_open h g c.args.n c.args.line.now c.index_mut.result.now c.ask.new.session c.in_ok-reply.reply is_open is c.in_ok-reply.ensures.answered c.in_ok-reply.ensures.still refl)

@@ -1,0 +1,46 @@
+-- Sessions with their transactions, and what they see.
+use Rattle.std.specs.Prelude.{◌≡◌, ℕ, Bool, true, List, [], Option, Some, None}
+use Rattle.ifdb_row.specs.declared.write.Write.{Write}
+use Rattle.ifdb_row.specs.Content.{after}
+use Rattle.ifdb_model.specs.Session.{Txn, Session, Seen}
+
+-- an open transaction: the length of the log at its BEGIN, its own writes, and what all saw then
+pub record Open : Type 0 where
+  pub begin : ℕ
+  pub own : List Write
+  pub base : Seen
+
+-- a session, with its transaction if one is open
+pub record Client : Type 0 where
+  pub is_open : Bool
+  pub principal : Option ℕ
+  pub label : List ℕ
+  pub txn : Option Open
+
+-- a client that was just opened
+abbrev pub new_client : Client
+new_client = record { is_open = true; principal = None; label = []; txn = None }
+
+-- an open client of a principal
+abbrev pub client_of : ℕ → List ℕ → Option Open → Client
+client_of asker label txn = record { is_open = true; principal = Some asker; label = label; txn = txn }
+
+-- the machine's transaction
+abbrev pub txn_at : Option Open → Option Txn
+txn_at None = None
+txn_at (Some x) = Some (record { begin = x.begin; own = x.own })
+
+-- the machine's session
+abbrev pub session_at : Client → Session
+session_at c = record { is_open = c.is_open; principal = c.principal; label = c.label; txn = txn_at c.txn }
+
+-- what is seen: in a transaction what all saw at its BEGIN, with its own writes; outside it what all see now
+abbrev pub seen_by : Seen → Option Open → Seen
+seen_by now None = now
+seen_by now (Some x) = record { public = x.base.public; rows = after x.base.rows x.own }
+
+-- an open transaction goes on over what it began with; one that begins does so with what all see now
+abbrev pub IsBased : Seen → Option Open → Option Open → Type 0
+IsBased now x None = Unit {0}
+IsBased now None (Some y) = y.base ≡ now
+IsBased now (Some x) (Some y) = y.base ≡ x.base

@@ -1,0 +1,163 @@
+// Requests outside a transaction.
+ghost use Rattle.std.specs.Prelude.{◌≡◌, None, Some, IsTrue};
+ghost use Rattle.ifdb_snapshot.specs.Narrow.{is_narrow};
+ghost use Rattle.ifdb_db.specs.Answer.{answered_by, answered_new, IsAnswered, IsStill};
+ghost use Rattle.ifdb_db.specs.Client.{seen_by, session_at};
+ghost use Rattle.ifdb_db.specs.Kept.{IsKept};
+ghost use Rattle.ifdb_model.specs.Step.{bye, form_of, hello, looks, relabels, show_label};
+
+use super::Db;
+use crate::looks::{select, set_label};
+use crate::session::Session;
+use ifdb_syntax::Request;
+use ifdb_value::{Name, Principal, Word};
+use ifdb_wire::{Fault, Reply};
+
+impl Db {
+    /// Answers a session that didn't say HELLO.
+    #[tactic(auto, using(crate::proofs::Answering::not_hello))]
+    pub(super) fn answer_new(
+        &mut self,
+        session: &mut Session,
+        request: &Request,
+    ) -> Result<Reply, Fault>
+        requires kept { IsKept self.old.seen.public session.old }
+        ensures answered { IsAnswered (answered_new self.old.seen.public (session_at session.old) (form_of request.now))
+            session.old session.new self.old self.new result }
+        ensures kept { IsKept self.new.seen.public session.new }
+        ensures still { IsStill session.old session.new self.old self.new result }
+    {
+        match request {
+            Request::Hello { name, key } => self.greet(session, name, key),
+            Request::Bye => self.say_bye(session),
+            _ => Err(Fault::NotHello),
+        }
+    }
+
+    /// HELLO of a session that didn't say it yet.
+    #[tactic(auto, using(crate::proofs::Answering::greets_so, crate::proofs::Answering::not_greeted))]
+    fn greet(&mut self, session: &mut Session, name: &Name, key: &Word) -> Result<Reply, Fault>
+        requires kept { IsKept self.old.seen.public session.old }
+        ensures answered { IsAnswered (hello self.old.seen.public (session_at session.old) name.now key.now)
+            session.old session.new self.old self.new result }
+        ensures kept { IsKept self.new.seen.public session.new }
+        ensures still { IsStill session.old session.new self.old self.new result }
+    {
+        self.is_settled();
+        let principal = self.seen().greeted(name, key)?;
+        session.principal = Some(principal);
+        Ok(Reply::Done)
+    }
+
+    /// Answers a session without a transaction that said HELLO.
+    #[tactic(auto, using(crate::proofs::Answering::hello_twice))]
+    pub(super) fn answer_outside(
+        &mut self,
+        session: &mut Session,
+        asker: Principal,
+        request: Request,
+    ) -> Result<Reply, Fault>
+        requires narrow { IsTrue (is_narrow request) }
+        requires open { IsTrue session.old.is_open }
+        requires asker { session.old.principal ≡ Some asker }
+        requires outside { session.old.txn ≡ None }
+        requires kept { IsKept self.old.seen.public session.old }
+        ensures answered { IsAnswered (answered_by self.old session.old (Some asker) request)
+            session.old session.new self.old self.new result }
+        ensures kept { IsKept self.new.seen.public session.new }
+        ensures still { IsStill session.old session.new self.old self.new result }
+    {
+        match &request {
+            Request::Hello { .. } => Err(Fault::HelloTwice),
+            Request::CreatePrincipal { .. } => self.publish(session, asker, request),
+            Request::CreateTag { .. } => self.publish(session, asker, request),
+            Request::CreateTable { .. } => self.publish(session, asker, request),
+            Request::CreateView { .. } => self.publish(session, asker, request),
+            Request::Grant { .. } => self.publish(session, asker, request),
+            Request::Revoke { .. } => self.publish(session, asker, request),
+            Request::SetLabel { .. } => self.set_label(session, asker, request),
+            Request::ShowLabel => self.show_label(session),
+            Request::Select(_) => self.select(session, asker, request),
+            Request::Insert { .. } => self.change_rows(session, asker, request),
+            Request::Update { .. } => self.change_rows(session, asker, request),
+            Request::Delete { .. } => self.change_rows(session, asker, request),
+            Request::Begin => self.begin(session),
+            Request::Commit => self.commit(session),
+            Request::Rollback => self.roll_back(session),
+            Request::Bye => self.say_bye(session),
+        }
+    }
+
+    /// SET LABEL outside a transaction.
+    #[tactic(auto, using(crate::proofs::Answering::said_so, crate::proofs::Answering::said_is_still, crate::proofs::Keeping::made_now, crate::proofs::Keeping::kept_outside))]
+    fn set_label(
+        &mut self,
+        session: &mut Session,
+        asker: Principal,
+        request: Request,
+    ) -> Result<Reply, Fault>
+        requires form { form_of request ≡ relabels }
+        requires narrow { IsTrue (is_narrow request) }
+        requires open { IsTrue session.old.is_open }
+        requires asker { session.old.principal ≡ Some asker }
+        requires outside { session.old.txn ≡ None }
+        requires kept { IsKept self.old.seen.public session.old }
+        ensures answered { IsAnswered (answered_by self.old session.old (Some asker) request)
+            session.old session.new self.old self.new result }
+        ensures kept { IsKept self.new.seen.public session.new }
+        ensures still { IsStill session.old session.new self.old self.new result }
+    {
+        self.is_sound();
+        set_label(&self.seen(), asker, &mut session.label, request)
+    }
+
+    /// SHOW LABEL outside a transaction.
+    #[tactic(auto, using(crate::proofs::Answering::label_told))]
+    fn show_label(&mut self, session: &mut Session) -> Result<Reply, Fault>
+        requires outside { session.old.txn ≡ None }
+        requires kept { IsKept self.old.seen.public session.old }
+        ensures answered { IsAnswered (show_label (seen_by self.old.seen session.old.txn).public (session_at session.old))
+            session.old session.new self.old self.new result }
+        ensures kept { IsKept self.new.seen.public session.new }
+        ensures still { IsStill session.old session.new self.old self.new result }
+    {
+        self.is_settled();
+        let reply = self.seen().label_shown(&session.label)?;
+        Ok(reply)
+    }
+
+    /// SELECT outside a transaction.
+    #[tactic(auto, using(crate::proofs::Answering::said_so, crate::proofs::Answering::said_is_still, crate::proofs::Keeping::made_now, crate::proofs::Keeping::kept_outside))]
+    fn select(
+        &mut self,
+        session: &mut Session,
+        asker: Principal,
+        request: Request,
+    ) -> Result<Reply, Fault>
+        requires form { form_of request ≡ looks }
+        requires narrow { IsTrue (is_narrow request) }
+        requires open { IsTrue session.old.is_open }
+        requires asker { session.old.principal ≡ Some asker }
+        requires outside { session.old.txn ≡ None }
+        requires kept { IsKept self.old.seen.public session.old }
+        ensures answered { IsAnswered (answered_by self.old session.old (Some asker) request)
+            session.old session.new self.old self.new result }
+        ensures kept { IsKept self.new.seen.public session.new }
+        ensures still { IsStill session.old session.new self.old self.new result }
+    {
+        self.is_sound();
+        select(&self.seen(), asker, &session.label, request)
+    }
+
+    /// BYE.
+    #[tactic(auto, using(crate::proofs::Answering::says_bye))]
+    pub(super) fn say_bye(&mut self, session: &mut Session) -> Result<Reply, Fault>
+        requires kept { IsKept self.old.seen.public session.old }
+        ensures answered { IsAnswered (bye (session_at session.old)) session.old session.new self.old self.new result }
+        ensures kept { IsKept self.new.seen.public session.new }
+        ensures still { IsStill session.old session.new self.old self.new result }
+    {
+        self.leave(session);
+        Ok(Reply::Done)
+    }
+}

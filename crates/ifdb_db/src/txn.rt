@@ -1,0 +1,114 @@
+// Open transactions.
+ghost use Rattle.std.specs.Prelude.{◌≡◌, [], IfOk, IsTrue, OnErr, OnOk};
+ghost use Rattle.ifdb_row.specs.Writes.{are_fitting, merged};
+ghost use Rattle.ifdb_snapshot.specs.Sound.{is_sound};
+ghost use Rattle.ifdb_snapshot.specs.Writing.{are_fit};
+ghost use Rattle.ifdb_db.specs.Inside.{seen_of};
+
+mod ask;
+
+use crate::OutOfMemory;
+use ifdb_row::Writes;
+use ifdb_snapshot::{SharedState, Snapshot};
+use ifdb_store::Content;
+use std::alloc::Global;
+use std::marker::Model;
+
+/// An open transaction: what all saw at its BEGIN, its own writes, and the rows that it sees, which are those of its BEGIN with its own writes.
+///
+/// Its public state and rows are shared with the database, which copies what it changes: a transaction holds no copy of a table.
+#[derive(Drop)]
+pub struct Txn {
+    alloc: Global,
+    begin: u64,
+    public: SharedState,
+    base: Content,
+    rows: Content,
+    own: Writes,
+}
+
+impl Model for Txn {
+    ghost use Rattle.ifdb_db.specs.Client.{Open};
+    ghost use Rattle.ifdb_db.specs.Kept.{IsSoundTxn};
+
+    ghost Value = { Open };
+
+    ghost use Rattle.std.specs.Coded.{codes};
+    ghost use Rattle.ifdb_bound.specs.contracts.condition.BoundCond as cond;
+    ghost use Rattle.ifdb_bound.specs.contracts.expression.BoundExpr as expr;
+
+    ghost coded = { Prim.hlevel (codes, cond.the_row.coded, expr.the_row.coded) };
+
+    ghost view = { λ t. record { begin = t.begin; own = t.own; base = record { public = t.public; rows = t.base } } };
+
+    ghost invariant = { λ t. IsSoundTxn (record { begin = t.begin; own = t.own; base = record { public = t.public; rows = t.base } }) t.rows };
+}
+
+impl Txn {
+    /// A transaction that begins where the log has so many entries, over what all see then. It takes no memory but counts owners.
+    pub(crate) fn begun(
+        alloc: Global,
+        begin: u64,
+        public: &SharedState,
+        rows: &Content,
+    ) -> Result<Txn, OutOfMemory>
+        requires { IsTrue (is_sound (record { public = public.now; rows = rows.now })) }
+        ensures { IfOk result (λ txn. txn ≡ record {
+          begin = begin;
+          own = [];
+          base = record { public = public.now; rows = rows.now };
+        }) }
+    {
+        Ok(Txn {
+            alloc,
+            begin,
+            public: public.share()?,
+            base: rows.share()?,
+            rows: rows.share()?,
+            own: Writes::new(alloc),
+        })
+    }
+
+    /// How many entries the log had at the BEGIN.
+    pub(crate) fn begin(&self) -> u64
+        ensures { result ≡ self.now.begin }
+    {
+        self.begin
+    }
+
+    /// The transaction's own writes.
+    pub(crate) fn own(&self) -> &Writes
+        ensures own { result.now ≡ self.now.own }
+        ensures fit { IsTrue (are_fit self.now.base.public result.now) }
+        ensures fitting { IsTrue (are_fitting result.now) }
+    {
+        &self.own
+    }
+
+    /// What the transaction sees.
+    pub(crate) fn seen(&self) -> Snapshot<'_>
+        ensures { result ≡ seen_of self.now }
+    {
+        Snapshot::new(self.alloc, self.public.get(), &self.rows)
+    }
+
+    /// Adds writes to the transaction's own. `OutOfMemory` changes nothing.
+    pub(crate) fn write(&mut self, writes: Writes) -> Result<(), OutOfMemory>
+        requires { IsTrue (are_fit self.old.base.public writes) }
+        ensures ok { OnOk result (self.new ≡ record self.old { own = merged self.old.own writes }) }
+        ensures err { OnErr result (self.new ≡ self.old) }
+    {
+        let rows = self.rows.after(self.alloc, &writes)?;
+        self.own.merge(writes)?;
+        self.rows = rows;
+        Ok(())
+    }
+
+    /// The transaction's own writes, once it is over.
+    pub(crate) fn into_own(self) -> Writes
+        ensures { result ≡ self.own }
+    {
+        let Txn { own, .. } = self;
+        own
+    }
+}

@@ -1,0 +1,28 @@
+// HELLO.
+ghost use Rattle.std.specs.Prelude.{◌≡◌, IfOk, IfErr, Some};
+ghost use Rattle.ifdb_wire.specs.declared.reply.Reply.TheVariants.{Done};
+ghost use Rattle.ifdb_model.specs.Session.{Session};
+ghost use Rattle.ifdb_model.specs.Step.{hello, refuses, tells};
+
+use crate::snapshot::Snapshot;
+use ifdb_value::{Name, Principal, Word};
+use ifdb_wire::Fault;
+
+impl<'a> Snapshot<'a> {
+    /// The principal whose name and key a session gave; `BadKey` where there is none. Takes no memory.
+    #[tactic(auto, using(crate::proofs::Greeting::greeted_known, crate::proofs::Greeting::greeted_bad, crate::proofs::Greeting::greeted_none))]
+    pub fn greeted(&self, name: &Name, key: &Word) -> Result<Principal, Fault>
+        ensures known { IfOk result (λ n. (s : Session)
+            → hello self.now.public s name.now key.now ≡ tells (record s { principal = Some n }) Done) }
+        ensures refused { IfErr result (λ fault. (s : Session) → hello self.now.public s name.now key.now ≡ refuses s fault) }
+    {
+        let catalog = self.public.catalog();
+        let Some(principal) = catalog.principal(name) else {
+            return Err(Fault::BadKey);
+        };
+        if !catalog.key_is(principal, key) {
+            return Err(Fault::BadKey);
+        }
+        Ok(principal)
+    }
+}
