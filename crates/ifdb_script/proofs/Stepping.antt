@@ -1,6 +1,7 @@
 -- From what a call does to a room to what its step tells of each state that the room stands for.
-use Rattle.std.proofs.Common.{◌≡◌, ℕ, List, [], ◌∷◌, Some, sym, subst, ◌∙◌, inl, inr}
-use Rattle.std.proofs.lemmas.List.{append-nil}
+use Rattle.std.proofs.Common.{◌≡◌, ℕ, ◌+◌, Bool, true, false, List, [], ◌∷◌, length, Some, refl, sym, ap, subst, ◌∙◌, inl, inr}
+use Rattle.std.specs.Prelude.{◌⊎◌}
+use Rattle.std.proofs.lemmas.List.{append-nil, length-map}
 use Rattle.ifdb_wire.specs.declared.fault.Fault.TheVariants as fault
 use Rattle.ifdb_wire.specs.declared.reply.Reply.{Reply}
 use Rattle.ifdb_wire.specs.declared.reply.Reply.TheVariants as reply
@@ -9,6 +10,8 @@ use Rattle.ifdb_model.specs.Step.{Reader}
 use Rattle.ifdb_model.specs.Run.{State, Step, opens, asks, refused, long, stray, leaves, tell, next, told}
 use Rattle.ifdb_model.specs.Script.{line_steps}
 use Rattle.ifdb_model.specs.Output.{texts}
+use Rattle.ifdb_db.specs.Client.{session_at}
+use Rattle.ifdb_db.specs.Reading.{read_line}
 use Rattle.ifdb_db.specs.Room.{Hall, StandsFor}
 use Rattle.ifdb_script.specs.Steps.{Does, refusal, Stepped}
 use Rattle.ifdb_script.proofs.Flags.{Tells, tells_nothing, tells_done, tells_unopened, tells_unasked, IsScriptStep, AreScriptSteps, are_script_steps}
@@ -20,6 +23,18 @@ one_text n r = sym (append-nil (reply_text (Some n) r))
 -- a line was too long
 long_does : (read : Reader) (room : Hall) (out : List ℕ) → out ≡ reply_text (Some 0) (reply.Refused fault.TooLong) → Does read room room long out
 long_does read room out text st h = (h, text ∙ one_text 0 (reply.Refused fault.TooLong))
+
+-- OPEN, by what the room did; a room has as many clients as the state has sessions
+pub opens_so : (old new : Hall) (number : ℕ) (result : Bool) (out : List ℕ) → number ≡ length old.clients + 1
+    → (result ≡ true → (st : State) → StandsFor old st → StandsFor new (next read_line st opens)) → (result ≡ true → out ≡ reply_text (Some number) reply.Opened)
+    → (result ≡ false → new ≡ old) → (result ≡ false → out ≡ reply_text (Some 0) (reply.Refused fault.OutOfMemory))
+    → Does read_line old new opens out ⊎ Does read_line old new (refused 0) out
+opens_so old new number true out n o t r m = inl (λ st w. (o refl st w, told_so st w)) where
+  told_so : (st : State) → StandsFor old st → out ≡ texts (told read_line st opens)
+  told_so st w =
+      let many : length old.clients ≡ length st.sessions = sym (length-map old.clients session_at) ∙ ap length w.sessions in
+      t refl ∙ ap (λ k. reply_text (Some k) reply.Opened) (n ∙ ap (λ k. k + 1) many) ∙ one_text (length st.sessions + 1) reply.Opened
+opens_so old new number false out n o t r m = inr (λ st w. (subst (λ room. StandsFor room st) (sym (r refl)) w, m refl ∙ one_text 0 (reply.Refused fault.OutOfMemory)))
 
 -- ---- what they tell
 
