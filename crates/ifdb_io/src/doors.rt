@@ -9,8 +9,8 @@ use std::fmt;
 
 /// Something that connections come through.
 pub trait Door {
-    /// A connection.
-    type Link: Link;
+    /// A connection, which a worker may serve in its thread.
+    type Link: Link + Send;
 
     /// The most links that the door may still give.
     ghost most: { Self → ℕ };
@@ -74,8 +74,8 @@ impl Error for SiteFault {}
 
 /// Something that doors are had from.
 pub trait Site {
-    /// A door, which a worker may take to its thread.
-    type Door: Door + Send;
+    /// A door, which a worker may take to its thread, and which ends where it is dropped.
+    type Door: Door + Send + Drop;
 
     /// How often the site has failed, up to 2^64 - 1.
     ghost faults: { Self → ℕ };

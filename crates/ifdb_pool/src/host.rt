@@ -1,0 +1,19 @@
+// What serves connections.
+
+/// Something that serves connections, one after another.
+pub trait Host {
+    /// A connection.
+    type Link;
+
+    /// Whether the host may serve a connection now.
+    ghost ready: { Self → Type 0 };
+
+    /// What serving a connection does: the host and the connection before, and both after.
+    ghost serves: { Self → Self.Link → Self → Self.Link → Type 0 };
+
+    /// Serves the connection to its end. The host may then serve another.
+    fn serve(&mut self, link: &mut Self::Link)
+        requires ready { ready self.old }
+        ensures ready { ready self.new }
+        ensures served { serves self.old link.old self.new link.new };
+}
