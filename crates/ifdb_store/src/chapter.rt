@@ -1,5 +1,5 @@
 // Chapters of pages.
-ghost use Rattle.std.specs.Prelude.{◌≡◌, ◌≤◌, ◌<◌, ◌+◌, ◌++◌, IfOk, IsTrue, OnOk, length};
+ghost use Rattle.std.specs.Prelude.{◌≡◌, ◌≤◌, ◌<◌, ◌+◌, ◌++◌, ◌^◌, IfOk, IfSome, IsTrue, None, OnOk, length};
 ghost use Rattle.std.specs.List.{list_all, flat_map};
 ghost use Rattle.ifdb_row.specs.Content.{after, rising};
 ghost use Rattle.ifdb_store.specs.Pages.{AddsOne, AddsRows, StaysFull, flat, is_chapter, is_full, is_page};
@@ -58,6 +58,19 @@ impl Chapter {
         ensures { result ≡ is_full self.now }
     {
         self.pages().len() >= FULL_PAGES
+    }
+
+    /// This many and its rows; `None` where they are too many for the type.
+    pub(crate) fn count_on(&self, before: u64) -> Option<u64>
+        ensures some { IfSome result (λ n. n ≡ before + length (flat self.now)) }
+        ensures none { result ≡ None → 2 ^ 64 ≤ before + length (flat self.now) }
+    {
+        let pages = self.pages();
+        let mut count = before;
+        for page in pages {
+            count = count.checked_add(page.get().rows().len() as u64)?;
+        }
+        Some(count)
     }
 
     /// The pages.

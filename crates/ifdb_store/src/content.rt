@@ -1,5 +1,5 @@
 // Contents in versions.
-ghost use Rattle.std.specs.Prelude.{◌≡◌, ◌≤◌, ◌<◌, ◌+◌, ◌-◌, ◌*◌, ◌^◌, [], length, IfOk, IsTrue, OnOk};
+ghost use Rattle.std.specs.Prelude.{◌≡◌, ◌≤◌, ◌<◌, ◌+◌, ◌-◌, ◌*◌, ◌^◌, [], length, IfOk, IfSome, IsTrue, None, OnOk};
 ghost use Rattle.std.specs.List.{list_all};
 ghost use Rattle.std.specs.Option.{option_copied};
 ghost use Rattle.ifdb_row.specs.Content.{after, rising};
@@ -68,6 +68,19 @@ impl Content {
         Ok(Content {
             chapters: Shared::new(alloc, Sequence::from_vec(chapters))?,
         })
+    }
+
+    /// How many rows it has; `None` where they are too many for the type. In time the number of its pages.
+    pub fn count(&self) -> Option<u64>
+        ensures some { IfSome result (λ n. n ≡ length self.now) }
+        ensures none { result ≡ None → 2 ^ 64 ≤ length self.now }
+    {
+        let chapters = self.chapters();
+        let mut count = 0;
+        for chapter in chapters {
+            count = chapter.get().count_on(count)?;
+        }
+        Some(count)
     }
 
     /// The first row from an edge on. Each comparison of slots is a step, and for n rows there are s steps with 2^s at most
