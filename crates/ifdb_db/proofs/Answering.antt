@@ -200,14 +200,3 @@ module _ (asker : ℕ) (l : List ℕ) (r : Request) (x : Desk) (t : Open) where
         (subst (λ (z : Client). IsUndone (answered_by x z (Some asker) r) z z x x g) (sym is) (denied_inside g (record { goes_on = d.goes_on; cause = d.cause; label = refl; txn = refl }))) where
           put : record c { label = l; txn = Some t } ≡ c
           put = λ i. record { is_open = c.is_open; principal = c.principal; label = (ap (λ (z : Client). z.label) (sym is)) i; txn = (ap (λ (z : Client). z.txn) (sym is)) i }
-
--- what the database does at an end, for the client as it was
-pub ended_as : (f : Form) (asker : ℕ) (r : Request) (x y : Desk) (c s e : Client) (told : Result Reply Fault) → s ≡ c → form_of r ≡ f
-    → IsAnswered (answered_as x.count (seen_by x.seen s.txn) (fault_of x s.label s.txn) (session_at s) asker r f) s e x y told → IsAnswered (answered_by x c (Some asker) r) c e x y told
-ended_as f asker r x y c s e told i h a =
-    subst (λ (o : Outcome). IsAnswered o c e x y told) (sym (by_form x c asker r f h))
-    (subst (λ (z : Client). IsAnswered (answered_as x.count (seen_by x.seen z.txn) (fault_of x z.label z.txn) (session_at z) asker r f) z e x y told) i a)
-
--- a client whose transaction and label are as before
-pub unchanged : (c : Client) (m : List ℕ) (u t : Open) → c.txn ≡ Some t → m ≡ c.label → u ≡ t → record c { label = m; txn = Some u } ≡ c
-unchanged c m u t e l k = let same = ap Some k ∙ sym e in λ i. record { is_open = c.is_open; principal = c.principal; label = l i; txn = same i }

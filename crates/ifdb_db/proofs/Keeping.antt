@@ -25,9 +25,6 @@ use Rattle.ifdb_db.proofs.BeginLaws.{trimmed_later, trimmed_all, ordered_more}
 
 -- ---- public states that grow
 
-pub outgrows_itself : (p : Public) → Outgrows p p
-outgrows_itself p = record { tags = omega arith; writes = λ w h. h }
-
 pub outgrows_changed : (p q : Public) (c : Change) → Outgrows p q → Outgrows p (changed q c)
 outgrows_changed p q c g = record {
   tags = let le = tags_grow q c in let more = g.tags in omega (arith, le, more);
@@ -86,12 +83,6 @@ pub installed_kept : (x y : Desk) (c : Client) (l : List ℕ) (t : Option Open) 
 installed_kept x y c l t ws begins k m e n =
     subst (λ (z : Desk). IsLabelKept z.seen.public l t) (sym m)
     (subst (λ (o : Option Open). IsLabelKept x.seen.public l o) (sym n) (subst (AreMade (length x.seen.public.tags)) (sym e) (made_now x.seen.public c k)))
-
--- in a transaction that goes on over what it began with
-pub kept_inside : (p : Public) (c e : Client) (t u : Open) → c.txn ≡ Some t → IsKept p c → e.txn ≡ Some u → u.base ≡ t.base → AreMade (length u.base.public.tags) e.label → IsKept p e
-kept_inside p c e t u i k j b m =
-    let was = subst (λ (o : Option Open). IsLabelKept p c.label o) i k in
-    subst (λ (o : Option Open). IsLabelKept p e.label o) (sym j) (m, subst (λ (z : Seen). Outgrows z.public p) (sym b) was.1)
 
 -- ---- commits of made tags
 

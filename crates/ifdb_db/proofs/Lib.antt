@@ -2,7 +2,6 @@ mod Answering
 mod AskLaws
 mod BeginLaws
 mod DeskLaws
-mod Ending
 mod Inside
 mod Keeping
 mod Landing

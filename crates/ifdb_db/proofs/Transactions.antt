@@ -15,10 +15,6 @@ use Rattle.ifdb_snapshot.proofs.Sound.{sound_written}
 use Rattle.ifdb_db.specs.Client.{Open}
 use Rattle.ifdb_db.specs.Kept.{IsSoundTxn}
 
--- one that begins over what all see
-pub txn_begun : (n : ℕ) (x : Seen) → is_sound x ≡ true → IsSoundTxn (record { begin = n; own = []; base = x }) x.rows
-txn_begun n x k = record { rows = refl; seen = k; base = k; own = refl; rising = refl; fitting = refl }
-
 -- one with more writes
 pub txn_written : (x : Open) (shown : List Row) (ws : List Write) → IsSoundTxn x shown → are_fitting ws ≡ true → are_fit x.base.public ws ≡ true
     → IsSoundTxn (record x { own = merged x.own ws }) (after shown ws)

@@ -1,13 +1,31 @@
--- What a line of a session does to a room.
-use Rattle.std.specs.Prelude.{◌≡◌, ℕ, ◌-◌, true, false, List, slice_set, None, Result, Ok, Err}
+-- What a step of the machine does to a room, and what a line of a session does.
+use Rattle.std.specs.Prelude.{◌≡◌, ℕ, ◌-◌, true, false, List, slice_set, Some, None, Result, Ok, Err}
 use Rattle.ifdb_wire.specs.declared.fault.Fault.{Fault}
 use Rattle.ifdb_wire.specs.declared.reply.Reply.{Reply}
-use Rattle.ifdb_wire.specs.Text.{IsUnbounded}
+use Rattle.ifdb_wire.specs.Text.{IsUnbounded, reply_text}
 use Rattle.ifdb_model.specs.Step.{bye}
+use Rattle.ifdb_model.specs.Run.{State, Step, next, outcome_of}
 use Rattle.ifdb_db.specs.Answer.{IsDone, IsRefusal}
 use Rattle.ifdb_db.specs.Client.{Client, session_at}
 use Rattle.ifdb_db.specs.Desk.{moved}
-use Rattle.ifdb_db.specs.Room.{Hall, client_in, outcome_in}
+use Rattle.ifdb_db.specs.Reading.{read_line}
+use Rattle.ifdb_db.specs.Room.{Hall, StandsFor, client_in, outcome_in}
+
+-- ---- by the states that a room stands for
+
+-- the room takes the step, whatever state it stood for
+abbrev pub GoesBy : Hall → Hall → Step → Type 0
+GoesBy h g x = (st : State) → StandsFor h st → StandsFor g (next read_line st x)
+
+-- the reply to a line of a session
+abbrev pub IsReplyTo : Hall → ℕ → List ℕ → Reply → Type 0
+IsReplyTo h n line r = (st : State) → StandsFor h st → r ≡ (outcome_of read_line st n line).reply
+
+-- the text of that reply, told to a session of the number `shown`
+abbrev pub IsReplyText : Hall → ℕ → List ℕ → ℕ → List ℕ → Type 0
+IsReplyText h n line shown text = (st : State) → StandsFor h st → text ≡ reply_text (Some shown) (outcome_of read_line st n line).reply
+
+-- ---- by what the room holds
 
 -- an open client came to e, the hall to g, and was told this
 pub record IsAsked (n : ℕ) (line : List ℕ) (h g : Hall) (r : Reply) : Type 0 where

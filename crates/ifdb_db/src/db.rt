@@ -1,5 +1,5 @@
 // What all see outside transactions.
-ghost use Rattle.std.specs.Prelude.{◌≡◌, [], IfOk, IsTrue};
+ghost use Rattle.std.specs.Prelude.{◌≡◌, ◌≤◌, ◌^◌, [], None, IfOk, IfSome, IsTrue, length};
 ghost use Rattle.ifdb_catalog.specs.Public.{opening as first_public, tags_of};
 ghost use Rattle.ifdb_db.specs.Answer.{answered, IsAnswered, IsStill};
 ghost use Rattle.ifdb_db.specs.Desk.{settled};
@@ -99,6 +99,14 @@ impl Db {
         ensures { result.now ≡ tags_of self.now.seen.public }
     {
         self.public.get().catalog().tags()
+    }
+
+    /// How many rows there are; `None` where they are too many for the type.
+    pub fn count_rows(&self) -> Option<u64>
+        ensures some { IfSome result (λ n. n ≡ length self.now.seen.rows) }
+        ensures none { result ≡ None → 2 ^ 64 ≤ length self.now.seen.rows }
+    {
+        self.store.content().count()
     }
 
     /// What all see.

@@ -1,14 +1,14 @@
 // The sessions over what all see.
-ghost use Rattle.std.specs.Prelude.{◌≡◌, ◌↔◌, ◌++◌, ◌∷◌, [], ℕ, true, false, Some, IfOk, IfErr, IfSome, IsSome, IsTrue, OnErr, OnOk, length};
+ghost use Rattle.std.specs.Prelude.{◌≡◌, ◌↔◌, ◌≤◌, ◌^◌, ◌++◌, ◌∷◌, [], true, false, Some, None};
+ghost use Rattle.std.specs.Prelude.{IfOk, IfSome, IsSome, IsTrue, OnErr, OnOk, length};
 ghost use Rattle.std.specs.Option.{is_some};
 ghost use Rattle.ifdb_wire.specs.declared.reply.Reply.TheVariants as reply;
 ghost use Rattle.ifdb_wire.specs.Text.{reply_text, IsUnbounded};
 ghost use Rattle.ifdb_catalog.specs.Public.{tags_of};
-ghost use Rattle.ifdb_model.specs.Run.{State, asks, leaves, next, opening, opens, outcome_of};
+ghost use Rattle.ifdb_model.specs.Run.{asks, leaves, opening, opens};
 ghost use Rattle.ifdb_db.specs.Client.{new_client};
-ghost use Rattle.ifdb_db.specs.Reading.{read_line};
 ghost use Rattle.ifdb_db.specs.Room.{StandsFor, IsSoundRoom, client_in, was_opened};
-ghost use Rattle.ifdb_db.specs.RoomSteps.{IsAskedIn, IsLeftBy};
+ghost use Rattle.ifdb_db.specs.RoomSteps.{GoesBy, IsAskedIn, IsLeftBy, IsReplyText, IsReplyTo};
 
 use crate::OutOfMemory;
 use crate::db::Db;
@@ -57,15 +57,15 @@ impl Room {
         })
     }
 
-    /// Opens the next session, and says so to a session of the number `shown`. False is want of memory, which changes nothing and is told to session 0.
-    #[tactic(auto, using(crate::proofs::RoomLaws::one_more))]
+    /// Opens the next session, and says so to a session of the number `shown`. False is want of memory, which changes nothing and
+    /// is told to session 0.
     pub fn open(&mut self, shown: u64, out: &mut Out) -> bool
-        ensures opened { result ≡ true → (st : State) → StandsFor self.old st → StandsFor self.new (next read_line st opens) }
+        ensures opened { result ≡ true → GoesBy self.old self.new opens }
         ensures told { result ≡ true → out.new.text ≡ reply_text (Some shown) Reply.Opened }
         ensures refused { result ≡ false → self.new ≡ self.old }
         ensures memory { result ≡ false → out.new.text ≡ reply_text (Some 0) (Reply.Refused Fault.OutOfMemory) }
     {
-        if self.add_session().is_err() {
+        if self.open_next().is_err() {
             say(out, 0, &Reply::Refused(Fault::OutOfMemory));
             return false;
         }
@@ -73,10 +73,11 @@ impl Room {
         true
     }
 
-    /// Asks a line for a session, and tells the reply to a session of the number `shown`. False is want of memory, which changes nothing.
+    /// Asks a line for a session, and tells the reply to a session of the number `shown`. False is want of memory, which changes
+    /// nothing.
     pub fn ask(&mut self, n: u64, shown: u64, line: &[u8], out: &mut Out) -> bool
-        ensures asked { result ≡ true → (st : State) → StandsFor self.old st → StandsFor self.new (next read_line st (asks n line.now)) }
-        ensures told { result ≡ true → (st : State) → StandsFor self.old st → out.new.text ≡ reply_text (Some shown) (outcome_of read_line st n line.now).reply }
+        ensures asked { result ≡ true → GoesBy self.old self.new (asks n line.now) }
+        ensures told { result ≡ true → IsReplyText self.old n line.now shown out.new.text }
         ensures refused { result ≡ false → self.new ≡ self.old }
         ensures memory { result ≡ false → out.new.text ≡ reply_text (Some shown) (Reply.Refused Fault.OutOfMemory) }
     {
@@ -92,12 +93,47 @@ impl Room {
     /// Drops a session without BYE; its transaction, if one is open, is over. Takes no memory.
     #[tactic(auto, using(crate::proofs::RoomLaws::one_leaves, crate::proofs::RoomLaws::none_leaves))]
     pub fn leave(&mut self, n: u64)
-        ensures { (st : State) → StandsFor self.old st → StandsFor self.new (next read_line st (leaves n)) }
+        ensures { GoesBy self.old self.new (leaves n) }
     {
         self.is_sound();
         if self.is_open(n) {
             self.close(n);
         }
+    }
+
+    /// Opens the next session, and says nothing. `OutOfMemory` changes nothing.
+    #[tactic(auto, using(crate::proofs::RoomLaws::one_more))]
+    pub fn open_next(&mut self) -> Result<(), OutOfMemory>
+        ensures opened { OnOk result (GoesBy self.old self.new opens) }
+        ensures err { OnErr result (self.new ≡ self.old) }
+    {
+        self.add_session()?;
+        Ok(())
+    }
+
+    /// Asks a line for a session, and says nothing: the reply is given. `OutOfMemory` changes nothing.
+    pub fn reply(&mut self, n: u64, line: &[u8]) -> Result<Reply, OutOfMemory>
+        ensures asked { OnOk result (GoesBy self.old self.new (asks n line.now)) }
+        ensures told { IfOk result (IsReplyTo self.old n line.now) }
+        ensures still { IfOk result (λ r. IsUnbounded r → self.new ≡ self.old) }
+        ensures err { OnErr result (self.new ≡ self.old) }
+    {
+        self.is_sound();
+        match self.answer(n, line) {
+            Ok(reply) => Ok(reply),
+            Err(fault) => {
+                let reply = refusal_of(fault)?;
+                Ok(reply)
+            }
+        }
+    }
+
+    /// How many rows there are, whoever sees them; `None` where they are too many for the type.
+    pub fn count_rows(&self) -> Option<u64>
+        ensures some { IfSome result (λ n. n ≡ length self.now.desk.seen.rows) }
+        ensures none { result ≡ None → 2 ^ 64 ≤ length self.now.desk.seen.rows }
+    {
+        self.db.count_rows()
     }
 
     /// How many sessions were opened.
@@ -169,23 +205,6 @@ impl Room {
         ensures { IsLeftBy n self.old self.new }
     {
         self.db.leave(&mut self.sessions[(n - 1) as usize]);
-    }
-
-    /// The reply to a line of a session. An `Err` changes nothing.
-    fn reply(&mut self, n: u64, line: &[u8]) -> Result<Reply, OutOfMemory>
-        ensures asked { OnOk result ((st : State) → StandsFor self.old st → StandsFor self.new (next read_line st (asks n line.now))) }
-        ensures told { IfOk result (λ r. (st : State) → StandsFor self.old st → r ≡ (outcome_of read_line st n line.now).reply) }
-        ensures still { IfOk result (λ r. IsUnbounded r → self.new ≡ self.old) }
-        ensures err { OnErr result (self.new ≡ self.old) }
-    {
-        self.is_sound();
-        match self.answer(n, line) {
-            Ok(reply) => Ok(reply),
-            Err(fault) => {
-                let reply = refusal_of(fault)?;
-                Ok(reply)
-            }
-        }
     }
 
     /// What is true of every room. Does nothing.
