@@ -1,3 +1,5 @@
+mod Counting
+mod FirstLine
 mod ScriptLines
 mod Flags
 mod Stepping

@@ -42,7 +42,7 @@ pub steps_last : (text : List ℕ) → IsLine text → 0 < length text → steps
 steps_last [] h some = absurd (omega arith)
 steps_last (b ∷ text) h some = ap (flat_map line_steps) (lines_last b text (recursion_from_All (λ c. c ≢ 10) (b ∷ text) h.plain)) ∙ append-nil (line_steps (b ∷ text))
 
-long_step : (line : List ℕ) → 65535 < length line → line_steps line ≡ long ∷ []
+pub long_step : (line : List ℕ) → 65535 < length line → line_steps line ≡ long ∷ []
 long_step line h = grind (arith, nat_tests)
 
 pub steps_long : (text rest : List ℕ) → IsLong text → steps_of (text ++ rest) ≡ long ∷ steps_of (after_newline rest)

@@ -1,2 +1,4 @@
+pub mod Rehearsal
+pub mod Rehearsing
 pub mod Run
 pub mod Steps
