@@ -1,6 +1,7 @@
 #!/usr/bin/env bash
-# Times single statements of the built program over tables of 10^4, 10^5 and 10^6 rows, BEGIN over as many, and a load like the generator's
-# beside SQLite in memory, where `sqlite3` is there. Run it at the top of the repository; it takes some minutes and 3 GB of memory.
+# Times single statements of the built program over tables of 10^4, 10^5 and 10^6 rows, BEGIN over as many, and the generator's script
+# beside SQLite in memory, where `sqlite3` is there; runs the generator twice, and compares what it counts. Run it at the top of the
+# repository; it takes some minutes and 3 GB of memory.
 set -euo pipefail
 cd "$(dirname "${BASH_SOURCE[0]}")/.."
 work=$(mktemp -d)
@@ -48,22 +49,15 @@ for n in 10000 100000 1000000; do
 done
 told "BEGIN and ROLLBACK over no rows" $count "$({ table; begins $count; } | ran)" "$(table | ran)"
 
-# The generator's load: sessions that set their labels, insert rows and count them. Its refusals are of keys that stand already.
-load() {
-  awk -v n="$1" -v sql="$2" 'BEGIN {
-    if (sql) print "CREATE TABLE item (id INT PRIMARY KEY, qty INT);";
-    else {
-      print "OPEN\n1 HELLO admin KEY '"'admin'"'";
-      for (t = 0; t < 4; t++) print "1 CREATE TAG t" t;
-      print "1 CREATE TABLE item (id INT, qty INT, PRIMARY KEY (id))";
-      for (s = 2; s <= 4; s++) print "OPEN\n" s " HELLO admin KEY '"'admin'"'";
-    }
+# The inserts and counts of the generator's script, as SQLite reads them. Its refusals are of keys that stand already.
+sql() {
+  echo 'CREATE TABLE item (id INT PRIMARY KEY, qty INT);'
+  awk -v n="$1" 'BEGIN {
     x = 1;
     for (i = 1; i <= n; i++) {
-      x = (x * 75 + 74) % 65537; s = 1 + i % 4;
-      if (sql) print "INSERT OR IGNORE INTO item VALUES (" x % (2 * n) ", " x % 1000 ");";
-      else print s " SET LABEL (t" int(x / 8) % 4 ")\n" s " INSERT INTO item VALUES (" x % (2 * n) ", " x % 1000 ")";
-      if (i % 4 == 0) print sql ? "SELECT COUNT(*) FROM item WHERE qty < 500;" : s " SELECT COUNT(*) FROM item WHERE qty < 500";
+      x = (x * 75 + 74) % 65537;
+      print "INSERT OR IGNORE INTO item VALUES (" x % (2 * n) ", " x % 1000 ");";
+      if (i % 4 == 0) print "SELECT COUNT(*) FROM item WHERE qty < 500;";
     }
   }'
 }
@@ -75,10 +69,13 @@ timed() {
   echo "$(((end - begin) / 1000000)) ms"
 }
 for n in 1000 10000; do
-  load $n 0 >"$work/script"
-  echo "load of $n INSERTs: $(timed ./crates/ifdb/out/ifdb run)"
+  ./crates/ifdb/out/ifdb generate $n >"$work/script"
+  echo "the generator's script with $n INSERTs: $(timed ./crates/ifdb/out/ifdb run)"
+  ./crates/ifdb/out/ifdb generate --run $n >"$work/first"
+  ./crates/ifdb/out/ifdb generate --run $n | cmp - "$work/first"
+  echo "  which counts $(paste -s -d ' ' "$work/first")"
   if command -v sqlite3 >/dev/null; then
-    load $n 1 >"$work/script"
-    echo "load of $n INSERTs in SQLite: $(timed sqlite3 :memory:)"
+    sql $n >"$work/script"
+    echo "  the same in SQLite: $(timed sqlite3 :memory:)"
   fi
 done

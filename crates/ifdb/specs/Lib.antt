@@ -1,3 +1,4 @@
 pub mod NoSite
 pub mod Status
+pub mod Texts
 pub mod Words

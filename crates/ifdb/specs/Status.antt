@@ -21,3 +21,13 @@ IsUsage WriteFault = Unit {0}
 IsUsage OutOfMemory = ⊥
 IsUsage TooLarge = ⊥
 IsUsage SiteFault = ⊥
+
+-- a text was made and written, or there was no memory to make it, or the output failed
+abbrev pub IsMade : Status → Type 0
+IsMade Done = Unit {0}
+IsMade Usage = ⊥
+IsMade ReadFault = ⊥
+IsMade WriteFault = Unit {0}
+IsMade OutOfMemory = Unit {0}
+IsMade TooLarge = ⊥
+IsMade SiteFault = ⊥

@@ -2,6 +2,7 @@
 #![tactic(auto)]
 
 mod adapters;
+mod command;
 mod no_site;
 #[cfg(test)]
 mod tests;

@@ -2,6 +2,7 @@
 ghost use Rattle.std.specs.Prelude.{◌<◌};
 
 mod ends;
+mod generate;
 mod rows;
 mod spellings;
 mod statements;

@@ -1,14 +1,16 @@
 // The one call that does all that the program does.
-ghost use Rattle.std.specs.Prelude.{◌≡◌, ◌≢◌, ◌↔◌, ◌+◌, ◌^◌, ◌≤◌, IsTrue, OnOk, OnErr};
-ghost use Rattle.std.specs.Io.KnownBytes.{Appends};
-ghost use Rattle.ifdb_io.specs.Causes.{Rose, HasCause, WritesShort};
+ghost use Rattle.std.specs.Prelude.{◌≡◌, ◌≢◌, ◌+◌, ◌≤◌, ℕ, List, IfOk};
+ghost use Rattle.ifdb_io.specs.Causes.{Rose};
 ghost use Rattle.ifdb_script.specs.Run.{RanWhole, RanFront, RanCut, CutsDontMatter, KeepsLevels};
-ghost use Rattle.ifdb.specs.Status.{EndsWell, IsUsage};
-ghost use Rattle.ifdb.specs.Words.{IsRun, usage_line};
+ghost use Rattle.ifdb.specs.Status.{EndsWell, IsMade, IsUsage};
+ghost use Rattle.ifdb.specs.Texts.{IsWritten, text_for, text_of};
+ghost use Rattle.ifdb.specs.Words.{IsMalformed, IsRun, command_of, usage_line};
 
+use crate::command::{Command, Text, command_of};
+use ifdb_generate::{OutOfMemory, generated};
 use ifdb_io::{Failed, Sink, Site, Source, write_all};
-use ifdb_script::{ScriptEnd, run_script};
-use std::alloc::AllocGlobal;
+use ifdb_script::{ScriptEnd, rehearse, run_script};
+use std::alloc::{AllocGlobal, Global};
 
 /// How the program ended. The exit status is the variant's place, from 0.
 #[derive(Clone, Copy, Debug, PartialEq, Eq)]
@@ -35,8 +37,8 @@ pub const DEFAULT_LIMIT: u64 = 1 << 30;
 const USAGE: &str =
     "usage: ifdb run [--limit N] | ifdb serve --port P [--workers W] [--links K] [--limit N] | ifdb generate [--run] N\n";
 
-/// Does what the words say, over this input, output and site. The words lack the program's name. So far the one word
-/// `run` is understood, which runs the input as a script.
+/// Does what the words say, over this input, output and site. The words lack the program's name. So far these are understood: the one
+/// word `run`, which runs the input as a script, and `generate N` with or without `--run`.
 #[tactic(auto, using(ifdb_script::proofs::RunLaws::cuts_dont_matter))]
 pub fn top<T: AllocGlobal, R: Source, W: Sink, S: Site>(
     rt: &T,
@@ -46,11 +48,11 @@ pub fn top<T: AllocGlobal, R: Source, W: Sink, S: Site>(
     site: &mut S,
 ) -> Status
     // The script's output.
-    ensures done { result ≡ Status.Done → RanWhole DEFAULT_LIMIT
+    ensures done { IsRun words.now → result ≡ Status.Done → RanWhole DEFAULT_LIMIT
         (R.left input.old) (R.left input.new) (W.written output.old) (W.written output.new) }
 
     ensures cuts { CutsDontMatter }
-    ensures two_worlds { result ≡ Status.Done → KeepsLevels DEFAULT_LIMIT
+    ensures two_worlds { IsRun words.now → result ≡ Status.Done → KeepsLevels DEFAULT_LIMIT
         (R.left input.old) (R.left input.new) (W.written output.old) (W.written output.new) }
 
     // Faults, and what was written before them.
@@ -63,15 +65,14 @@ pub fn top<T: AllocGlobal, R: Source, W: Sink, S: Site>(
     ensures too_large { result ≡ Status.TooLarge → RanFront (λ n. n ≡ DEFAULT_LIMIT + 1)
         (R.left input.old) (R.left input.new) (W.written output.old) (W.written output.new) }
     ensures memory { result ≡ Status.OutOfMemory → (input.new ≡ input.old) × (output.new ≡ output.old) }
-    ensures complete { IsRun words.now → ¬ Rose (R.faults input.old) (R.faults input.new)
+    ensures complete { ¬ IsMalformed words.now → ¬ Rose (R.faults input.old) (R.faults input.new)
         → ¬ Rose (W.faults output.old) (W.faults output.new) → result ≢ Status.TooLarge → EndsWell result }
 
     // Other words than the one word `run`.
-    ensures usage { result ≡ Status.Usage → ¬ IsRun words.now }
-    ensures usage_line { result ≡ Status.Usage → Appends (W.written output.old) (W.written output.new) usage_line }
-    ensures other { ¬ IsRun words.now → IsUsage result }
-    ensures other_cut { ¬ IsRun words.now → result ≡ Status.WriteFault
-        → WritesShort (W.written output.old) (W.written output.new) usage_line }
+    ensures usage { result ≡ Status.Usage → IsMalformed words.now }
+    ensures malformed { IsMalformed words.now → IsUsage result }
+    ensures text { ¬ IsRun words.now → IsWritten (text_for (command_of words.now)) result
+        (W.written output.old) (W.written output.new) }
     ensures other_input { ¬ IsRun words.now → input.new ≡ input.old }
 
     // What is so at every end.
@@ -81,34 +82,56 @@ pub fn top<T: AllocGlobal, R: Source, W: Sink, S: Site>(
     ensures site_same { site.new ≡ site.old }
 {
     let _ = &site;
-    if !is_run(words) {
-        if let Err(Failed) = write_usage(output) {
-            return Status::WriteFault;
-        }
-        return Status::Usage;
-    }
-    match run_script(rt.alloc(), input, output, DEFAULT_LIMIT) {
-        ScriptEnd::Done => Status::Done,
-        ScriptEnd::ReadFault => Status::ReadFault,
-        ScriptEnd::WriteFault => Status::WriteFault,
-        ScriptEnd::OutOfMemory => Status::OutOfMemory,
-        ScriptEnd::TooLarge => Status::TooLarge,
+    match command_of(words) {
+        None => write_usage(output),
+        Some(Command::Write(text)) => write_made(output, made(rt.alloc(), text)),
+        Some(Command::Run) => match run_script(rt.alloc(), input, output, DEFAULT_LIMIT) {
+            ScriptEnd::Done => Status::Done,
+            ScriptEnd::ReadFault => Status::ReadFault,
+            ScriptEnd::WriteFault => Status::WriteFault,
+            ScriptEnd::OutOfMemory => Status::OutOfMemory,
+            ScriptEnd::TooLarge => Status::TooLarge,
+        },
     }
 }
 
-fn write_usage<W: Sink>(output: &mut W) -> Result<(), Failed>
-    ensures ok { OnOk result (Appends (W.written output.old) (W.written output.new) usage_line) }
-    ensures err { OnErr result (WritesShort (W.written output.old) (W.written output.new) usage_line) }
-    ensures cause { HasCause (W.faults output.old) (W.faults output.new) result }
+/// Writes the usage line.
+fn write_usage<W: Sink>(output: &mut W) -> Status
+    ensures ends { IsUsage result }
+    ensures text { IsWritten usage_line result (W.written output.old) (W.written output.new) }
+    ensures write { result ≡ Status.WriteFault → Rose (W.faults output.old) (W.faults output.new) }
+    ensures later { W.faults output.old ≤ W.faults output.new }
 {
-    write_all(output, USAGE.as_bytes())
+    match write_all(output, USAGE.as_bytes()) {
+        Ok(()) => Status::Usage,
+        Err(Failed) => Status::WriteFault,
+    }
 }
 
-fn is_run(words: &[String]) -> bool
-    ensures { IsTrue result ↔ IsRun words.now }
+/// Writes a text, unless there was no memory to make it.
+fn write_made<W: Sink>(output: &mut W, made: Result<Vec<u8>, OutOfMemory>) -> Status
+    ensures ends { IsMade result }
+    ensures text { (text : List ℕ) → IfOk made (λ made. made.items ≡ text)
+        → IsWritten text result (W.written output.old) (W.written output.new) }
+    ensures write { result ≡ Status.WriteFault → Rose (W.faults output.old) (W.faults output.new) }
+    ensures memory { result ≡ Status.OutOfMemory → output.new ≡ output.old }
+    ensures later { W.faults output.old ≤ W.faults output.new }
 {
-    match words {
-        [word] => word.as_str() == "run",
-        _ => false,
+    let Ok(text) = made else {
+        return Status::OutOfMemory;
+    };
+    match write_all(output, &text) {
+        Ok(()) => Status::Done,
+        Err(Failed) => Status::WriteFault,
+    }
+}
+
+/// Makes a text of the generator.
+fn made(alloc: Global, text: Text) -> Result<Vec<u8>, OutOfMemory>
+    ensures { IfOk result (λ made. made.items ≡ text_of text) }
+{
+    match text {
+        Text::Script(size) => generated(alloc, size),
+        Text::Counts(size) => rehearse(alloc, size)?.text(alloc),
     }
 }

@@ -37,6 +37,16 @@ fn other_words_get_the_usage_line(rt: HostRuntime) -> Result<(), Fail> {
         "Run",
         "run --limit 0",
         "serve --port 7070",
+        "generate",
+        "generate 0",
+        "generate 10001",
+        "generate +8",
+        "generate 00000000000008",
+        "generate --run",
+        "generate --run --run",
+        "generate --run=8",
+        "generate 8 8",
+        "generate --run 8 --run",
     ] {
         let mut input = source(rt.alloc(), b"OPEN\n", 64)?;
         let mut output = sink(rt.alloc(), 64)?;
