@@ -8,15 +8,18 @@ work=$(mktemp -d)
 trap 'rm -rf "$work"' EXIT
 ./ifdb build >&2
 
-# Runs the script on standard input, and gives its time in microseconds. No reply of it may be a refusal.
+# Runs the script on standard input three times, and gives the least time in microseconds. No reply of it may be a refusal.
 ran() {
   cat >"$work/script"
-  local begin end
-  begin=$(date +%s%N)
-  ./crates/ifdb/out/ifdb run <"$work/script" >"$work/replies"
-  end=$(date +%s%N)
-  if grep -m 1 ERR "$work/replies" >&2; then exit 1; fi
-  echo $(((end - begin) / 1000))
+  local begin end least=0 run
+  for run in 1 2 3; do
+    begin=$(date +%s%N)
+    ./crates/ifdb/out/ifdb run <"$work/script" >"$work/replies"
+    end=$(date +%s%N)
+    if grep -m 1 ERR "$work/replies" >&2; then exit 1; fi
+    if ((run == 1 || end - begin < least)); then least=$((end - begin)); fi
+  done
+  echo $((least / 1000))
 }
 
 # Statements of a kind: their name, how many stand in the script, and the times of the script with them and without.
@@ -34,12 +37,12 @@ rows() { awk -v n="$1" 'BEGIN { for (i = 0; i < n; i += 200) { s = "1 INSERT INT
 # So many statements with a key of the table's in place of K, each key far from the one before.
 keyed() { awk -v n="$1" -v count="$2" -v line="$3" 'BEGIN { for (i = 1; i <= count; i++) { s = line; gsub(/K/, 2 * ((i * 7919) % n), s); print s } }'; }
 
-# INSERTs of rows with odd keys.
-odd() { awk -v n="$1" -v count="$2" 'BEGIN { for (i = 1; i <= count; i++) print "1 INSERT INTO t VALUES (" 2 * ((i * 7919) % n) + 1 ", 1)" }'; }
+# INSERTs of rows with odd keys, each between two of the table's while there are any that are free, and else behind them.
+odd() { awk -v n="$1" -v count="$2" 'BEGIN { for (i = 0; i < count; i++) print "1 INSERT INTO t VALUES (" 2 * ((i * 7919) % n + n * int(i / n)) + 1 ", 1)" }'; }
 
 begins() { awk -v count="$1" 'BEGIN { for (i = 0; i < count; i++) print "1 BEGIN\n1 ROLLBACK" }'; }
 
-count=5000
+count=50000
 for n in 10000 100000 1000000; do
   base=$({ table; rows $n; } | ran)
   told "keyed SELECT over $n rows" $count "$({ table; rows $n; keyed $n $count '1 SELECT v FROM t WHERE id = K'; } | ran)" "$base"

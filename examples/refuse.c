@@ -24,24 +24,17 @@ static int is_refused(void) {
   return 1;
 }
 
-#define REAL(name, type) static type real; if (!real) real = (type)dlsym(RTLD_NEXT, #name)
+/* What the C library has under this name. */
+#define REAL(name) \
+  static __typeof__(name) *real; \
+  if (!real) real = (__typeof__(name) *)dlsym(RTLD_NEXT, #name)
 
 void *malloc(size_t size) {
-  REAL(malloc, void *(*)(size_t));
+  REAL(malloc);
   return is_refused() ? NULL : real(size);
 }
 
 void *realloc(void *old, size_t size) {
-  REAL(realloc, void *(*)(void *, size_t));
+  REAL(realloc);
   return is_refused() ? NULL : real(old, size);
-}
-
-void *aligned_alloc(size_t alignment, size_t size) {
-  REAL(aligned_alloc, void *(*)(size_t, size_t));
-  return is_refused() ? NULL : real(alignment, size);
-}
-
-int posix_memalign(void **to, size_t alignment, size_t size) {
-  REAL(posix_memalign, int (*)(void **, size_t, size_t));
-  return is_refused() ? ENOMEM : real(to, alignment, size);
 }
