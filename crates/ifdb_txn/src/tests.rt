@@ -1,46 +1,45 @@
-// What statements write, over plain rows of two tables: `note (id, number)` and `visit (id, note)`, each keyed by id.
+//! What statements write, over plain rows of two tables: `note (id, number)` and `visit (id, note)`, each keyed by id.
+//!
+//! Each kind of statement has a table of cases in a module of its own, which this one asks; `public` asks over a public state.
 ghost use Rattle.std.specs.Prelude.{◌≡◌, ◌∷◌, [], IfOk, IsTrue, length};
-ghost use Rattle.std.specs.List.{list_all};
 ghost use Rattle.ifdb_label.specs.Tags.{AreMade};
 ghost use Rattle.ifdb_row.specs.Seen.{are_rows_made};
 ghost use Rattle.ifdb_foreign.specs.Parents.{IsMade};
 ghost use Rattle.ifdb_txn.specs.Keyed.{are_keyed};
 ghost use Rattle.ifdb_bound.specs.Kinds.{same_kind};
-ghost use Rattle.ifdb_bound.specs.declared.request.Bound.TheVariants as bound;
-ghost use Rattle.ifdb_catalog.specs.Fits.{bound_fits, is_table};
-ghost use Rattle.ifdb_catalog.specs.Public.{table_at};
 ghost use Rattle.ifdb_catalog.specs.Scope.{kinds_of};
 ghost use Rattle.ifdb_catalog.specs.Statements.{values_fit};
 
-use crate::statement::{Writer, delete_matched, insert_counted, update_matched, writes_of};
+use crate::statement::{delete_matched, insert_counted, update_matched};
 use crate::target::Target;
 use crate::written::Written;
 use ifdb_bound::{
-    Bound, BoundAssignment, BoundAssignments, BoundColumn, BoundCond, BoundExpr, BoundOperand,
-    Change, Foreign, Foreigns, Places, Schema,
+    BoundAssignment, BoundAssignments, BoundColumn, BoundCond, BoundExpr, BoundOperand, Foreign,
+    Foreigns, Places, Schema,
 };
-use ifdb_catalog::Catalog;
 use ifdb_foreign::Standpoint;
 use ifdb_label::{Label, Tag, TagFault, TagKind, Tags};
 use ifdb_plan::are_keyed;
-use ifdb_row::{Key, ListRows, OutOfMemory, Refs, Row, Slot, Values, Write};
+use ifdb_row::{Key, ListRows, OutOfMemory, Refs, Row, Slot, Write};
 use ifdb_value::{
-    Box, Column, Columns, Compare, Name, Principal, Shared, TableId, Value, ValueKind, ValueRow,
-    ValueRows,
+    Box, Column, Columns, Compare, Name, Shared, TableId, Value, ValueKind, ValueRow, ValueRows,
 };
 use ifdb_wire::Fault;
 use std::alloc::Global;
 use std::process::Abort;
 use std::test::Fail;
 
+mod delete;
+mod insert;
+mod public;
+mod update;
+
 /// A label of the only tag, or none.
-#[derive(Clone, Copy, Debug, PartialEq, Eq)]
+#[derive(Clone, Copy, PartialEq, Eq)]
 enum At {
     Low,
     High,
 }
-
-use At::{High, Low};
 
 /// Which table.
 #[derive(Clone, Copy)]
@@ -49,21 +48,19 @@ enum Which {
     Visit,
 }
 
-use Which::{Note, Visit};
-
 /// A row: its table, its id, its other number, its label, and for a visit the label of its note.
 struct One(Which, i64, i64, At, At);
 
 static ROWS: [One; 9] = [
-    One(Note, 1, 5, Low, Low),
-    One(Note, 1, 6, High, Low),
-    One(Note, 2, 7, Low, Low),
-    One(Note, 3, i64::MAX, Low, Low),
-    One(Note, 4, 8, Low, Low),
-    One(Note, 9, 9, High, Low),
-    One(Visit, 10, 1, Low, Low),
-    One(Visit, 11, 1, High, High),
-    One(Visit, 12, 2, Low, Low),
+    One(Which::Note, 1, 5, At::Low, At::Low),
+    One(Which::Note, 1, 6, At::High, At::Low),
+    One(Which::Note, 2, 7, At::Low, At::Low),
+    One(Which::Note, 3, i64::MAX, At::Low, At::Low),
+    One(Which::Note, 4, 8, At::Low, At::Low),
+    One(Which::Note, 9, 9, At::High, At::Low),
+    One(Which::Visit, 10, 1, At::Low, At::Low),
+    One(Which::Visit, 11, 1, At::High, At::High),
+    One(Which::Visit, 12, 2, At::Low, At::Low),
 ];
 
 /// A condition.
@@ -77,8 +74,8 @@ enum Where {
 
 /// What a statement does.
 #[derive(Clone, Copy)]
-enum Does {
-    Insert(&'static [(i64, i64)]),
+enum Does<'a> {
+    Insert(&'a [(i64, i64)]),
     /// Sets the number.
     Set(i64, Where),
     /// Adds to the number.
@@ -88,10 +85,15 @@ enum Does {
     Delete(Where),
 }
 
-use Does::{Add, Delete, Insert, Keep, Set};
-
-/// A slot that is written, with the number of the row that is to stand there, and the label of the note that it is bound to.
-struct Wrote(i64, Option<i64>, Option<At>);
+/// A write, by the id of its slot.
+enum Wrote {
+    /// A row with this number that is bound to no other.
+    Row(i64, i64),
+    /// A row with this number that is bound to a note of this label.
+    Child(i64, i64, At),
+    /// No row.
+    Gone(i64),
+}
 
 /// How a statement comes out: how many rows it counts and what it writes, or its refusal.
 enum Comes {
@@ -99,316 +101,350 @@ enum Comes {
     Refused(Fault),
 }
 
-use Comes::{Refused, Writes};
-
 /// A table, the session's label, the label that is declassified, a statement, and how it comes out.
-struct Case(Which, At, At, Does, Comes);
+struct Case(Which, At, At, Does<'static>, Comes);
 
-static CASES: [Case; 29] = [
-    // New keys: what a label sees decides, the statement's own rows too.
-    Case(
-        Note,
-        Low,
-        Low,
-        Insert(&[(5, 50)]),
-        Writes(1, &[Wrote(5, Some(50), None)]),
-    ),
-    Case(
-        Note,
-        Low,
-        Low,
-        Insert(&[(9, 90)]),
-        Writes(1, &[Wrote(9, Some(90), None)]),
-    ),
-    Case(
-        Note,
-        High,
-        Low,
-        Insert(&[(9, 90)]),
-        Refused(Fault::DuplicateKey),
-    ),
-    Case(
-        Note,
-        High,
-        Low,
-        Insert(&[(2, 20)]),
-        Refused(Fault::DuplicateKey),
-    ),
-    Case(
-        Note,
-        Low,
-        Low,
-        Insert(&[(6, 1), (5, 2)]),
-        Writes(2, &[Wrote(5, Some(2), None), Wrote(6, Some(1), None)]),
-    ),
-    Case(
-        Note,
-        Low,
-        Low,
-        Insert(&[(5, 1), (6, 2), (5, 3)]),
-        Refused(Fault::DuplicateKey),
-    ),
-    Case(Note, Low, Low, Insert(&[]), Writes(0, &[])),
-    // Parents: the first row of the key that may serve, and the first row's refusal before the next row's.
-    Case(
-        Visit,
-        Low,
-        Low,
-        Insert(&[(20, 2)]),
-        Writes(1, &[Wrote(20, Some(2), Some(Low))]),
-    ),
-    Case(
-        Visit,
-        High,
-        Low,
-        Insert(&[(20, 1)]),
-        Writes(1, &[Wrote(20, Some(1), Some(High))]),
-    ),
-    Case(
-        Visit,
-        High,
-        High,
-        Insert(&[(20, 1)]),
-        Writes(1, &[Wrote(20, Some(1), Some(Low))]),
-    ),
-    Case(
-        Visit,
-        High,
-        Low,
-        Insert(&[(20, 2)]),
-        Refused(Fault::NoReference),
-    ),
-    Case(
-        Visit,
-        Low,
-        Low,
-        Insert(&[(20, 6)]),
-        Refused(Fault::NoReference),
-    ),
-    Case(
-        Visit,
-        Low,
-        Low,
-        Insert(&[(20, 6), (10, 1)]),
-        Refused(Fault::NoReference),
-    ),
-    Case(
-        Visit,
-        Low,
-        Low,
-        Insert(&[(10, 6), (20, 6)]),
-        Refused(Fault::DuplicateKey),
-    ),
-    // UPDATE: matched rows count, written with their values or not.
-    Case(Note, Low, Low, Set(0, Where::Id(6)), Writes(0, &[])),
-    Case(
-        Note,
-        Low,
-        Low,
-        Set(0, Where::Id(1)),
-        Writes(1, &[Wrote(1, Some(0), None)]),
-    ),
-    Case(
-        Note,
-        Low,
-        Low,
-        Keep(Where::Id(2)),
-        Writes(1, &[Wrote(2, Some(7), None)]),
-    ),
-    Case(
-        Note,
-        High,
-        Low,
-        Set(0, Where::Id(1)),
-        Refused(Fault::WriteLabel),
-    ),
-    Case(
-        Note,
-        High,
-        Low,
-        Set(0, Where::Number(6)),
-        Writes(1, &[Wrote(1, Some(0), None)]),
-    ),
-    Case(
-        Note,
-        High,
-        Low,
-        Set(0, Where::All),
-        Refused(Fault::WriteLabel),
-    ),
-    Case(
-        Note,
-        Low,
-        Low,
-        Add(1, Where::All),
-        Refused(Fault::OutOfRange),
-    ),
-    Case(
-        Note,
-        Low,
-        Low,
-        Add(-1, Where::NumberAbove(6)),
-        Writes(
-            3,
-            &[
-                Wrote(2, Some(6), None),
-                Wrote(3, Some(i64::MAX - 1), None),
-                Wrote(4, Some(7), None),
-            ],
-        ),
-    ),
-    // A child is bound anew where its column is assigned, whatever it is assigned.
-    Case(
-        Visit,
-        Low,
-        Low,
-        Set(4, Where::Id(10)),
-        Writes(1, &[Wrote(10, Some(4), Some(Low))]),
-    ),
-    Case(
-        Visit,
-        High,
-        High,
-        Keep(Where::Id(11)),
-        Writes(1, &[Wrote(11, Some(1), Some(Low))]),
-    ),
-    Case(
-        Visit,
-        Low,
-        Low,
-        Set(6, Where::All),
-        Refused(Fault::NoReference),
-    ),
-    // DELETE, also of rows that nothing matches.
-    Case(
-        Note,
-        Low,
-        Low,
-        Delete(Where::Id(4)),
-        Writes(1, &[Wrote(4, None, None)]),
-    ),
-    Case(Note, Low, Low, Delete(Where::Id(9)), Writes(0, &[])),
-    Case(
-        Note,
-        High,
-        Low,
-        Delete(Where::NumberAbove(8)),
-        Refused(Fault::WriteLabel),
-    ),
-    Case(
-        Visit,
-        Low,
-        Low,
-        Delete(Where::All),
-        Writes(2, &[Wrote(10, None, None), Wrote(12, None, None)]),
-    ),
-];
-
-#[test]
-fn statements_write_or_are_refused(rt: HostRuntime) -> Result<(), Fail> {
-    let alloc = rt.alloc();
-    for (place, case) in CASES.iter().enumerate() {
-        let Case(which, at, given, does, want) = case;
-        let came = came_of(&rt, alloc, *which, (*at, *given), *does)?;
-        is_as_wanted(&rt, place, came, want)?;
+/// Tests how each statement comes out.
+fn all_come(rt: &impl Abort, alloc: Global, cases: &[Case]) -> Result<(), Fail> {
+    let tags = one_tag(alloc)?;
+    for (place, case) in cases.iter().enumerate() {
+        comes_as_wanted(rt, alloc, &tags, place, case)?;
     }
     Ok(())
 }
 
-#[test]
-fn the_last_of_256_rows_clashes(rt: HostRuntime) -> Result<(), Fail> {
-    let alloc = rt.alloc();
-    let mut rows = ValueRows::new(alloc);
-    for number in 0..255i64 {
-        rows.push(values_of(alloc, number.wrapping_add(100), number)?)?;
+/// Tests how a statement comes out.
+fn comes_as_wanted(
+    rt: &impl Abort,
+    alloc: Global,
+    tags: &Tags,
+    place: usize,
+    case: &Case,
+) -> Result<(), Fail>
+    requires { length tags.now ≡ 1 }
+{
+    let Case(which, at, given, does, want) = case;
+    match came_of(rt, alloc, tags, (*which, *at, *given), *does)? {
+        Ok(written) => is_written_as(rt, place, &written, want),
+        Err(fault) => is_refused_as(rt, place, fault, want),
     }
-    let fits = insert_rows(&rt, alloc, rows.items())?.is_ok();
-    assert!(rt; fits);
-    rows.push(values_of(alloc, 4, 0)?)?;
-    let clashes = insert_rows(&rt, alloc, rows.items())?.err();
-    assert_eq!(rt; clashes, Some(Fault::DuplicateKey));
-    Ok(())
 }
 
-#[test]
-fn a_statement_writes_over_a_public_state(rt: HostRuntime) -> Result<(), Fail> {
-    let alloc = rt.alloc();
-    let catalog = with_notes(&rt, alloc)?;
-    let written = first_note(&rt, alloc, &catalog)?;
-    assert_eq!(rt; written.count(), 1);
-    assert_eq!(rt; written.into_writes().len(), 1);
-    Ok(())
-}
-
-/// The public state with the table of notes alone.
-fn with_notes(rt: &impl Abort, alloc: Global) -> Result<Catalog, Fail> {
-    let mut catalog = Catalog::opening(alloc)?;
-    let schema = note_of(alloc)?;
-    assert!(rt; catalog.relation(&schema.name).is_none());
-    catalog.apply(Change::Table {
-        asker: Principal(0),
-        schema,
-    })?;
-    Ok(catalog)
-}
-
-/// What an INSERT of one note writes, where there is none.
-fn first_note(rt: &impl Abort, alloc: Global, catalog: &Catalog) -> Result<Written, Fail> {
-    let values = values_of(alloc, 1, 2)?;
-    assert!(rt; takes(catalog, TableId(0), values.items()));
-    let insert = insert_of(alloc, values)?;
-    let written = written_by(alloc, catalog, &insert)?;
-    Ok(written)
-}
-
-/// An INSERT of one row into the first table.
-fn insert_of(alloc: Global, values: ValueRow) -> Result<Bound, OutOfMemory>
-    ensures { IfOk result (λ found. found ≡ bound.Insert 0 (values ∷ []) []) }
+/// What a statement of a table gives at a label, with another that is declassified.
+fn came_of(
+    rt: &impl Abort,
+    alloc: Global,
+    tags: &Tags,
+    asked: (Which, At, At),
+    does: Does<'_>,
+) -> Result<Result<Written, Fault>, Fail>
+    requires { length tags.now ≡ 1 }
 {
-    Ok(Bound::Insert {
-        table: TableId(0),
-        rows: ValueRows::single(alloc, values)?,
-        given: Label::empty(alloc),
-    })
-}
-
-/// What a statement writes where there are no rows.
-fn written_by(alloc: Global, catalog: &Catalog, found: &Bound) -> Result<Written, Fault>
-    requires { IsTrue (bound_fits catalog.now found.now) }
-{
-    let label = Label::empty(alloc);
-    let writer = Writer {
-        alloc,
-        catalog,
-        asker: Principal(0),
+    let (which, at, given) = asked;
+    let label = label_of(alloc, tags, at)?;
+    let given = label_of(alloc, tags, given)?;
+    let from = Standpoint {
+        tags,
         label: &label,
+        given: &given,
     };
-    writes_of(&writer, &ListRows::new(Vec::new(alloc)), found)
+    came_from(rt, alloc, from, which, does)
+}
+
+/// What a statement of a table gives from a standpoint.
+fn came_from(
+    rt: &impl Abort,
+    alloc: Global,
+    from: Standpoint<'_>,
+    which: Which,
+    does: Does<'_>,
+) -> Result<Result<Written, Fault>, Fail>
+    requires tags { length from.tags.now ≡ 1 }
+    requires label { AreMade (length from.tags.now) from.label.now }
+    requires given { AreMade (length from.tags.now) from.given.now }
+{
+    let schema = schema_of(alloc, which)?;
+    let target = Target {
+        alloc,
+        from,
+        table: table_of(which),
+        schema: &schema,
+    };
+    came_to(rt, &target, does)
+}
+
+/// What a statement gives over the rows.
+fn came_to(
+    rt: &impl Abort,
+    target: &Target<'_>,
+    does: Does<'_>,
+) -> Result<Result<Written, Fault>, Fail>
+    requires tags { length target.now.from.tags.now ≡ 1 }
+    requires label { AreMade (length target.now.from.tags.now) target.now.from.label.now }
+    requires given { AreMade (length target.now.from.tags.now) target.now.from.given.now }
+{
+    let rows = all_rows(target.alloc, target.from.tags)?;
+    assert!(rt; are_keyed(target.table, target.schema.key.items(), &rows));
+    let rows = ListRows::try_new(rows).ok_or("rows that rise")?;
+    Ok(did(target, &rows, does)?)
+}
+
+/// What a statement gives.
+fn did(
+    target: &Target<'_>,
+    rows: &ListRows,
+    does: Does<'_>,
+) -> Result<Result<Written, Fault>, OutOfMemory>
+    requires made { IsMade target.now.from rows.now }
+    requires keyed { IsTrue (are_keyed target.now.table target.now.schema.now.key rows.now) }
+{
+    match does {
+        Does::Insert(given) => inserted(target, rows, given),
+        Does::Set(number, cond) => updated(target, rows, literal(number), cond),
+        Does::Add(number, cond) => updated(target, rows, sum_with(target.alloc, number)?, cond),
+        Does::Keep(cond) => updated(target, rows, BoundExpr::Column(number_column()), cond),
+        Does::Delete(cond) => Ok(delete_matched(target, rows, &cond_of(cond))),
+    }
+}
+
+/// What an INSERT gives.
+fn inserted(
+    target: &Target<'_>,
+    rows: &ListRows,
+    given: &[(i64, i64)],
+) -> Result<Result<Written, Fault>, OutOfMemory>
+    requires { IsMade target.now.from rows.now }
+{
+    let values = all_values(target.alloc, given)?;
+    Ok(insert_counted(target, rows, values.items()))
+}
+
+/// What an UPDATE of the number gives.
+fn updated(
+    target: &Target<'_>,
+    rows: &ListRows,
+    expr: BoundExpr,
+    cond: Where,
+) -> Result<Result<Written, Fault>, OutOfMemory>
+    requires made { IsMade target.now.from rows.now }
+    requires keyed { IsTrue (are_keyed target.now.table target.now.schema.now.key rows.now) }
+{
+    let assignment = BoundAssignment { column: 1, expr };
+    let assignments = BoundAssignments::single(target.alloc, assignment)?;
+    Ok(update_matched(target, rows, assignments.items(), &cond_of(cond)))
+}
+
+/// Tests that a statement writes what is wanted.
+fn is_written_as(
+    rt: &impl Abort,
+    place: usize,
+    written: &Written,
+    want: &Comes,
+) -> Result<(), Fail> {
+    let Comes::Writes(count, wrote) = want else {
+        return Err(Fail::from("a refusal is wanted"));
+    };
+    assert_eq!(rt; written.count(), *count, "case {place}");
+    let writes = written.writes().items();
+    assert_eq!(rt; writes.len(), wrote.len(), "case {place}");
+    for (write, want) in writes.iter().zip(wrote.iter()) {
+        assert!(rt; is_write(write, want), "case {place}");
+    }
+    Ok(())
+}
+
+/// Tests that a statement is refused as is wanted.
+fn is_refused_as(rt: &impl Abort, place: usize, fault: Fault, want: &Comes) -> Result<(), Fail> {
+    match want {
+        Comes::Refused(want) => assert_eq!(rt; fault, *want, "case {place}"),
+        Comes::Writes(_, _) => return Err(Fail::from("writes are wanted")),
+    }
+    Ok(())
+}
+
+/// Whether a write is this one.
+fn is_write(write: &Write, want: &Wrote) -> bool {
+    match want {
+        Wrote::Row(id, number) => puts(write, *id, *number, None),
+        Wrote::Child(id, number, at) => puts(write, *id, *number, Some(*at)),
+        Wrote::Gone(id) => write.row.is_none() && is_id(write.slot.key.items(), *id),
+    }
+}
+
+/// Whether a write puts a row of these numbers into the slot of its id, bound to a note of this label or to none.
+fn puts(write: &Write, id: i64, number: i64, parent: Option<At>) -> bool {
+    match &write.row {
+        Some(row) => {
+            is_id(write.slot.key.items(), id)
+                && row.get().slot.is_same(&write.slot)
+                && are_numbers(row.get().values.items(), id, number)
+                && bound_at(row.get()) == parent
+        }
+        None => false,
+    }
+}
+
+/// Whether a key is this id.
+fn is_id(key: &[Value], id: i64) -> bool {
+    matches!(key, [Value::Int(found)] if *found == id)
+}
+
+/// Whether values are these two numbers.
+fn are_numbers(values: &[Value], id: i64, number: i64) -> bool {
+    matches!(values, [Value::Int(first), Value::Int(second)] if *first == id && *second == number)
+}
+
+/// The label of the note that a row is bound to, if it is bound to one.
+fn bound_at(row: &Row) -> Option<At> {
+    match row.refs.items() {
+        [parent] if parent.label.tags().is_empty() => Some(At::Low),
+        [_] => Some(At::High),
+        _ => None,
+    }
+}
+
+/// A number.
+fn literal(number: i64) -> BoundExpr {
+    BoundExpr::Literal(Value::Int(number))
+}
+
+/// The number of a row, and another added to it.
+fn sum_with(alloc: Global, number: i64) -> Result<BoundExpr, OutOfMemory> {
+    let left = Box::new(alloc, BoundExpr::Column(number_column()))?;
+    let right = Box::new(alloc, literal(number))?;
+    Ok(BoundExpr::Add(left, right))
+}
+
+/// The place of the number.
+fn number_column() -> BoundColumn {
+    BoundColumn {
+        source: 0,
+        column: 1,
+    }
+}
+
+/// A condition.
+fn cond_of(cond: Where) -> Option<BoundCond> {
+    match cond {
+        Where::All => None,
+        Where::Id(id) => Some(compared(0, Compare::Equal, id)),
+        Where::Number(number) => Some(compared(1, Compare::Equal, number)),
+        Where::NumberAbove(number) => Some(compared(1, Compare::Greater, number)),
+    }
+}
+
+/// A comparison of a column with a number.
+fn compared(column: usize, how: Compare, number: i64) -> BoundCond {
+    BoundCond::Compare {
+        left: BoundOperand::Column(BoundColumn { source: 0, column }),
+        how,
+        right: BoundOperand::Literal(Value::Int(number)),
+    }
+}
+
+/// The values of rows.
+fn all_values(alloc: Global, given: &[(i64, i64)]) -> Result<ValueRows, OutOfMemory> {
+    let mut rows = ValueRows::new(alloc);
+    for (id, number) in given {
+        rows.push(values_of(alloc, *id, *number)?)?;
+    }
+    Ok(rows)
+}
+
+/// The values of a row.
+fn values_of(alloc: Global, id: i64, number: i64) -> Result<ValueRow, OutOfMemory> {
+    let mut values = ValueRow::with_capacity(alloc, 2)?;
+    values.push(Value::Int(id))?;
+    values.push(Value::Int(number))?;
+    Ok(values)
+}
+
+/// One plain tag.
+fn one_tag(alloc: Global) -> Result<Tags, TagFault>
+    ensures { IfOk result (λ tags. length tags ≡ 1) }
+{
+    let mut tags = Tags::new(alloc);
+    tags.add(TagKind::Plain, &[])?;
+    Ok(tags)
+}
+
+/// A label.
+fn label_of(alloc: Global, tags: &Tags, at: At) -> Result<Label, OutOfMemory>
+    requires { length tags.now ≡ 1 }
+    ensures { IfOk result (λ label. AreMade (length tags.now) label) }
+{
+    match at {
+        At::Low => Label::reduce(alloc, tags, &[]),
+        At::High => Label::reduce(alloc, tags, &[Tag(0)]),
+    }
+}
+
+/// A table's number.
+fn table_of(which: Which) -> TableId {
+    match which {
+        Which::Note => TableId(0),
+        Which::Visit => TableId(1),
+    }
+}
+
+/// A table.
+fn schema_of(alloc: Global, which: Which) -> Result<Schema, Fail> {
+    match which {
+        Which::Note => note_of(alloc),
+        Which::Visit => visit_of(alloc),
+    }
 }
 
 /// The table of notes.
 fn note_of(alloc: Global) -> Result<Schema, Fail>
     ensures { IfOk result (λ s. (length s.columns ≡ 2) × (s.key ≡ 0 ∷ []) × (s.foreign ≡ [])) }
 {
-    let mut columns = Columns::new(alloc);
-    columns.push(column_of(alloc, "id")?)?;
-    columns.push(column_of(alloc, "number")?)?;
+    table_with(alloc, Foreigns::new(alloc))
+}
+
+/// The table of visits.
+fn visit_of(alloc: Global) -> Result<Schema, Fail> {
+    let note = Foreign {
+        columns: Places::single(alloc, 1)?,
+        parent: TableId(0),
+    };
+    table_with(alloc, Foreigns::single(alloc, note)?)
+}
+
+/// A table of an id and a number, with references of the number.
+fn table_with(alloc: Global, foreign: Foreigns) -> Result<Schema, Fail>
+    ensures { IfOk result (λ s. (length s.columns ≡ 2) × (s.key ≡ 0 ∷ []) × (s.foreign ≡ foreign)) }
+{
     Ok(Schema {
         name: name_of(alloc, "note")?,
-        columns,
+        columns: two_columns(alloc)?,
         key: Places::single(alloc, 0)?,
-        foreign: Foreigns::new(alloc),
+        foreign,
     })
 }
 
-/// Whether a table takes a row.
-#[tactic(auto, using(crate::proofs::TableAt::table_is))]
-fn takes(catalog: &Catalog, table: TableId, values: &[Value]) -> bool
-    ensures { IsTrue result → IsTrue (is_table catalog.now table) × IsTrue (values_fit (kinds_of (table_at catalog.now table).columns) values.now) }
+/// The columns of an id and a number.
+fn two_columns(alloc: Global) -> Result<Columns, Fail>
+    ensures { IfOk result (λ columns. length columns ≡ 2) }
 {
-    match catalog.table(table) {
-        Some(schema) => are_of_kinds(schema.columns.items(), values),
-        None => false,
+    let mut columns = Columns::single(alloc, column_of(alloc, "id")?)?;
+    columns.push(column_of(alloc, "number")?)?;
+    Ok(columns)
+}
+
+/// A column of numbers.
+fn column_of(alloc: Global, name: &str) -> Result<Column, Fail> {
+    Ok(Column {
+        name: name_of(alloc, name)?,
+        kind: ValueKind::Int,
+    })
+}
+
+/// A name.
+fn name_of(alloc: Global, name: &str) -> Result<Name, Fail> {
+    match Name::read(alloc, name) {
+        Ok(name) => Ok(name),
+        Err(_) => Err(Fail::from("a name")),
     }
 }
 
@@ -440,257 +476,6 @@ fn is_of_kind(kind: ValueKind, other: ValueKind) -> bool
     }
 }
 
-/// What an INSERT of notes at the empty label gives.
-fn insert_rows(
-    rt: &impl Abort,
-    alloc: Global,
-    values: &[ValueRow],
-) -> Result<Result<Written, Fault>, Fail> {
-    let tags = one_tag(alloc)?;
-    let rows = ListRows::try_new(all_rows(alloc, &tags)?).ok_or("rows that rise")?;
-    let label = label_of(alloc, &tags, Low)?;
-    let schema = schema_of(alloc, Note)?;
-    let target = Target {
-        alloc,
-        from: Standpoint {
-            tags: &tags,
-            label: &label,
-            given: &label,
-        },
-        table: TableId(0),
-        schema: &schema,
-    };
-    Ok(insert_counted(&target, &rows, values))
-}
-
-/// What a statement gives at a label, with another that is declassified.
-fn came_of(
-    rt: &impl Abort,
-    alloc: Global,
-    which: Which,
-    (at, given): (At, At),
-    does: Does,
-) -> Result<Result<Written, Fault>, Fail> {
-    let tags = one_tag(alloc)?;
-    let rows = all_rows(alloc, &tags)?;
-    let label = label_of(alloc, &tags, at)?;
-    let given = label_of(alloc, &tags, given)?;
-    let schema = schema_of(alloc, which)?;
-    let table = table_of(which);
-    assert!(rt; are_keyed(table, schema.key.items(), &rows));
-    let rows = ListRows::try_new(rows).ok_or("rows that rise")?;
-    let target = Target {
-        alloc,
-        from: Standpoint {
-            tags: &tags,
-            label: &label,
-            given: &given,
-        },
-        table,
-        schema: &schema,
-    };
-    Ok(did(&target, &rows, does)?)
-}
-
-/// What a statement gives.
-fn did(
-    target: &Target<'_>,
-    rows: &ListRows,
-    does: Does,
-) -> Result<Result<Written, Fault>, OutOfMemory>
-    requires made { IsMade target.now.from rows.now }
-    requires keyed { IsTrue (are_keyed target.now.table target.now.schema.now.key rows.now) }
-{
-    let alloc = target.alloc;
-    match does {
-        Insert(given) => {
-            let values = inserted(alloc, given)?;
-            Ok(insert_counted(target, rows, values.items()))
-        }
-        Set(number, cond) => {
-            let expr = BoundExpr::Literal(Value::Int(number));
-            updated(target, rows, expr, cond)
-        }
-        Add(number, cond) => {
-            let left = Box::new(alloc, BoundExpr::Column(number_column()))?;
-            let right = Box::new(alloc, BoundExpr::Literal(Value::Int(number)))?;
-            updated(target, rows, BoundExpr::Add(left, right), cond)
-        }
-        Keep(cond) => updated(target, rows, BoundExpr::Column(number_column()), cond),
-        Delete(cond) => Ok(delete_matched(target, rows, &cond_of(cond))),
-    }
-}
-
-/// What an UPDATE of the number gives.
-fn updated(
-    target: &Target<'_>,
-    rows: &ListRows,
-    expr: BoundExpr,
-    cond: Where,
-) -> Result<Result<Written, Fault>, OutOfMemory>
-    requires made { IsMade target.now.from rows.now }
-    requires keyed { IsTrue (are_keyed target.now.table target.now.schema.now.key rows.now) }
-{
-    let assignment = BoundAssignment { column: 1, expr };
-    let assignments = BoundAssignments::single(target.alloc, assignment)?;
-    Ok(update_matched(target, rows, assignments.items(), &cond_of(cond)))
-}
-
-/// Tests how a statement came out.
-fn is_as_wanted(
-    rt: &impl Abort,
-    place: usize,
-    came: Result<Written, Fault>,
-    want: &Comes,
-) -> Result<(), Fail> {
-    match (came, want) {
-        (Ok(written), Writes(count, wrote)) => {
-            assert_eq!(rt; written.count(), *count, "case {place}");
-            let writes = written.into_writes();
-            assert_eq!(rt; writes.len(), wrote.len(), "case {place}");
-            for (write, want) in writes.items().iter().zip(wrote.iter()) {
-                assert!(rt; is_written(write, want), "case {place}");
-            }
-        }
-        (Err(fault), Refused(want)) => assert_eq!(rt; fault, *want, "case {place}"),
-        _ => return Err(Fail::from("another answer")),
-    }
-    Ok(())
-}
-
-/// Whether a write is this one.
-fn is_written(write: &Write, want: &Wrote) -> bool {
-    let Wrote(id, number, parent) = want;
-    let is_key = matches!(write.slot.key.items(), [Value::Int(key)] if key == id);
-    match (&write.row, number) {
-        (None, None) => is_key,
-        (Some(row), Some(number)) => {
-            let row = row.get();
-            let is_row = row.slot.is_same(&write.slot)
-                && matches!(row.values.items(), [Value::Int(key), Value::Int(value)]
-                    if key == id && value == number);
-            is_key && is_row && bound_at(row) == *parent
-        }
-        _ => false,
-    }
-}
-
-/// The label of the note that a row is bound to, if it is bound to one.
-fn bound_at(row: &Row) -> Option<At> {
-    match row.refs.items() {
-        [parent] if parent.label.tags().is_empty() => Some(Low),
-        [_] => Some(High),
-        _ => None,
-    }
-}
-
-/// One plain tag.
-fn one_tag(alloc: Global) -> Result<Tags, TagFault>
-    ensures { IfOk result (λ tags. length tags ≡ 1) }
-{
-    let mut tags = Tags::new(alloc);
-    tags.add(TagKind::Plain, &[])?;
-    Ok(tags)
-}
-
-/// A label.
-fn label_of(alloc: Global, tags: &Tags, at: At) -> Result<Label, OutOfMemory>
-    requires { length tags.now ≡ 1 }
-    ensures { IfOk result (λ label. AreMade (length tags.now) label) }
-{
-    match at {
-        Low => Label::reduce(alloc, tags, &[]),
-        High => Label::reduce(alloc, tags, &[Tag(0)]),
-    }
-}
-
-/// A table's number.
-fn table_of(which: Which) -> TableId {
-    match which {
-        Note => TableId(0),
-        Visit => TableId(1),
-    }
-}
-
-/// A table.
-fn schema_of(alloc: Global, which: Which) -> Result<Schema, Fail> {
-    match which {
-        Note => note_of(alloc),
-        Visit => visit_of(alloc),
-    }
-}
-
-/// The table of visits.
-fn visit_of(alloc: Global) -> Result<Schema, Fail> {
-    let note = Foreign {
-        columns: Places::single(alloc, 1)?,
-        parent: TableId(0),
-    };
-    let mut schema = note_of(alloc)?;
-    schema.foreign.push(note)?;
-    Ok(schema)
-}
-
-/// A column of numbers.
-fn column_of(alloc: Global, name: &str) -> Result<Column, Fail> {
-    Ok(Column {
-        name: name_of(alloc, name)?,
-        kind: ValueKind::Int,
-    })
-}
-
-/// A name.
-fn name_of(alloc: Global, name: &str) -> Result<Name, Fail> {
-    match Name::read(alloc, name) {
-        Ok(name) => Ok(name),
-        Err(_) => Err(Fail::from("a name")),
-    }
-}
-
-/// The place of the number.
-fn number_column() -> BoundColumn {
-    BoundColumn {
-        source: 0,
-        column: 1,
-    }
-}
-
-/// A condition.
-fn cond_of(cond: Where) -> Option<BoundCond> {
-    match cond {
-        Where::All => None,
-        Where::Id(id) => Some(compared(0, Compare::Equal, id)),
-        Where::Number(number) => Some(compared(1, Compare::Equal, number)),
-        Where::NumberAbove(number) => Some(compared(1, Compare::Greater, number)),
-    }
-}
-
-/// A comparison of a column with a number.
-fn compared(column: usize, how: Compare, number: i64) -> BoundCond {
-    BoundCond::Compare {
-        left: BoundOperand::Column(BoundColumn { source: 0, column }),
-        how,
-        right: BoundOperand::Literal(Value::Int(number)),
-    }
-}
-
-/// The values of rows.
-fn inserted(alloc: Global, given: &[(i64, i64)]) -> Result<ValueRows, OutOfMemory> {
-    let mut rows = ValueRows::new(alloc);
-    for (id, number) in given {
-        rows.push(values_of(alloc, *id, *number)?)?;
-    }
-    Ok(rows)
-}
-
-/// The values of a row.
-fn values_of(alloc: Global, id: i64, number: i64) -> Result<ValueRow, OutOfMemory> {
-    let mut values = ValueRow::with_capacity(alloc, 2)?;
-    values.push(Value::Int(id))?;
-    values.push(Value::Int(number))?;
-    Ok(values)
-}
-
 /// The rows.
 fn all_rows(alloc: Global, tags: &Tags) -> Result<Vec<Shared<Row>>, OutOfMemory>
     requires { length tags.now ≡ 1 }
@@ -710,8 +495,8 @@ fn row_of(alloc: Global, tags: &Tags, one: &One) -> Result<Shared<Row>, OutOfMem
 {
     let One(which, id, number, at, parent) = one;
     let refs = match which {
-        Note => Refs::new(alloc),
-        Visit => Refs::single(alloc, slot_of(alloc, tags, Note, *number, *parent)?)?,
+        Which::Note => Refs::new(alloc),
+        Which::Visit => Refs::single(alloc, slot_of(alloc, tags, Which::Note, *number, *parent)?)?,
     };
     let row = Row {
         slot: slot_of(alloc, tags, *which, *id, *at)?,

@@ -1,0 +1,34 @@
+//! What DELETEs write, also of rows that nothing matches.
+use super::At::{High, Low};
+use super::Comes::{Refused, Writes};
+use super::Does::Delete;
+use super::Where::{All, Id, NumberAbove};
+use super::Which::{Note, Visit};
+use super::Wrote::Gone;
+use super::{Case, all_come};
+use ifdb_wire::Fault;
+use std::test::Fail;
+
+static CASES: [Case; 4] = [
+    Case(Note, Low, Low, Delete(Id(4)), Writes(1, &[Gone(4)])),
+    Case(Note, Low, Low, Delete(Id(9)), Writes(0, &[])),
+    Case(
+        Note,
+        High,
+        Low,
+        Delete(NumberAbove(8)),
+        Refused(Fault::WriteLabel),
+    ),
+    Case(
+        Visit,
+        Low,
+        Low,
+        Delete(All),
+        Writes(2, &[Gone(10), Gone(12)]),
+    ),
+];
+
+#[test]
+fn rows_are_deleted_or_refused(rt: HostRuntime) -> Result<(), Fail> {
+    all_come(&rt, rt.alloc(), &CASES)
+}
