@@ -1,4 +1,6 @@
 // The generator's script and what its run counts.
+ghost use Rattle.std.specs.Prelude.{◌<◌};
+
 use super::*;
 
 // The names of the five numbers, in their order.
