@@ -7,7 +7,7 @@ mod Keeping
 mod Landing
 mod Narrow
 mod Publishing
-mod RoomLaws
+pub mod RoomLaws
 mod Saying
 pub mod Spares
 mod Transactions

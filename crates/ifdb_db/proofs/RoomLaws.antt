@@ -56,13 +56,13 @@ at_open h n o = by (nat_lt 0 n) refl o where
 -- ---- what they are answered
 
 module _ (h : Hall) (st : State) (w : StandsFor h st) where
-  same_session : (n : ℕ) → session_of st n ≡ session_at (client_in h n)
+  pub same_session : (n : ℕ) → session_of st n ≡ session_at (client_in h n)
   same_session n = by (nat_lt 0 n) where
     by : (b : Bool) → cond b (slice_index_or st.sessions (n - 1) no_session) no_session ≡ session_at (cond b (slice_index_or h.clients (n - 1) no_client) no_client)
     by true = ap (λ l. slice_index_or l (n - 1) no_session) (sym w.sessions) ∙ index_map h.clients (n - 1)
     by false = refl
 
-  as_many : length h.clients ≡ length st.sessions
+  pub as_many : length h.clients ≡ length st.sessions
   as_many = sym (length-map h.clients session_at) ∙ ap length w.sessions
 
   over_at : (n : ℕ) → IsThere h n → IsOver st.log (client_in h n).txn

@@ -1,5 +1,5 @@
 -- What a step of the machine does to a room, and what a line of a session does.
-use Rattle.std.specs.Prelude.{◌≡◌, ℕ, ◌-◌, true, false, List, slice_set, Some, None, Result, Ok, Err}
+use Rattle.std.specs.Prelude.{◌≡◌, ℕ, ◌-◌, true, false, List, slice_set, Option, None, Result, Ok, Err}
 use Rattle.ifdb_wire.specs.declared.fault.Fault.{Fault}
 use Rattle.ifdb_wire.specs.declared.reply.Reply.{Reply}
 use Rattle.ifdb_wire.specs.Text.{IsUnbounded, reply_text}
@@ -21,9 +21,9 @@ GoesBy h g x = (st : State) → StandsFor h st → StandsFor g (next read_line s
 abbrev pub IsReplyTo : Hall → ℕ → List ℕ → Reply → Type 0
 IsReplyTo h n line r = (st : State) → StandsFor h st → r ≡ (outcome_of read_line st n line).reply
 
--- the text of that reply, told to a session of the number `shown`
-abbrev pub IsReplyText : Hall → ℕ → List ℕ → ℕ → List ℕ → Type 0
-IsReplyText h n line shown text = (st : State) → StandsFor h st → text ≡ reply_text (Some shown) (outcome_of read_line st n line).reply
+-- the text of that reply: in a script told to a session of the number `shown`, on a connection without a number
+abbrev pub IsReplyText : Hall → ℕ → List ℕ → Option ℕ → List ℕ → Type 0
+IsReplyText h n line shown text = (st : State) → StandsFor h st → text ≡ reply_text shown (outcome_of read_line st n line).reply
 
 -- ---- by what the room holds
 

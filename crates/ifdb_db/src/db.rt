@@ -109,6 +109,13 @@ impl Db {
         self.store.content().count()
     }
 
+    /// How many entries the log has.
+    pub fn count_entries(&self) -> u64
+        ensures { result ≡ self.now.count }
+    {
+        self.count
+    }
+
     /// What all see.
     fn seen(&self) -> Snapshot<'_>
         ensures seen { result ≡ self.now.seen }

@@ -66,20 +66,20 @@ impl Room {
         ensures memory { result ≡ false → out.new.text ≡ reply_text (Some 0) (Reply.Refused Fault.OutOfMemory) }
     {
         if self.open_next().is_err() {
-            say(out, 0, &Reply::Refused(Fault::OutOfMemory));
+            say(out, Some(0), &Reply::Refused(Fault::OutOfMemory));
             return false;
         }
-        say(out, shown, &Reply::Opened);
+        say(out, Some(shown), &Reply::Opened);
         true
     }
 
-    /// Asks a line for a session, and tells the reply to a session of the number `shown`. False is want of memory, which changes
-    /// nothing.
-    pub fn ask(&mut self, n: u64, shown: u64, line: &[u8], out: &mut Out) -> bool
+    /// Asks a line for a session, and tells the reply: in a script to a session of the number `shown`, on a connection without a
+    /// number. False is want of memory, which changes nothing.
+    pub fn ask(&mut self, n: u64, shown: Option<u64>, line: &[u8], out: &mut Out) -> bool
         ensures asked { result ≡ true → GoesBy self.old self.new (asks n line.now) }
         ensures told { result ≡ true → IsReplyText self.old n line.now shown out.new.text }
         ensures refused { result ≡ false → self.new ≡ self.old }
-        ensures memory { result ≡ false → out.new.text ≡ reply_text (Some shown) (Reply.Refused Fault.OutOfMemory) }
+        ensures memory { result ≡ false → out.new.text ≡ reply_text shown (Reply.Refused Fault.OutOfMemory) }
     {
         match self.reply(n, line) {
             Ok(reply) => say(out, shown, &reply),
@@ -134,6 +134,13 @@ impl Room {
         ensures none { result ≡ None → 2 ^ 64 ≤ length self.now.desk.seen.rows }
     {
         self.db.count_rows()
+    }
+
+    /// How many entries the log has: changes of the public state, and commits.
+    pub fn count_entries(&self) -> u64
+        ensures { result ≡ self.now.desk.count }
+    {
+        self.db.count_entries()
     }
 
     /// How many sessions were opened.
@@ -234,13 +241,13 @@ impl Room {
     }
 }
 
-/// Tells a reply to a session. False is want of memory, which only Label and Rows can meet.
-fn say(out: &mut Out, session: u64, reply: &Reply) -> bool
-    ensures told { result ≡ true → out.new.text ≡ reply_text (Some session) reply.now }
-    ensures memory { result ≡ false → out.new.text ≡ reply_text (Some session) (Reply.Refused Fault.OutOfMemory) }
+/// Tells a reply, to a session of a number or on a connection. False is want of memory, which only Label and Rows can meet.
+fn say(out: &mut Out, session: Option<u64>, reply: &Reply) -> bool
+    ensures told { result ≡ true → out.new.text ≡ reply_text session reply.now }
+    ensures memory { result ≡ false → out.new.text ≡ reply_text session (Reply.Refused Fault.OutOfMemory) }
     ensures unbounded { result ≡ false → IsUnbounded reply.now }
 {
-    out.speak_for(Some(session));
+    out.speak_for(session);
     out.put(reply)
 }
 

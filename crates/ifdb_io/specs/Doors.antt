@@ -1,13 +1,5 @@
 -- What the calls of a door and a site do to the links and doors that are told.
-use Rattle.std.specs.Prelude.{◌≡◌, ℕ, List, [], ◌∷◌, ◌++◌, Bool, true, false, Option, None, Some, Result, Ok, Err, ⊤}
-
--- what a site was asked for
-pub record Asked : Type 0 where
-  pub port : ℕ
-  -- how many doors
-  pub count : ℕ
-  -- the most links of each door
-  pub links : ℕ
+use Rattle.std.specs.Prelude.{◌≡◌, List, [], ◌∷◌, ◌++◌, Bool, true, false, Option, None, Some, Result, Ok, Err, ⊤}
 
 -- what is told stays as it was
 abbrev pub Stays : {A : Type 0} → Option A → Option A → Type 0

@@ -1,7 +1,7 @@
 // Doors, through which connections come, and sites, which have doors.
 ghost use Rattle.std.specs.Prelude.{◌≡◌, ◌<◌, ◌≤◌, ◌+◌, ℕ, List, Bool, true, Option, Some, IfOk, OnErr, All, vec_len, if◌then◌else◌};
 ghost use Rattle.ifdb_io.specs.Causes.{Rose, HasCause};
-ghost use Rattle.ifdb_io.specs.Doors.{Asked, Stays, LosesFirst, GainsLast, Becomes, TakesNext, is_link, is_end};
+ghost use Rattle.ifdb_io.specs.Doors.{Stays, LosesFirst, GainsLast, Becomes, TakesNext, is_link, is_end};
 
 use crate::{Failed, Link};
 use std::error::Error;
@@ -72,8 +72,21 @@ impl fmt::Display for SiteFault {
 
 impl Error for SiteFault {}
 
+/// What a site was asked for.
+#[derive(Clone, Copy, Debug, PartialEq, Eq)]
+pub struct Asked {
+    /// The port that the doors stand at.
+    pub port: u16,
+    /// How many doors.
+    pub count: usize,
+    /// The most links of each door.
+    pub links: u64,
+}
+
 /// Something that doors are had from.
 pub trait Site {
+    ghost use Rattle.ifdb_io.specs.declared.doors.Asked.{Asked};
+
     /// A door, which a worker may take to its thread, and which ends where it is dropped.
     type Door: Door + Send + Drop;
 

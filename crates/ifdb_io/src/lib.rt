@@ -4,7 +4,10 @@
 #![tactic(auto)]
 
 mod doors;
+mod duplex;
 mod lines;
+mod memory_door;
+mod memory_site;
 mod outside;
 mod reads;
 mod sinks;
@@ -13,8 +16,11 @@ mod sources;
 mod tests;
 mod writes;
 
-pub use doors::{Door, Site, SiteFault};
+pub use doors::{Asked, Door, Site, SiteFault};
+pub use duplex::{Duplex, MemoryLink, SureLink};
 pub use lines::{LONGEST_LINE, Line, LineFault, LineReader};
+pub use memory_door::MemoryDoor;
+pub use memory_site::MemorySite;
 pub use outside::{Failed, Link, Sink, Source};
 pub use sinks::{MemorySink, SureSink};
 pub use sources::{MemorySource, SureSource};

@@ -6,47 +6,6 @@ use super::*;
 use std::alloc::Global;
 use std::test::Fail;
 
-// A link of a source and a sink.
-#[derive(Drop)]
-struct Pipe<R, W> {
-    source: R,
-    sink: W,
-}
-
-impl<R: Source, W: Sink> Source for Pipe<R, W> {
-    ghost left = { λ pipe. R.left pipe.source };
-
-    ghost faults = { λ pipe. R.faults pipe.source };
-
-    ghost beside = { λ pipe. (W.written pipe.sink, W.faults pipe.sink, (W.beside pipe.sink).2) };
-
-    fn read(&mut self, buf: &mut [u8]) -> Result<usize, Failed> {
-        self.source.read(buf)
-    }
-}
-
-impl<R: Source, W: Sink> Sink for Pipe<R, W> {
-    ghost written = { λ pipe. W.written pipe.sink };
-
-    ghost faults = { λ pipe. W.faults pipe.sink };
-
-    ghost beside = { λ pipe. (R.left pipe.source, R.faults pipe.source, (W.beside pipe.sink).2) };
-
-    fn write(&mut self, piece: &[u8]) -> Result<usize, Failed> {
-        self.sink.write(piece)
-    }
-}
-
-impl<R: Source, W: Sink> Link for Pipe<R, W> {
-    ghost use Rattle.std.specs.Prelude.{refl};
-
-    ghost fixed = { λ pipe. (W.beside pipe.sink).2 };
-
-    ghost reading = { λ _. refl };
-
-    ghost writing = { λ _. refl };
-}
-
 // Reading a line of a link leaves what was written.
 fn next_of<K: Link>(reader: &mut LineReader, link: &mut K) -> Result<Line, LineFault>
     requires { reader.old.over ≡ false }
@@ -195,7 +154,7 @@ fn writes_in_pieces(rt: HostRuntime) -> Result<(), Fail> {
 #[test]
 fn link_of_sure_ends(rt: HostRuntime) -> Result<(), Fail> {
     let bytes = input(rt.alloc(), 3, "\n")?;
-    let mut link = Pipe {
+    let mut link = SureLink {
         source: SureSource::new(bytes, 2),
         sink: SureSink::new(rt.alloc(), 2, 4)?,
     };
@@ -205,5 +164,72 @@ fn link_of_sure_ends(rt: HostRuntime) -> Result<(), Fail> {
     assert_eq!(rt; reader.taken(), 4);
     assert_eq!(rt; reply(&mut link, b"!!"), Err(Failed));
     assert_eq!(rt; link.sink.bytes(), b"xxx!".as_slice());
+    Ok(())
+}
+
+// A link that gives nothing and takes so many bytes.
+fn link_of(alloc: Global, room: usize) -> Result<MemoryLink, OutOfMemory> {
+    Ok(MemoryLink {
+        source: MemorySource::new(Vec::new(alloc), 1, Vec::new(alloc)),
+        sink: MemorySink::new(alloc, 9, room, Vec::new(alloc))?,
+    })
+}
+
+// A door with links that take 0 bytes, 1 byte and so on, and fails at this call.
+fn door_of(alloc: Global, links: usize, fail: u64) -> Result<MemoryDoor<MemoryLink>, OutOfMemory> {
+    let mut all = Vec::new(alloc);
+    for room in 0..links {
+        all.push(link_of(alloc, room)?)?;
+    }
+    MemoryDoor::new(alloc, all, [fail].to_vec(alloc)?)
+}
+
+// Takes up to eight links of a door, writes to each and hands it back. How often the door failed.
+fn serve<D: Door>(door: &mut D) -> u64 {
+    let mut failures: u64 = 0;
+    for _ in 0..8 {
+        match door.next() {
+            Ok(Some(mut link)) => {
+                let _ = write_all(&mut link, b"hello");
+                door.done(link);
+            }
+            Ok(None) => break,
+            Err(Failed) => failures = failures.saturating_add(1),
+        }
+    }
+    failures
+}
+
+#[test]
+fn door_gives_its_links_in_order(rt: HostRuntime) -> Result<(), Fail> {
+    let mut door = door_of(rt.alloc(), 3, 1)?;
+    assert_eq!(rt; door.left(), 3);
+    assert_eq!(rt; serve(&mut door), 1);
+    assert_eq!(rt; door.left(), 0);
+    let back = door.back();
+    assert_eq!(rt; back.len(), 3);
+    for (link, want) in back.iter().zip(["", "h", "he"]) {
+        assert_eq!(rt; link.sink.bytes(), want.as_bytes());
+    }
+    Ok(())
+}
+
+#[test]
+fn site_gives_its_first_doors(rt: HostRuntime) -> Result<(), Fail> {
+    let mut doors = Vec::new(rt.alloc());
+    for links in 1..4 {
+        doors.push(door_of(rt.alloc(), links, 9)?)?;
+    }
+    let mut site = MemorySite::new(rt.alloc(), doors, [2].to_vec(rt.alloc())?);
+    let refusals = [(4, 9), (2, 1), (2, 9)];
+    for (count, links) in refusals {
+        let refused = site.doors(7070, count, links).err();
+        assert_eq!(rt; refused, Some(SiteFault::Failed), "{count} with {links}");
+    }
+    let doors = site.doors(7070, 2, 2)?;
+    assert_eq!(rt; doors.len(), 2);
+    site.close(doors);
+    assert_eq!(rt; site.back().len(), 2);
+    assert_eq!(rt; site.back()[1].left(), 2);
     Ok(())
 }

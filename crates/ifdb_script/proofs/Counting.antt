@@ -2,7 +2,7 @@
 use Rattle.std.proofs.Common.{◌≡◌, ℕ, ◌+◌, ◌<◌, ◌≤◌, Bool, true, false, List, [], ◌∷◌, ◌++◌, ◌∙◌, map, filter, length, refl, sym, ap, arith, Option, Some, None}
 use Rattle.std.specs.Prelude.{option_to_list}
 use Rattle.std.specs.List.{flat_map}
-use Rattle.std.proofs.lemmas.List.{append_assoc, map-append, length-append}
+use Rattle.std.proofs.lemmas.List.{map-append, length-append}
 use Rattle.std.proofs.lemmas.List.Concat.{flat_map-append}
 use Rattle.std.proofs.lemmas.List.Elements.{filter-append}
 use Rattle.ifdb_wire.specs.declared.reply.Reply.{Reply}
@@ -11,6 +11,7 @@ use Rattle.ifdb_model.specs.Step.{Reader}
 use Rattle.ifdb_model.specs.Run.{State, Step, Told, next, told, run, replies, opening}
 use Rattle.ifdb_model.specs.Script.{lines_of, line_steps, steps_of}
 use Rattle.ifdb_model.specs.Session.{Seen}
+use Rattle.ifdb_model.proofs.Runs.{run-append, replies-append}
 use Rattle.ifdb_db.specs.Reading.{read_line}
 use Rattle.ifdb_db.specs.Room.{Hall, StandsFor}
 use Rattle.ifdb_script.specs.declared.rehearsed.Rehearsed.{Rehearsed}
@@ -21,18 +22,6 @@ use Rattle.ifdb_script.specs.Rehearsing.{none_counted, one_if, counted, counted_
 same : {l l2 o o2 r r2 e e2 v v2 : ℕ} → l ≡ l2 → o ≡ o2 → r ≡ r2 → e ≡ e2 → v ≡ v2
     → ◌≡◌ {A = Rehearsed} (record { lines = l; ok = o; rows = r; errors = e; live = v }) (record { lines = l2; ok = o2; rows = r2; errors = e2; live = v2 })
 same a b c d f = λ i. record { lines = a i; ok = b i; rows = c i; errors = d i; live = f i }
-
--- ---- steps in two parts
-
-pub run_append : (read : Reader) (st : State) (first more : List Step) → run read st (first ++ more) ≡ run read (run read st first) more
-run_append read st [] more = refl
-run_append read st (x ∷ first) more = run_append read (next read st x) first more
-
-pub replies_append : (read : Reader) (st : State) (first more : List Step) → replies read st (first ++ more) ≡ replies read st first ++ replies read (run read st first) more
-replies_append read st [] more = refl
-replies_append read st (x ∷ first) more =
-    ap (λ all. told read st x ++ all) (replies_append read (next read st x) first more)
-    ∙ sym (append_assoc (told read st x) (replies read (next read st x) first) (replies read (run read (next read st x) first) more))
 
 number_append : (passes : Reply → Bool) (first more : List Told) → number_of passes (first ++ more) ≡ number_of passes first + number_of passes more
 number_append passes first more =
@@ -64,28 +53,31 @@ module _ (c : Rehearsed) (st : State) (text line behind : List ℕ) (reply : Opt
       ≡ one_of passes reply + number_of passes (replies read_line (run read_line st (line_steps line)) (steps_of behind))
   number_on passes =
       ap (λ ss. number_of passes (replies read_line st ss)) steps
-      ∙ ap (number_of passes) (replies_append read_line st (line_steps line) (steps_of behind))
+      ∙ ap (number_of passes) (replies-append read_line st (line_steps line) (steps_of behind))
       ∙ number_append passes (replies read_line st (line_steps line)) (replies read_line (run read_line st (line_steps line)) (steps_of behind))
       ∙ ap (λ n. n + number_of passes (replies read_line (run read_line st (line_steps line)) (steps_of behind))) (ap (λ rs. length (filter passes rs)) told_so ∙ one_passes passes reply)
 
   live_on : length (content_of (run read_line st (steps_of text)).log) ≡ length (content_of (run read_line (run read_line st (line_steps line)) (steps_of behind)).log)
-  live_on = ap (λ (s : State). length (content_of s.log)) (ap (run read_line st) steps ∙ run_append read_line st (line_steps line) (steps_of behind))
+  live_on = ap (λ (s : State). length (content_of s.log)) (ap (run read_line st) steps ∙ run-append read_line st (line_steps line) (steps_of behind))
+
+  -- the same, where the reply is this one
+  number_with : (passes : Reply → Bool) (r : Option Reply) → reply ≡ r → number_of passes (replies read_line st (steps_of text))
+      ≡ one_of passes r + number_of passes (replies read_line (run read_line st (line_steps line)) (steps_of behind))
+  number_with passes r e =
+      number_on passes ∙ ap (λ o. one_of passes o + number_of passes (replies read_line (run read_line st (line_steps line)) (steps_of behind))) e
 
   pub line_counted : counted_on c st text ≡ counted_on (counted c reply) (run read_line st (line_steps line)) behind
   line_counted = by reply refl where
+    many : length (lines_of text) ≡ length (line ∷ lines_of behind)
+    many = ap length lines
+
     by : (r : Option Reply) → reply ≡ r → counted_on c st text ≡ counted_on (counted c r) (run read_line st (line_steps line)) behind
-    by None e =
-        let many = ap length lines in
-        let ok = number_on is_ok ∙ ap (λ o. one_of is_ok o + number_of is_ok (replies read_line (run read_line st (line_steps line)) (steps_of behind))) e in
-        let rows = number_on is_rows ∙ ap (λ o. one_of is_rows o + number_of is_rows (replies read_line (run read_line st (line_steps line)) (steps_of behind))) e in
-        let errors = number_on is_error ∙ ap (λ o. one_of is_error o + number_of is_error (replies read_line (run read_line st (line_steps line)) (steps_of behind))) e in
-        same (omega (arith, many)) (omega (arith, ok)) (omega (arith, rows)) (omega (arith, errors)) live_on
-    by (Some r) e =
-        let many = ap length lines in
-        let ok = number_on is_ok ∙ ap (λ o. one_of is_ok o + number_of is_ok (replies read_line (run read_line st (line_steps line)) (steps_of behind))) e in
-        let rows = number_on is_rows ∙ ap (λ o. one_of is_rows o + number_of is_rows (replies read_line (run read_line st (line_steps line)) (steps_of behind))) e in
-        let errors = number_on is_error ∙ ap (λ o. one_of is_error o + number_of is_error (replies read_line (run read_line st (line_steps line)) (steps_of behind))) e in
-        same (omega (arith, many)) (omega (arith, ok)) (omega (arith, rows)) (omega (arith, errors)) live_on
+    by None e = same
+        (omega (arith, many)) (omega (arith, number_with is_ok None e)) (omega (arith, number_with is_rows None e))
+        (omega (arith, number_with is_error None e)) live_on
+    by (Some r) e = same
+        (omega (arith, many)) (omega (arith, number_with is_ok (Some r) e)) (omega (arith, number_with is_rows (Some r) e))
+        (omega (arith, number_with is_error (Some r) e)) live_on
 
 -- ---- the beginning and the end
 

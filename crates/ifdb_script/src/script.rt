@@ -163,7 +163,7 @@ fn ask(room: &mut Room, number: u64, request: &[u8], out: &mut Out)
     ensures { Does read_line room.old room.new (asks number request.now) out.new.text
         ⊎ Does read_line room.old room.new (refused number) out.new.text }
 {
-    room.ask(number, number, request, out);
+    room.ask(number, Some(number), request, out);
 }
 
 // Puts a refusal for a session, or for none, which is 0.
