@@ -1,0 +1,141 @@
+-- What the entries of others leave of a session.
+use Rattle.std.proofs.Common.{◌≡◌, ◌≢◌, ℕ, zero, suc, ◌+◌, ◌-◌, ◌<◌, ◌≤◌, Bool, true, false, List, [], ◌∷◌, ◌++◌, ◌∙◌, length, refl, sym, ap, subst, arith, cond}
+use Rattle.std.specs.Prelude.{◌==◌}
+use Rattle.std.proofs.lemmas.List.{append_assoc, append-nil, length-append}
+use mathlib.Core.Option.{some, some-injective}
+use mathlib.Core.List.{IsPrefix}
+use lib.ListN.{get_elem?}
+use Rattle.ifdb_turn.specs.Histories.{AllRight, NoRootsFrom}
+use Rattle.ifdb_turn.specs.Places.{times}
+use Rattle.ifdb_wire.specs.Text.{reply_text}
+use Rattle.ifdb_wire.specs.declared.fault.Fault.TheVariants as fault
+use Rattle.ifdb_wire.specs.declared.reply.Reply.TheVariants as reply
+use Rattle.std.specs.Prelude.{None}
+use Rattle.ifdb_model.specs.Session.{Session}
+use Rattle.ifdb_model.specs.Step.{Reader}
+use Rattle.ifdb_model.specs.Run.{State, session_of, run, outcome_of}
+use Rattle.ifdb_model.proofs.Runs.{run-append}
+use Rattle.ifdb_history.specs.declared.entry.Entry.{Entry}
+use Rattle.ifdb_history.specs.declared.entry.Kind.{Kind}
+use Rattle.ifdb_history.specs.declared.entry.Kind.TheVariants as kind
+use Rattle.ifdb_history.specs.History.{steps_of, flat, after, WasOpened, IsOpen, roots_from, HasRoot, IsRightKind, IsRight, Holds}
+use Rattle.ifdb_history.specs.Lines.{line_of, lines_of, text_of, texts_from, texts_of}
+use Rattle.ifdb_history.proofs.Sessions.{open_was, kept_at_opening, kept_at_line, kept_at_leaving, one_more, as_many_at_line, as_many_at_leaving}
+use Rattle.ifdb_history.proofs.Flat.{after-append, lines-append, texts-append, root-append}
+
+-- the turn isn't of this session
+abbrev pub IsApart : ℕ → Kind → Type 0
+IsApart n kind.Opened = Unit {0}
+IsApart n (kind.Asked m line) = m ≢ n
+IsApart n (kind.Refused m line) = m ≢ n
+IsApart n (kind.Left m) = m ≢ n
+
+-- none of these entries is
+abbrev pub AreApart : ℕ → List Entry → Type 0
+AreApart n [] = Unit {0}
+AreApart n (e ∷ h) = IsApart n e.kind × AreApart n h
+
+other : (m n : ℕ) → m ≢ n → (m == n) ≡ false
+other m n ne = Rattle.std.proofs.Common.ne_eqb m n ne
+
+apart_line : (n : ℕ) (x : Kind) → IsApart n x → line_of n x ≡ []
+apart_line n kind.Opened a = refl
+apart_line n (kind.Asked m line) a = ap (λ b. cond b (line ∷ []) []) (other m n a)
+apart_line n (kind.Refused m line) a = ap (λ b. cond b (line ∷ []) []) (other m n a)
+apart_line n (kind.Left m) a = refl
+
+pub apart_lines : (n : ℕ) (h : List Entry) → AreApart n h → lines_of n h ≡ []
+apart_lines n [] a = refl
+apart_lines n (e ∷ h) a = ap (λ l. l ++ lines_of n h) (apart_line n e.kind a.0) ∙ apart_lines n h a.1
+
+module _ (read : Reader) where
+  apart_text : (n : ℕ) (st : State) (x : Kind) → IsApart n x → text_of read n st x ≡ []
+  apart_text n st kind.Opened a = refl
+  apart_text n st (kind.Asked m line) a = ap (λ b. cond b (reply_text None (outcome_of read st m line).reply) [] ++ []) (other m n a)
+  apart_text n st (kind.Refused m line) a = ap (λ b. cond b (reply_text None (reply.Refused fault.OutOfMemory)) [] ++ []) (other m n a)
+  apart_text n st (kind.Left m) a = refl
+
+  pub apart_texts : (n : ℕ) (st : State) (h : List Entry) → AreApart n h → texts_from read n st h ≡ []
+  apart_texts n st [] a = refl
+  apart_texts n st (e ∷ h) a =
+      ap (λ l. l ++ texts_from read n (run read st (steps_of e.kind)) h) (apart_text n st e.kind a.0)
+      ∙ apart_texts n (run read st (steps_of e.kind)) h a.1
+
+  apart_session : (n : ℕ) (st : State) (x : Kind) → IsApart n x → WasOpened st n → session_of (run read st (steps_of x)) n ≡ session_of st n
+  apart_session n st kind.Opened a w = kept_at_opening read st n w
+  apart_session n st (kind.Asked m line) a w = kept_at_line read st m n line a w
+  apart_session n st (kind.Refused m line) a w = refl
+  apart_session n st (kind.Left m) a w = kept_at_leaving read st m n a w
+
+  was_opened : (n : ℕ) (st : State) (x : Kind) → WasOpened st n → WasOpened (run read st (steps_of x)) n
+  was_opened n st kind.Opened w = let e = one_more read st in let le = w.1 in (w.0, omega (arith, e, le))
+  was_opened n st (kind.Asked m line) w = let e = as_many_at_line read st m line in let le = w.1 in (w.0, omega (arith, e, le))
+  was_opened n st (kind.Refused m line) w = w
+  was_opened n st (kind.Left m) w = let e = as_many_at_leaving read st m in let le = w.1 in (w.0, omega (arith, e, le))
+
+  -- the session is as it was
+  pub apart_sessions : (n : ℕ) (st : State) (h : List Entry) → AreApart n h → WasOpened st n
+      → (session_of (run read st (flat h)) n ≡ session_of st n) × WasOpened (run read st (flat h)) n
+  apart_sessions n st [] a w = (refl, w)
+  apart_sessions n st (e ∷ h) a w =
+      let here = apart_session n st e.kind a.0 w in
+      let more = apart_sessions n (run read st (steps_of e.kind)) h a.1 (was_opened n st e.kind w) in
+      let parts = run-append read st (steps_of e.kind) (flat h) in
+      subst (λ (t : State). (session_of t n ≡ session_of st n) × WasOpened t n) (sym parts) (more.0 ∙ here, more.1)
+
+  -- ---- no entry of others is of a session whose root is one of ours
+
+  apart_root : (h : List Entry) (n place root : ℕ) (own : List ℕ) (x : Kind) → HasRoot h n place → 0 < times place own
+      → IsRightKind read h root x → times root own ≡ 0 → IsApart n x
+  apart_root h n place root own kind.Opened at mine right away = tt
+  apart_root h n place root own (kind.Asked m line) at mine right away = λ same. not_ours root right.1 away same where
+    not_ours : (root : ℕ) → HasRoot h m root → times root own ≡ 0 → m ≡ n → ⊥
+    not_ours root there none same =
+        let e : root ≡ place = some-injective root place (sym there ∙ ap (λ k. get_elem? (roots_from 0 h) (k - 1)) same ∙ at) in
+        let gone : times place own ≡ 0 = subst (λ k. times k own ≡ 0) e none in
+        omega (arith, gone, mine)
+  apart_root h n place root own (kind.Refused m line) at mine right away = λ same. not_ours root right.1 away same where
+    not_ours : (root : ℕ) → HasRoot h m root → times root own ≡ 0 → m ≡ n → ⊥
+    not_ours root there none same =
+        let e : root ≡ place = some-injective root place (sym there ∙ ap (λ k. get_elem? (roots_from 0 h) (k - 1)) same ∙ at) in
+        let gone : times place own ≡ 0 = subst (λ k. times k own ≡ 0) e none in
+        omega (arith, gone, mine)
+  apart_root h n place root own (kind.Left m) at mine right away = λ same. not_ours root right.1 away same where
+    not_ours : (root : ℕ) → HasRoot h m root → times root own ≡ 0 → m ≡ n → ⊥
+    not_ours root there none same =
+        let e : root ≡ place = some-injective root place (sym there ∙ ap (λ k. get_elem? (roots_from 0 h) (k - 1)) same ∙ at) in
+        let gone : times place own ≡ 0 = subst (λ k. times k own ≡ 0) e none in
+        omega (arith, gone, mine)
+
+  at_middle : (h : List Entry) (e : Entry) (k : List Entry) → get_elem? (h ++ e ∷ k) (length h) ≡ some e
+  at_middle [] e k = refl
+  at_middle (x ∷ h) e k = at_middle h e k
+
+  others_apart : (n place : ℕ) (own : List ℕ) (h k : List Entry) → HasRoot h n place → 0 < times place own
+      → AllRight (IsRight read) (h ++ k) → NoRootsFrom (λ (e : Entry). e.root) (h ++ k) (length h) own → AreApart n k
+  others_apart n place own h [] at mine right away = tt
+  others_apart n place own h (e ∷ k) at mine right away =
+      let is : (h ++ e ∷ []) ++ k ≡ h ++ e ∷ k = append_assoc h (e ∷ []) k in
+      let long = length-append h (e ∷ []) in
+      let here = apart_root h n place e.root own e.kind at mine (right h e (k, is)) (away (length h) e (omega arith) (at_middle h e k)) in (
+        here,
+        others_apart n place own (h ++ e ∷ []) k (root-append h (e ∷ []) n place at) mine (subst (AllRight (IsRight read)) (sym is) right)
+            (subst (λ l. NoRootsFrom (λ (x : Entry). x.root) l (length (h ++ e ∷ [])) own) (sym is) (λ j x le there. away j x (omega (arith, le, long)) there)),
+      )
+
+  -- a longer history to which others alone added leaves the session, its lines and its texts
+  pub kept_among_others : (h log : List Entry) (own : List ℕ) (n : ℕ) → Holds read h own n → IsPrefix h log
+      → AllRight (IsRight read) log → NoRootsFrom (λ (e : Entry). e.root) log (length h) own
+      → Holds read log own n × (lines_of n log ≡ lines_of n h) × (texts_of read n log ≡ texts_of read n h)
+  kept_among_others h log own n holds front right away =
+      let k = front.0 in
+      let apart = others_apart n holds.1.0 own h k holds.1.1 holds.1.2
+      (subst (AllRight (IsRight read)) (sym front.1) right)
+      (subst (λ l. NoRootsFrom (λ (e : Entry). e.root) l (length h) own) (sym front.1) away) in
+      let same = apart_sessions n (after read h) k apart (open_was (after read h) n holds.0) in
+      let there : IsOpen (after read (h ++ k)) n = ap (λ (st : State). (session_of st n).is_open) (after-append read h k) ∙ ap (λ (s : Session). s.is_open) same.0 ∙ holds.0 in
+      subst (λ l. Holds read l own n × (lines_of n l ≡ lines_of n h) × (texts_of read n l ≡ texts_of read n h)) front.1 (
+        (there, (holds.1.0, root-append h k n holds.1.0 holds.1.1, holds.1.2)),
+        lines-append n h k ∙ ap (λ l. lines_of n h ++ l) (apart_lines n k apart) ∙ append-nil (lines_of n h),
+        texts-append read n h k ∙ ap (λ l. texts_of read n h ++ l) (apart_texts n (after read h) k apart) ∙ append-nil (texts_of read n h),
+      )

@@ -1,0 +1,109 @@
+-- The history of a served room, as steps of the machine. Lines are read by `read`.
+use Rattle.std.specs.Prelude.{◌≡◌, ℕ, ◌+◌, ◌-◌, ◌<◌, ◌≤◌, true, false, List, [], ◌∷◌, ◌++◌, length}
+use mathlib.Core.Option.{some, none}
+use mathlib.Core.Option as maybe
+use lib.ListN.{get_elem?}
+use Rattle.ifdb_turn.specs.Places.{times}
+use Rattle.ifdb_model.specs.Step.{Reader}
+use Rattle.ifdb_model.specs.Run.{State, session_of, Step, opens, asks, refused, leaves, opening, run}
+use Rattle.ifdb_history.specs.declared.entry.Entry.{Entry}
+use Rattle.ifdb_history.specs.declared.entry.Kind.{Kind}
+use Rattle.ifdb_history.specs.declared.entry.Kind.TheVariants as kind
+
+-- the steps that a turn stands for
+abbrev pub steps_of : Kind → List Step
+steps_of kind.Opened = opens ∷ []
+steps_of (kind.Asked n line) = asks n line ∷ []
+steps_of (kind.Refused n line) = refused n ∷ []
+steps_of (kind.Left n) = leaves n ∷ []
+
+-- the steps of a history, in their order
+abbrev pub flat : List Entry → List Step
+flat [] = []
+flat (e ∷ h) = steps_of e.kind ++ flat h
+
+-- the state after a history
+abbrev pub after : Reader → List Entry → State
+after read h = run read opening (flat h)
+
+-- ---- whose entries they are
+
+-- a session of this number was opened
+abbrev pub WasOpened : State → ℕ → Type 0
+WasOpened st n = (0 < n) × (n ≤ length st.sessions)
+
+-- it is open
+abbrev pub IsOpen : State → ℕ → Type 0
+IsOpen st n = (session_of st n).is_open ≡ true
+
+-- it was opened and is over
+abbrev pub IsShut : State → ℕ → Type 0
+IsShut st n = WasOpened st n × ((session_of st n).is_open ≡ false)
+
+-- the place of a turn, if it opened a session
+abbrev pub root_of : ℕ → Kind → List ℕ
+root_of place kind.Opened = place ∷ []
+root_of place (kind.Asked n line) = []
+root_of place (kind.Refused n line) = []
+root_of place (kind.Left n) = []
+
+-- the places of the turns that opened sessions, of a history that begins at a place
+abbrev pub roots_from : ℕ → List Entry → List ℕ
+roots_from place [] = []
+roots_from place (e ∷ h) = root_of place e.kind ++ roots_from (place + 1) h
+
+-- the session of this number was opened at this place
+abbrev pub HasRoot : List Entry → ℕ → ℕ → Type 0
+HasRoot h n place = get_elem? (roots_from 0 h) (n - 1) ≡ some place
+
+-- a turn may come right after the history: it opens a session, which is its own root, or it is of an open session and names
+-- the place where that was opened
+abbrev pub IsRightKind : Reader → List Entry → ℕ → Kind → Type 0
+IsRightKind read h root kind.Opened = root ≡ length h
+IsRightKind read h root (kind.Asked n line) = IsOpen (after read h) n × HasRoot h n root
+IsRightKind read h root (kind.Refused n line) = IsOpen (after read h) n × HasRoot h n root
+IsRightKind read h root (kind.Left n) = IsOpen (after read h) n × HasRoot h n root
+
+abbrev pub IsRight : Reader → List Entry → Entry → Type 0
+IsRight read h e = IsRightKind read h e.root e.kind
+
+-- the session is open, and the turn that opened it is among these places
+abbrev pub Holds : Reader → List Entry → List ℕ → ℕ → Type 0
+Holds read h own n = IsOpen (after read h) n × ((place : ℕ) × HasRoot h n place × (0 < times place own))
+
+-- ---- the entries that turns add
+
+-- a place, if there is one
+abbrev pub root_at : maybe.Option ℕ → ℕ
+root_at none = 0
+root_at (some place) = place
+
+-- the place where a session was opened
+abbrev pub root_in : List Entry → ℕ → ℕ
+root_in h n = root_at (get_elem? (roots_from 0 h) (n - 1))
+
+-- a session is opened
+abbrev pub opening_entry : List Entry → Entry
+opening_entry h = record { root = length h; kind = kind.Opened }
+
+-- a turn of a session that was opened
+abbrev pub entry_of : List Entry → ℕ → Kind → Entry
+entry_of h n x = record { root = root_in h n; kind = x }
+
+-- ---- the entries of a session
+
+-- the turn at this place is of the session, or opened it
+abbrev pub IsKindOf : ℕ → List Entry → ℕ → Kind → Type 0
+IsKindOf n h place kind.Opened = HasRoot h n place
+IsKindOf n h place (kind.Asked m line) = m ≡ n
+IsKindOf n h place (kind.Refused m line) = m ≡ n
+IsKindOf n h place (kind.Left m) = m ≡ n
+
+-- so is the entry at this place of the history
+abbrev pub IsEntryOf : ℕ → List Entry → ℕ → Type 0
+IsEntryOf n h place = (e : Entry) × (get_elem? h place ≡ some e) × IsKindOf n h place e.kind
+
+-- so are the entries at these places
+abbrev pub AreEntriesOf : ℕ → List Entry → List ℕ → Type 0
+AreEntriesOf n h [] = Unit {0}
+AreEntriesOf n h (place ∷ places) = IsEntryOf n h place × AreEntriesOf n h places

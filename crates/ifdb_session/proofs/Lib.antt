@@ -1,0 +1,6 @@
+pub mod Passes
+pub mod Talking
+pub mod Endings
+pub mod Serving
+pub mod Hosting
+pub mod Turned

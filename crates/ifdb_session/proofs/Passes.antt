@@ -1,0 +1,48 @@
+-- Passes that go on, and then go on again.
+use Rattle.std.proofs.Common.{◌≡◌, ℕ, Bool, true, false, List, [], ◌++◌, ◌∙◌, refl, sym, ap}
+use Rattle.std.proofs.lemmas.List.{append_assoc, append-nil}
+use mathlib.Core.List.{IsPrefix}
+use Rattle.ifdb_turn.specs.declared.turnstile.Turnstile.{Turnstile}
+use Rattle.ifdb_turn.specs.declared.turnstile.Pass.{Pass}
+use Rattle.ifdb_turn.specs.Passes.{history, places, BelongsTo, IsOrderly}
+use Rattle.ifdb_history.specs.declared.entry.Entry.{Entry}
+use Rattle.ifdb_history.specs.History.{after, Holds, IsRight, IsShut}
+use Rattle.ifdb_history.proofs.Entries.{entries_later, entries-append}
+use Rattle.ifdb_db.specs.Reading.{read_line}
+use Rattle.ifdb_session.specs.Passes.{Sees, Adds}
+use Rattle.ifdb_session.specs.Talk.{IsLeftSo}
+
+pub prefix_itself : {A : Type 0} (xs : List A) → IsPrefix xs xs
+prefix_itself xs = ([], append-nil xs)
+
+pub prefix-trans : {A : Type 0} (xs ys zs : List A) → IsPrefix xs ys → IsPrefix ys zs → IsPrefix xs zs
+prefix-trans xs ys zs p q = (p.0 ++ q.0, sym (append_assoc xs p.0 q.0) ∙ ap (λ l. l ++ q.0) p.1 ∙ q.1)
+
+module _ {X : Type 0} (hall : Turnstile X Entry) where
+  pub sees_itself : (pass : Pass X Entry) → BelongsTo hall pass → IsOrderly (IsRight read_line) pass → Sees hall pass pass
+  sees_itself pass belongs orderly = record { belongs = belongs; orderly = orderly; begins = prefix_itself _; shares = refl }
+
+  pub sees_on : (first mid last : Pass X Entry) → Sees hall first mid → Sees hall mid last → Sees hall first last
+  sees_on first mid last p q = record {
+    belongs = q.belongs;
+    orderly = q.orderly;
+    begins = prefix-trans _ _ _ p.begins q.begins;
+    shares = q.shares ∙ p.shares;
+  }
+
+module _ {X : Type 0} (n : ℕ) where
+  pub adds_none : (pass : Pass X Entry) → Adds n pass pass
+  adds_none pass = record { added = []; own = sym (append-nil _); of = tt }
+
+  pub adds_on : (first mid last : Pass X Entry) → Adds n first mid → Adds n mid last → IsPrefix (history mid) (history last) → Adds n first last
+  adds_on first mid last p q front = record {
+    added = p.added ++ q.added;
+    own = q.own ∙ ap (λ l. l ++ q.added) p.own ∙ append_assoc (places first) p.added q.added;
+    of = entries-append n (history last) p.added q.added (entries_later n (history mid) (history last) p.added front p.of) q.of;
+  }
+
+-- a session that is open or over, by what a turn said
+pub left_so : (n : ℕ) (h : List Entry) (own : List ℕ) (is_open : Bool) → (is_open ≡ true → Holds read_line h own n)
+    → (is_open ≡ false → IsShut (after read_line h) n) → IsLeftSo n h own is_open
+left_so n h own true goes over = goes refl
+left_so n h own false goes over = over refl

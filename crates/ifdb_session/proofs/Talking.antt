@@ -1,0 +1,140 @@
+-- Lines taken and texts written.
+use Rattle.std.proofs.Common.{◌≡◌, ℕ, suc, ◌+◌, false, List, [], ◌∷◌, ◌++◌, ◌∙◌, length, take, sym, ap, subst, arith, Option}
+use Rattle.std.proofs.lemmas.List.{append_assoc, append-nil, length-append}
+use Rattle.std.proofs.lemmas.List.Concat.{flat_map-append}
+use Rattle.std.specs.Io.KnownBytes.{Appends, Consumes}
+use Rattle.std.proofs.KnownBytes.{Appends-trans, Appends-nil, Consumes-trans, Consumes-nil}
+use Rattle.ifdb_io.specs.Causes.{WritesShort}
+use Rattle.ifdb_io.specs.Lines.{Reading, Gives, Ends as Stops, Exceeds, unskipped}
+use Rattle.ifdb_history.specs.declared.entry.Entry.{Entry}
+use Rattle.ifdb_history.specs.Lines.{lines_of, texts_of}
+use Rattle.ifdb_db.specs.Reading.{read_line}
+use Rattle.ifdb_session.specs.Links.{Took, with_newline, bytes_of, long_text}
+use Rattle.ifdb_session.specs.Talk.{Talks}
+
+bytes-snoc : (lines : List (List ℕ)) (line : List ℕ) → bytes_of (lines ++ line ∷ []) ≡ bytes_of lines ++ with_newline line
+bytes-snoc lines line = flat_map-append with_newline lines (line ∷ []) ∙ ap (λ l. bytes_of lines ++ l) (append-nil (with_newline line))
+
+-- ---- what a reader makes of the bytes that it takes, where no line is skipped
+
+gives_bytes : (old new : Reading) (b c : Option (List ℕ)) (bytes : List ℕ) (g : Gives old new b c bytes) → old.skipping ≡ false
+    → old.held ++ g.got ≡ bytes ++ new.held
+gives_bytes old new b c bytes g still =
+    ap (λ l. old.held ++ l) (sym (append-nil g.got))
+    ∙ ap (λ k. unskipped k (old.held ++ (g.got ++ []))) (sym still)
+    ∙ g.same []
+    ∙ ap (λ l. bytes ++ l) (append-nil new.held)
+
+stops_bytes : (old new : Reading) (b c : Option (List ℕ)) (g : Stops old new b c) → old.skipping ≡ false → old.held ++ g.got ≡ new.text
+stops_bytes old new b c g still = ap (λ k. unskipped k (old.held ++ g.got)) (sym still) ∙ g.all
+
+exceeds_bytes : (old new : Reading) (b c : Option (List ℕ)) (g : Exceeds old new b c) → old.skipping ≡ false → old.held ++ g.got ≡ new.text
+exceeds_bytes old new b c g still = ap (λ k. unskipped k (old.held ++ g.got)) (sym still) ∙ g.all
+
+-- what came behind some bytes
+consumes_on : (a b c : Option (List ℕ)) (bytes held got rest : List ℕ) → Consumes a b (bytes ++ held) → Consumes b c got → held ++ got ≡ rest
+    → Consumes a c (bytes ++ rest)
+consumes_on a b c bytes held got rest first then is =
+    subst (Consumes a c) (append_assoc bytes held got ∙ ap (λ l. bytes ++ l) is) (Consumes-trans a b c (bytes ++ held) got first then)
+
+take-more : (xs ys : List ℕ) (k : ℕ) → xs ++ take k ys ≡ take (length xs + k) (xs ++ ys)
+take-more [] ys k = let same : k ≡ 0 + k = omega arith in ap (λ j. take j ys) same
+take-more (x ∷ xs) ys k =
+    let same : suc (length xs + k) ≡ length (x ∷ xs) + k = omega arith in
+    ap (λ l. x ∷ l) (take-more xs ys k) ∙ ap (λ j. take j (x ∷ (xs ++ ys))) same
+
+-- of two texts the first was written, and a front of the second
+short_on : (a b c : Option (List ℕ)) (texts text all : List ℕ) → Appends a b texts → WritesShort b c text → all ≡ texts ++ text → WritesShort a c all
+short_on a b c texts text all first then is = subst (WritesShort a c) (sym is) (record {
+  n = length texts + then.n;
+  short = let few = then.short in let long = length-append texts text in omega (arith, few, long);
+  written = subst (Appends a c) (take-more texts text then.n) (Appends-trans a b c texts (take then.n text) first then.written);
+})
+
+module _ (n : ℕ) (h : List Entry) (old new : Reading) (a b w v : Option (List ℕ))
+    (so : Talks n h old (record { left = a; left_now = b; written = w; written_now = v })) where
+  abbrev pub lines : List (List ℕ)
+  lines = lines_of n h
+
+  -- ---- one line more
+
+  module _ (h' : List Entry) (c : Option (List ℕ)) (text : List ℕ) (g : Gives old new b c (new.text ++ 10 ∷ []))
+      (asked : lines_of n h' ≡ lines_of n h ++ new.text ∷ []) (told : texts_of read_line n h' ≡ texts_of read_line n h ++ text) where
+    pub line_bytes : bytes_of lines ++ ((new.text ++ 10 ∷ []) ++ new.held) ≡ bytes_of (lines_of n h') ++ new.held
+    line_bytes =
+        sym (append_assoc (bytes_of lines) (new.text ++ 10 ∷ []) new.held)
+        ∙ ap (λ l. l ++ new.held) (sym (bytes-snoc lines new.text) ∙ ap bytes_of (sym asked))
+
+    pub line_took : Took (lines_of n h') new.held (record { left = a; left_now = c; written = w; written_now = v })
+    line_took = subst (Consumes a c) line_bytes
+        (consumes_on a b c (bytes_of lines) old.held g.got ((new.text ++ 10 ∷ []) ++ new.held) so.took g.consumed (gives_bytes old new b c _ g so.still))
+
+    line_count : new.taken ≡ length (bytes_of (lines_of n h') ++ new.held)
+    line_count =
+        let bytes = ap length (gives_bytes old new b c _ g so.still) in
+        let all = ap length line_bytes in
+        let one = length-append (bytes_of lines) old.held in
+        let two = length-append old.held g.got in
+        let three = length-append (bytes_of lines) ((new.text ++ 10 ∷ []) ++ new.held) in
+        let before = so.count in
+        let now = g.count in
+        omega (arith, bytes, all, one, two, three, before, now)
+
+    pub talks_on : (u : Option (List ℕ)) → Appends v u text → new.over ≡ false → new.skipping ≡ false
+        → Talks n h' new (record { left = a; left_now = c; written = w; written_now = u })
+    talks_on u wrote over still = record {
+      took = line_took;
+      count = line_count;
+      wrote = subst (Appends w u) (sym told) (Appends-trans w v u (texts_of read_line n h) text so.wrote wrote);
+      over = over;
+      still = still;
+    }
+
+    pub wrote_short : (u : Option (List ℕ)) → WritesShort v u text → WritesShort w u (texts_of read_line n h')
+    wrote_short u short = short_on w v u (texts_of read_line n h) text (texts_of read_line n h') so.wrote short told
+
+  -- ---- a line that is too long
+
+  pub long_took : (c : Option (List ℕ)) → (g : Gives old new b c new.text) → Took lines (new.text ++ new.held) (record { left = a; left_now = c; written = w; written_now = v })
+  long_took c g = consumes_on a b c (bytes_of lines) old.held g.got (new.text ++ new.held) so.took g.consumed (gives_bytes old new b c _ g so.still)
+
+  pub wrote_long : (u : Option (List ℕ)) → Appends v u long_text → Appends w u (texts_of read_line n h ++ long_text)
+  wrote_long u wrote = Appends-trans w v u (texts_of read_line n h) long_text so.wrote wrote
+
+  pub wrote_front : (u : Option (List ℕ)) → (s : WritesShort v u long_text) → Appends w u (texts_of read_line n h ++ take s.n long_text)
+  wrote_front u s = Appends-trans w v u (texts_of read_line n h) (take s.n long_text) so.wrote s.written
+
+  -- ---- no line any more
+
+  pub rest_took : (c : Option (List ℕ)) → (g : Stops old new b c) → Took lines new.text (record { left = a; left_now = c; written = w; written_now = v })
+  rest_took c g = consumes_on a b c (bytes_of lines) old.held g.got new.text so.took g.consumed (stops_bytes old new b c g so.still)
+
+  pub past_took : (c : Option (List ℕ)) → (g : Exceeds old new b c) → Took lines (new.text ++ g.last ∷ []) (record { left = a; left_now = c; written = w; written_now = v })
+  past_took c g = consumes_on a b c (bytes_of lines) old.held (g.got ++ g.last ∷ []) (new.text ++ g.last ∷ []) so.took g.consumed
+      (sym (append_assoc old.held g.got (g.last ∷ [])) ∙ ap (λ l. l ++ g.last ∷ []) (exceeds_bytes old new b c g so.still))
+
+  pub past_limit : (c : Option (List ℕ)) → Exceeds old new b c → length (bytes_of lines ++ new.text) ≡ new.limit
+  past_limit c g =
+      let bytes = ap length (exceeds_bytes old new b c g so.still) in
+      let one = length-append (bytes_of lines) old.held in
+      let two = length-append old.held g.got in
+      let three = length-append (bytes_of lines) new.text in
+      let before = so.count in
+      let now = g.count in
+      let past = g.past in
+      omega (arith, bytes, one, two, three, before, now, past)
+
+-- ---- the beginning
+
+pub talks_first : (n : ℕ) (h : List Entry) (reader : Reading) (l w : Option (List ℕ)) → lines_of n h ≡ [] → texts_of read_line n h ≡ []
+    → reader ≡ record { text = []; held = []; skipping = false; taken = 0; limit = reader.limit; over = false }
+    → Talks n h reader (record { left = l; left_now = l; written = w; written_now = w })
+talks_first n h reader l w none silent is = record {
+  took = subst (Consumes l l) (sym bytes) (Consumes-nil l);
+  count = let k = ap length bytes in let t = ap (λ (r : Reading). r.taken) is in omega (arith, k, t);
+  wrote = subst (Appends w w) (sym silent) (Appends-nil w);
+  over = ap (λ (r : Reading). r.over) is;
+  still = ap (λ (r : Reading). r.skipping) is;
+} where
+  bytes : bytes_of (lines_of n h) ++ reader.held ≡ []
+  bytes = ap (λ (ls : List (List ℕ)). bytes_of ls ++ reader.held) none ∙ ap (λ (r : Reading). r.held) is

@@ -1,0 +1,28 @@
+use Rattle.std.proofs.Common.{◌≡◌, ◌≤◌}
+use Rattle.ifdb_io.specs.Lines.{budget}
+use Rattle.ifdb_turn.specs.Passes.{history, places}
+use Rattle.ifdb_history.specs.History.{Holds}
+use Rattle.ifdb_db.specs.Reading.{read_line}
+use Rattle.ifdb_session.specs.Passes.{Sees, Adds}
+use Rattle.ifdb_session.specs.Talk.{Talks}
+use Rattle.ifdb_session.proofs.link.talk.Given as goal
+
+-- the lines that were taken were asked, and their texts were written
+abbrev pub invariant-loop-pass : goal.invariant-loop-pass
+invariant-loop-pass g l = record {
+  sees : Sees l.hall l.fn.pass l.pass;
+  adds : Adds l.n l.fn.pass l.pass;
+  holds : Holds read_line (history l.pass) (places l.pass) l.n;
+  limit : l.reader.limit ≡ l.fn.reader.limit;
+  talks : Talks l.n (history l.pass) l.reader (record {
+    left = g.K.Source.left l.fn.link;
+    left_now = g.K.Source.left l.link;
+    written = g.K.Sink.written l.fn.link;
+    written_now = g.K.Sink.written l.link;
+  });
+  reads : g.K.Source.faults l.fn.link ≤ g.K.Source.faults l.link;
+  writes : g.K.Sink.faults l.fn.link ≤ g.K.Sink.faults l.link;
+}
+
+abbrev pub decreases-loop-pass : goal.decreases-loop-pass
+decreases-loop-pass g l = budget l.reader

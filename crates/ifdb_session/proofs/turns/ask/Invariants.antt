@@ -1,0 +1,12 @@
+use Rattle.std.proofs.Common.{Some}
+use Rattle.ifdb_turn.specs.Passes.{history}
+use Rattle.ifdb_turn.specs.Turns.{pass_of}
+use Rattle.ifdb_history.specs.declared.entry.Kind.TheVariants as kind
+use Rattle.ifdb_history.specs.History.{entry_of}
+use Rattle.ifdb_session.proofs.turns.ask.Given as goal
+
+abbrev pub ghosts-done_asked : goal.ghosts-done_asked
+ghosts-done_asked g a = record { entry = Some (entry_of (history (pass_of a.turn)) a.n (kind.Asked a.n a.line.now)) }
+
+abbrev pub ghosts-done_refused : goal.ghosts-done_refused
+ghosts-done_refused g a = record { entry = Some (entry_of (history (pass_of a.turn)) a.n (kind.Refused a.n a.line.now)) }

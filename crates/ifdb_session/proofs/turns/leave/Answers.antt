@@ -1,0 +1,43 @@
+use Rattle.std.proofs.Common.{rules, ◌<◌, inr, refl, sym, subst}
+use Rattle.ifdb_turn.specs.Passes.{history, places}
+use Rattle.ifdb_turn.specs.Places.{times}
+use Rattle.ifdb_turn.specs.Turns.{pass_of}
+use Rattle.ifdb_db.specs.Reading.{read_line}
+use Rattle.ifdb_db.specs.Room.{StandsFor}
+use Rattle.ifdb_history.specs.History.{after, root_in}
+use Rattle.ifdb_session.specs.declared.shared.SharedRoom.{SharedRoom}
+use Rattle.ifdb_session.proofs.Turned.{may_leave, ended_sees, ended_left_adds, ended_left_lines, ended_left_texts, ended_left_over}
+use Rattle.ifdb_session.proofs.turns.leave.Goals as goal
+
+pub done_left-requires-clause-entry : goal.done_left-requires-clause-entry
+done_left-requires-clause-entry g c =
+    let e = c.enter-turn.ensures in
+    let log = history (pass_of c.enter-turn.result) in
+    let stands = subst (λ (s : SharedRoom). StandsFor s.room (after read_line log)) (sym c.object.ensures.value) e.stands in
+    let m = may_leave (history c.args.pass.now) log (places c.args.pass.now) c.args.n c.requires.session e.begins e.orderly.0 e.own c.object.result.now.room c.leave.new.self.room stands c.leave.ensures in
+    (refl, (m.0, (m.1, inr (subst (λ l. 0 < times (root_in log c.args.n) l) (sym e.places) m.2))))
+
+pub returns-clause-sees : goal.returns-clause-sees
+returns-clause-sees g c =
+    let e = c.enter-turn.ensures in
+    let x = ended_sees c.args.hall.now c.args.pass.now _ _ _ c.done_left.ensures e.turnstile e.begins e.places e.shares in search rules
+
+pub returns-clause-adds : goal.returns-clause-adds
+returns-clause-adds g c =
+    let e = c.enter-turn.ensures in
+    let x = ended_left_adds c.args.hall.now c.args.pass.now _ _ _ c.done_left.ensures e.turnstile e.begins e.places e.shares c.args.n c.requires.session e.orderly.0 e.own refl in search rules
+
+pub returns-clause-over : goal.returns-clause-over
+returns-clause-over g c =
+    let e = c.enter-turn.ensures in
+    let x = ended_left_over c.args.hall.now c.args.pass.now _ _ _ c.done_left.ensures e.turnstile e.begins e.places e.shares c.args.n c.requires.session e.orderly.0 e.own refl in search rules
+
+pub returns-clause-lines : goal.returns-clause-lines
+returns-clause-lines g c =
+    let e = c.enter-turn.ensures in
+    let x = ended_left_lines c.args.hall.now c.args.pass.now _ _ _ c.done_left.ensures e.turnstile e.begins e.places e.shares c.args.n c.requires.session e.orderly.0 e.own refl in search rules
+
+pub returns-clause-texts : goal.returns-clause-texts
+returns-clause-texts g c =
+    let e = c.enter-turn.ensures in
+    let x = ended_left_texts c.args.hall.now c.args.pass.now _ _ _ c.done_left.ensures e.turnstile e.begins e.places e.shares c.args.n c.requires.session e.orderly.0 e.own refl in search rules

@@ -1,0 +1,25 @@
+-- How a turn ends.
+use Rattle.std.specs.Prelude.{◌≡◌, [], ◌∷◌, ◌++◌, length}
+use Rattle.ifdb_turn.specs.declared.turn.Turn.{Turn}
+use Rattle.ifdb_turn.specs.declared.turnstile.Pass.{Pass}
+use Rattle.ifdb_turn.specs.Passes.{history, places, shares, BelongsTo, IsOrderly}
+use Rattle.ifdb_turn.specs.Turns.{turnstile_of, pass_of}
+use Rattle.ifdb_db.specs.Reading.{read_line}
+use Rattle.ifdb_history.specs.declared.entry.Entry.{Entry}
+use Rattle.ifdb_history.specs.History.{IsRight}
+
+-- the turn of a pass has ended with this entry
+pub record EndsWith {X : Type 0} (turn : Turn X Entry) (pass : Pass X Entry) (e : Entry) : Type 0 where
+  pub belongs : BelongsTo (turnstile_of turn) pass
+  pub orderly : IsOrderly (IsRight read_line) pass
+  pub seen : history pass ≡ history (pass_of turn) ++ e ∷ []
+  pub own : places pass ≡ places (pass_of turn) ++ length (history (pass_of turn)) ∷ []
+  pub same : shares pass ≡ shares (pass_of turn)
+
+-- the turn of a pass has ended with no entry
+pub record EndsBare {X : Type 0} (turn : Turn X Entry) (pass : Pass X Entry) : Type 0 where
+  pub belongs : BelongsTo (turnstile_of turn) pass
+  pub orderly : IsOrderly (IsRight read_line) pass
+  pub seen : history pass ≡ history (pass_of turn)
+  pub own : places pass ≡ places (pass_of turn)
+  pub same : shares pass ≡ shares (pass_of turn)

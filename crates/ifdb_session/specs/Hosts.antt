@@ -1,0 +1,52 @@
+-- What a host does with the connections that it serves.
+use Rattle.std.specs.Prelude.{◌≡◌, ◌≢◌, ℕ, ◌+◌, ◌≤◌, ◌^◌}
+use Rattle.ifdb_io.specs.Causes.{Rose}
+use Rattle.ifdb_io.specs.declared.outside.Source as source
+use Rattle.ifdb_io.specs.declared.outside.Sink as sink
+use Rattle.ifdb_turn.specs.Passes.{places, BelongsTo, IsOrderly}
+use Rattle.ifdb_history.specs.History.{IsRight}
+use Rattle.ifdb_db.specs.Reading.{read_line}
+use Rattle.ifdb_session.specs.declared.ending.Ending.{Ending}
+use Rattle.ifdb_session.specs.declared.ending.Ending.TheVariants as ends
+use Rattle.ifdb_session.specs.declared.host.SessionHost.{SessionHost}
+use Rattle.ifdb_session.specs.Endings.{fault_of, capped}
+use Rattle.ifdb_session.specs.Passes.{Sees}
+use Rattle.ifdb_session.specs.Links.{Span, Served}
+
+-- the host's pass is its own, is at the turnstile and has no turn, and its limit is in range
+pub record IsHostReady {R K : Type 0} (h : SessionHost R K) : Type 0 where
+  pub belongs : BelongsTo h.hall.now h.pass
+  pub orderly : IsOrderly (IsRight read_line) h.pass
+  pub limit : h.limit ≤ 2 ^ 40
+
+-- how a connection was served: how it ended, and its session's number, if it has one
+pub record Service : Type 0 where
+  pub ending : Ending
+  pub number : ℕ
+
+module _ {K : Type 0} (sources : source.Ghosts K) (sinks : sink.Ghosts K) where
+  -- what a connection meant as it came and as it went
+  abbrev pub span_of : K → K → Span
+  span_of came went = record {
+    left = sources.left came;
+    left_now = sources.left went;
+    written = sinks.written came;
+    written_now = sinks.written went;
+  }
+
+  -- a connection that failed has counted so
+  pub record HasCauses (ending : Ending) (came went : K) : Type 0 where
+    pub read : ending ≡ ends.LinkRead → Rose (sources.faults came) (sources.faults went)
+    pub write : ending ≡ ends.LinkWrite → Rose (sinks.faults came) (sinks.faults went)
+
+  -- the host served one connection, by one session; or there was no memory for it, and it went as it came
+  pub record Serves {R : Type 0} (h : SessionHost R K) (came : K) (h' : SessionHost R K) (went : K) : Type 0 where
+    pub hall : h'.hall ≡ h.hall
+    pub limit : h'.limit ≡ h.limit
+    pub sees : Sees h.hall.now h.pass h'.pass
+    pub service : Service
+    pub served : service.ending ≢ ends.OutOfMemory → Served service.ending h.limit service.number h.pass h'.pass (span_of came went)
+    pub unserved : service.ending ≡ ends.OutOfMemory → went ≡ came
+    pub unopened : service.ending ≡ ends.OutOfMemory → places h'.pass ≡ places h.pass
+    pub causes : HasCauses service.ending came went
+    pub faults : h'.faults ≡ capped (h.faults + fault_of service.ending)

@@ -1,0 +1,75 @@
+-- What a connection gave and got, where its service ended so.
+use Rattle.std.specs.Prelude.{◌≡◌, ◌⊎◌, ℕ, ◌<◌, List, [], ◌∷◌, ◌++◌, length, take, flat_map, Option, None}
+use Rattle.std.specs.Io.KnownBytes.{Appends, Consumes, IsAtEnd}
+use Rattle.ifdb_io.specs.Causes.{WritesShort}
+use Rattle.ifdb_io.specs.Lines.{IsLine, IsLong}
+use Rattle.ifdb_wire.specs.declared.fault.Fault.TheVariants as fault
+use Rattle.ifdb_wire.specs.declared.reply.Reply.TheVariants as reply
+use Rattle.ifdb_wire.specs.Text.{reply_text}
+use Rattle.ifdb_turn.specs.declared.turnstile.Pass.{Pass}
+use Rattle.ifdb_turn.specs.Passes.{history, places}
+use Rattle.ifdb_db.specs.Reading.{read_line}
+use Rattle.ifdb_session.specs.Passes.{Adds}
+use Rattle.ifdb_history.specs.declared.entry.Entry.{Entry}
+use Rattle.ifdb_history.specs.History.{after, IsShut, HasRoot}
+use Rattle.ifdb_history.specs.Lines.{lines_of, texts_of}
+use Rattle.ifdb_session.specs.declared.ending.Ending.{Ending}
+use Rattle.ifdb_session.specs.declared.ending.Ending.TheVariants as ends
+
+-- a line and its newline
+abbrev pub with_newline : List ℕ → List ℕ
+with_newline line = line ++ 10 ∷ []
+
+-- the bytes of some lines
+abbrev pub bytes_of : List (List ℕ) → List ℕ
+bytes_of lines = flat_map with_newline lines
+
+-- what refuses a line that is too long
+abbrev pub long_text : List ℕ
+long_text = reply_text None (reply.Refused fault.TooLong)
+
+-- what a link meant before and now: the bytes that are left to read, and those that were written
+pub record Span : Type 0 where
+  pub left : Option (List ℕ)
+  pub left_now : Option (List ℕ)
+  pub written : Option (List ℕ)
+  pub written_now : Option (List ℕ)
+
+-- these lines came, and these bytes behind them
+abbrev pub Took : List (List ℕ) → List ℕ → Span → Type 0
+Took lines tail s = Consumes s.left s.left_now (bytes_of lines ++ tail)
+
+-- these bytes were written
+abbrev pub Wrote : List ℕ → Span → Type 0
+Wrote bytes s = Appends s.written s.written_now bytes
+
+-- The lines and the texts of a session, whose link was to give at most so many bytes and ended so. The tail is what was read
+-- behind the last line: after BYE and where writing failed it is anything, else a line without its newline, or the front of
+-- a line that is too long.
+abbrev pub Ends : Ending → ℕ → List (List ℕ) → List ℕ → Span → Type 0
+Ends ends.Bye limit lines texts s = ((tail : List ℕ) × Took lines tail s) × Wrote texts s
+Ends ends.End limit lines texts s = ((tail : List ℕ) × Took lines tail s × IsLine tail × IsAtEnd s.left_now) × Wrote texts s
+Ends ends.LinkRead limit lines texts s = ((tail : List ℕ) × Took lines tail s × IsLine tail) × Wrote texts s
+Ends ends.LinkWrite limit lines texts s =
+    (((tail : List ℕ) × Took lines tail s) × WritesShort s.written s.written_now texts)
+    ⊎ (((front : List ℕ) × (rest : List ℕ) × Took lines (front ++ rest) s × IsLong front)
+    × ((k : ℕ) × (k < length long_text) × Wrote (texts ++ take k long_text) s))
+Ends ends.TooMuch limit lines texts s =
+    ((tail : List ℕ) × (last : ℕ) × Took lines (tail ++ last ∷ []) s × IsLine tail × (length (bytes_of lines ++ tail) ≡ limit)) × Wrote texts s
+Ends ends.TooLong limit lines texts s =
+    ((front : List ℕ) × (rest : List ℕ) × Took lines (front ++ rest) s × IsLong front) × Wrote (texts ++ long_text) s
+Ends ends.OutOfMemory limit lines texts s = ⊥
+
+-- a link was served by session n of this history, which is over
+abbrev pub IsServed : Ending → ℕ → ℕ → List Entry → Span → Type 0
+IsServed ending limit n h s = IsShut (after read_line h) n × Ends ending limit (lines_of n h) (texts_of read_line n h) s
+
+-- What the service of a link did to the pass, where it opened session n: that was its first turn, and each of its turns was the
+-- session's.
+pub record Served {X : Type 0} (ending : Ending) (limit n : ℕ) (old new : Pass X Entry) (s : Span) : Type 0 where
+  pub place : ℕ
+  pub rest : List ℕ
+  pub first : HasRoot (history new) n place
+  pub own : places new ≡ places old ++ place ∷ rest
+  pub adds : Adds n old new
+  pub served : IsServed ending limit n (history new) s

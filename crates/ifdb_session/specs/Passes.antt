@@ -1,0 +1,34 @@
+-- What the turns of a session do to the pass that they are taken with.
+use Rattle.std.specs.Prelude.{◌≡◌, ℕ, List, [], ◌∷◌, ◌++◌}
+use mathlib.Core.List.{IsPrefix}
+use Rattle.ifdb_turn.specs.declared.turnstile.Turnstile.{Turnstile}
+use Rattle.ifdb_turn.specs.declared.turnstile.Pass.{Pass}
+use Rattle.ifdb_turn.specs.Passes.{history, places, shares, BelongsTo, IsOrderly}
+use Rattle.ifdb_db.specs.Reading.{read_line}
+use Rattle.ifdb_history.specs.declared.entry.Entry.{Entry}
+use Rattle.ifdb_history.specs.History.{HasRoot, IsRight, Holds, AreEntriesOf}
+use Rattle.ifdb_history.specs.Lines.{lines_of, texts_of}
+
+module _ {X : Type 0} where
+  -- the pass has seen more, in order, and has its shares still
+  pub record Sees (hall : Turnstile X Entry) (old new : Pass X Entry) : Type 0 where
+    pub belongs : BelongsTo hall new
+    pub orderly : IsOrderly (IsRight read_line) new
+    pub begins : IsPrefix (history old) (history new)
+    pub shares : shares new ≡ shares old
+
+  -- its own entries are the old ones, and then some of this session
+  pub record Adds (n : ℕ) (old new : Pass X Entry) : Type 0 where
+    pub added : List ℕ
+    pub own : places new ≡ places old ++ added
+    pub of : AreEntriesOf n (history new) added
+
+  -- the session of this number was opened by one turn, was asked nothing yet and told nothing
+  pub record IsNew (n : ℕ) (old new : Pass X Entry) : Type 0 where
+    pub place : ℕ
+    pub root : HasRoot (history new) n place
+    pub own : places new ≡ places old ++ place ∷ []
+    pub adds : Adds n old new
+    pub holds : Holds read_line (history new) (places new) n
+    pub lines : lines_of n (history new) ≡ []
+    pub texts : texts_of read_line n (history new) ≡ []

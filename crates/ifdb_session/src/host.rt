@@ -1,0 +1,55 @@
+// What serves the connections of one worker.
+ghost use Rattle.std.specs.Prelude.{◌≡◌};
+
+use crate::{SharedRoom, serve_link};
+use ifdb_io::Link;
+use ifdb_pool::Host;
+use ifdb_turn::{Pass, Turnstile};
+use std::alloc::Global;
+use std::marker::PhantomData;
+use std::sync::Wait;
+
+/// Serves connections with a pass of its own, one session each, and counts those that ended otherwise than by BYE or at
+/// the end of their input, up to 2^64 - 1.
+#[derive(Drop)]
+pub struct SessionHost<'a, R, K> {
+    /// What waits for turns.
+    pub rt: &'a R,
+    /// Where the readers and the replies of connections are taken from.
+    pub alloc: Global,
+    /// The room that all connections share.
+    pub hall: &'a Turnstile<SharedRoom>,
+    /// The host's own pass.
+    pub pass: Pass<SharedRoom>,
+    /// The most bytes that a connection may send.
+    pub limit: u64,
+    /// How many connections ended so.
+    pub faults: u64,
+    /// The kind of connection.
+    pub link: PhantomData<K>,
+}
+
+impl<'a, R: Wait, K: Link> Host for SessionHost<'a, R, K> {
+    ghost use Rattle.ifdb_session.specs.Hosts.{IsHostReady, Serves};
+
+    type Link = K;
+
+    ghost ready = { IsHostReady };
+
+    ghost serves = { Serves K.Source K.Sink };
+
+    fn serve(&mut self, link: &mut K) {
+        let faults = self.faults;
+        let ending = serve_link(
+            self.rt,
+            self.alloc,
+            self.hall,
+            &mut self.pass,
+            link,
+            self.limit,
+        );
+        if !ending.is_orderly() {
+            self.faults = faults.saturating_add(1);
+        }
+    }
+}

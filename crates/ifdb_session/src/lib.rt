@@ -1,0 +1,16 @@
+//! Sessions of connections: each connection is a session of one room, which all share by turns.
+#![tactic(auto)]
+
+mod ending;
+mod host;
+mod link;
+mod shared;
+#[cfg(test)]
+mod tests;
+mod turns;
+
+pub use ending::Ending;
+pub use host::SessionHost;
+pub use link::serve_link;
+pub use shared::SharedRoom;
+pub use std::alloc::AllocError as OutOfMemory;

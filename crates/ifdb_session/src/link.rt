@@ -1,0 +1,212 @@
+// One connection: its lines are asked one by one, and each reply is written before the next line is read.
+ghost use Rattle.std.specs.Prelude.{◌≡◌, ◌≢◌, ◌≤◌, ◌^◌, ◌++◌, ◌∷◌, [], ℕ, true, false, OnOk, OnErr};
+ghost use Rattle.std.specs.Io.KnownBytes.{Appends};
+ghost use Rattle.ifdb_io.specs.Causes.{HasCause, Rose, WritesShort};
+ghost use Rattle.ifdb_turn.specs.Passes.{history, places, BelongsTo, IsOrderly};
+ghost use Rattle.ifdb_wire.specs.Text.{reply_text};
+ghost use Rattle.ifdb_history.specs.History.{after, Holds, IsRight, IsShut};
+ghost use Rattle.ifdb_history.specs.Lines.{lines_of, texts_of};
+ghost use Rattle.ifdb_db.specs.Reading.{read_line};
+ghost use Rattle.ifdb_session.specs.Passes.{Sees, Adds};
+ghost use Rattle.ifdb_session.specs.Links.{Served, Span};
+ghost use Rattle.ifdb_session.specs.Talk.{IsTalked};
+
+use crate::turns::{ask, leave, open};
+use crate::{Ending, SharedRoom};
+use ifdb_io::{Failed, Line, LineFault, LineReader, Link, write_all};
+use ifdb_turn::{Pass, Turnstile};
+use ifdb_wire::{Fault, Out, Reply};
+use std::alloc::Global;
+use std::sync::Wait;
+
+// What became of a line: whether its session is open still, and whether the reply was written.
+#[derive(Clone, Copy, Debug, PartialEq, Eq)]
+struct Answered {
+    is_open: bool,
+    is_written: bool,
+}
+
+// How the lines ended, and whether the session is open still.
+#[derive(Clone, Copy, Debug, PartialEq, Eq)]
+struct Talked {
+    ending: Ending,
+    is_open: bool,
+}
+
+/// Serves a connection: opens a session, asks each line that comes and writes its reply, up to BYE, the end of the input, a
+/// failure, a line that is too long, or one byte more than the limit. A session that is open then leaves, and its
+/// transaction is dropped. A reader of 128 KiB and a buffer are taken before anything is read, and each line takes what its
+/// request does.
+///
+/// `LinkRead` and `LinkWrite` come only where the link's own count of such failures rose.
+pub fn serve_link<R: Wait, K: Link>(
+    rt: &R,
+    alloc: Global,
+    hall: &Turnstile<SharedRoom>,
+    pass: &mut Pass<SharedRoom>,
+    link: &mut K,
+    limit: u64,
+) -> Ending
+    requires pass { BelongsTo hall.now pass.old }
+    requires orderly { IsOrderly (IsRight read_line) pass.old }
+    requires limit { limit ≤ 2 ^ 40 }
+    ensures sees { Sees hall.now pass.old pass.new }
+    ensures served { result ≢ Ending.OutOfMemory → (n : ℕ) × Served result limit n pass.old pass.new (record {
+      left = K.left link.old;
+      left_now = K.left link.new;
+      written = K.written link.old;
+      written_now = K.written link.new;
+    }) }
+    ensures unserved { result ≡ Ending.OutOfMemory → link.new ≡ link.old }
+    ensures unopened { result ≡ Ending.OutOfMemory → places pass.new ≡ places pass.old }
+    ensures read_cause { result ≡ Ending.LinkRead → Rose (K.Source.faults link.old) (K.Source.faults link.new) }
+    ensures write_cause { result ≡ Ending.LinkWrite → Rose (K.Sink.faults link.old) (K.Sink.faults link.new) }
+{
+    let Ok(mut reader) = LineReader::new(alloc, limit) else {
+        return Ending::OutOfMemory;
+    };
+    let Ok(mut out) = Out::new(alloc) else {
+        return Ending::OutOfMemory;
+    };
+    let Ok(n) = open(rt, hall, pass) else {
+        return Ending::OutOfMemory;
+    };
+    let talked = talk(rt, hall, pass, n, &mut reader, &mut out, link);
+    if !talked.is_open {
+        return talked.ending;
+    }
+    leave(rt, hall, pass, n);
+    talked.ending
+}
+
+// Asks each line that comes, and writes its reply, to the end.
+fn talk<R: Wait, K: Link>(
+    rt: &R,
+    hall: &Turnstile<SharedRoom>,
+    pass: &mut Pass<SharedRoom>,
+    n: u64,
+    reader: &mut LineReader,
+    out: &mut Out,
+    link: &mut K,
+) -> Talked
+    requires pass { BelongsTo hall.now pass.old }
+    requires orderly { IsOrderly (IsRight read_line) pass.old }
+    requires session { Holds read_line (history pass.old) (places pass.old) n }
+    requires no_lines { lines_of n (history pass.old) ≡ [] }
+    requires no_texts { texts_of read_line n (history pass.old) ≡ [] }
+    requires reader { reader.old ≡ record {
+      text = [];
+      held = [];
+      skipping = false;
+      taken = 0;
+      limit = reader.old.limit;
+      over = false;
+    } }
+    ensures sees { Sees hall.now pass.old pass.new }
+    ensures adds { Adds n pass.old pass.new }
+    ensures talked { IsTalked n (history pass.new) (places pass.new) reader.old.limit (record {
+      left = K.left link.old;
+      left_now = K.left link.new;
+      written = K.written link.old;
+      written_now = K.written link.new;
+    }) result }
+    ensures read_cause { result.ending ≡ Ending.LinkRead
+        → Rose (K.Source.faults link.old) (K.Source.faults link.new) }
+    ensures write_cause { result.ending ≡ Ending.LinkWrite
+        → Rose (K.Sink.faults link.old) (K.Sink.faults link.new) }
+{
+    loop {
+        match reader.next(link) {
+            Ok(Line::Whole) => {
+                let answered = answer(rt, hall, pass, n, reader.text(), out, link);
+                let is_open = answered.is_open;
+                if !answered.is_written {
+                    return Talked {
+                        ending: Ending::LinkWrite,
+                        is_open,
+                    };
+                }
+                if !is_open {
+                    return Talked {
+                        ending: Ending::Bye,
+                        is_open,
+                    };
+                }
+            }
+            Ok(Line::TooLong) => {
+                let ending = match refuse_long(out, link) {
+                    Ok(()) => Ending::TooLong,
+                    Err(Failed) => Ending::LinkWrite,
+                };
+                return Talked {
+                    ending,
+                    is_open: true,
+                };
+            }
+            Ok(Line::Rest) | Ok(Line::End) => {
+                return Talked {
+                    ending: Ending::End,
+                    is_open: true,
+                };
+            }
+            Err(LineFault::Read) => {
+                return Talked {
+                    ending: Ending::LinkRead,
+                    is_open: true,
+                };
+            }
+            Err(LineFault::TooMuch) => {
+                return Talked {
+                    ending: Ending::TooMuch,
+                    is_open: true,
+                };
+            }
+        }
+    }
+}
+
+// Asks a line in a turn of its own, and writes the reply after it.
+fn answer<R: Wait, K: Link>(
+    rt: &R,
+    hall: &Turnstile<SharedRoom>,
+    pass: &mut Pass<SharedRoom>,
+    n: u64,
+    line: &[u8],
+    out: &mut Out,
+    link: &mut K,
+) -> Answered
+    requires pass { BelongsTo hall.now pass.old }
+    requires session { Holds read_line (history pass.old) (places pass.old) n }
+    ensures sees { Sees hall.now pass.old pass.new }
+    ensures adds { Adds n pass.old pass.new }
+    ensures session { result.is_open ≡ true → Holds read_line (history pass.new) (places pass.new) n }
+    ensures over { result.is_open ≡ false → IsShut (after read_line (history pass.new)) n }
+    ensures lines { lines_of n (history pass.new) ≡ lines_of n (history pass.old) ++ line.now ∷ [] }
+    ensures texts { texts_of read_line n (history pass.new) ≡ texts_of read_line n (history pass.old) ++ out.new.text }
+    ensures written { result.is_written ≡ true → Appends (K.written link.old) (K.written link.new) out.new.text }
+    ensures unwritten { result.is_written ≡ false → WritesShort (K.written link.old) (K.written link.new) out.new.text }
+    ensures cause { result.is_written ≡ false → Rose (K.Sink.faults link.old) (K.Sink.faults link.new) }
+    ensures later { K.Sink.faults link.old ≤ K.Sink.faults link.new }
+    ensures left { K.left link.new ≡ K.left link.old }
+    ensures reads { K.Source.faults link.new ≡ K.Source.faults link.old }
+{
+    let is_open = ask(rt, hall, pass, n, line, out);
+    let is_written = write_all(link, out.bytes()).is_ok();
+    Answered {
+        is_open,
+        is_written,
+    }
+}
+
+// Tells a connection that its line is too long.
+fn refuse_long<K: Link>(out: &mut Out, link: &mut K) -> Result<(), Failed>
+    ensures ok { OnOk result (Appends (K.written link.old) (K.written link.new) (reply_text None (Reply.Refused Fault.TooLong))) }
+    ensures err { OnErr result (WritesShort (K.written link.old) (K.written link.new) (reply_text None (Reply.Refused Fault.TooLong))) }
+    ensures cause { HasCause (K.Sink.faults link.old) (K.Sink.faults link.new) result }
+    ensures left { K.left link.new ≡ K.left link.old }
+    ensures reads { K.Source.faults link.new ≡ K.Source.faults link.old }
+{
+    out.speak_for(None);
+    out.put(&Reply::Refused(Fault::TooLong));
+    write_all(link, out.bytes())
+}
