@@ -1,4 +1,3 @@
-pub mod NoSite
 pub mod Status
 pub mod Texts
 pub mod Words

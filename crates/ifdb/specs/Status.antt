@@ -12,13 +12,13 @@ EndsWell OutOfMemory = Unit {0}
 EndsWell TooLarge = ⊥
 EndsWell SiteFault = ⊥
 
--- the usage line was to be written
+-- the usage line was to be written, or there was no memory to read the words
 abbrev pub IsUsage : Status → Type 0
 IsUsage Done = ⊥
 IsUsage Usage = Unit {0}
 IsUsage ReadFault = ⊥
 IsUsage WriteFault = Unit {0}
-IsUsage OutOfMemory = ⊥
+IsUsage OutOfMemory = Unit {0}
 IsUsage TooLarge = ⊥
 IsUsage SiteFault = ⊥
 
@@ -31,3 +31,13 @@ IsMade WriteFault = Unit {0}
 IsMade OutOfMemory = Unit {0}
 IsMade TooLarge = ⊥
 IsMade SiteFault = ⊥
+
+-- a script was run, or there was no memory to begin
+abbrev pub IsRunEnd : Status → Type 0
+IsRunEnd Done = Unit {0}
+IsRunEnd Usage = ⊥
+IsRunEnd ReadFault = Unit {0}
+IsRunEnd WriteFault = Unit {0}
+IsRunEnd OutOfMemory = Unit {0}
+IsRunEnd TooLarge = Unit {0}
+IsRunEnd SiteFault = ⊥

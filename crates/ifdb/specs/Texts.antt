@@ -1,4 +1,4 @@
--- What is written for other words than the one word `run`.
+-- What is written for other words than those of `run`.
 use Rattle.std.specs.Prelude.{◌≡◌, ℕ, List, [], Option, Some, None}
 use Rattle.std.specs.Io.KnownBytes.{Appends}
 use Rattle.ifdb_generate.specs.Script.{script}
@@ -6,10 +6,10 @@ use Rattle.ifdb_io.specs.Causes.{WritesShort}
 use Rattle.ifdb_script.specs.Rehearsal.{rehearsed, rehearsed_text}
 use Rattle.ifdb.specs.declared.top.Status.{Status}
 use Rattle.ifdb.specs.declared.top.Status.TheVariants as status
-use Rattle.ifdb.specs.declared.command.Command.{Command}
-use Rattle.ifdb.specs.declared.command.Command.TheVariants.{Run, Write}
-use Rattle.ifdb.specs.declared.command.Text.{Text}
-use Rattle.ifdb.specs.declared.command.Text.TheVariants.{Script, Counts}
+use Rattle.ifdb_words.specs.declared.command.Command.{Command}
+use Rattle.ifdb_words.specs.declared.command.Command.TheVariants.{Run, Serve, Write}
+use Rattle.ifdb_words.specs.declared.command.Text.{Text}
+use Rattle.ifdb_words.specs.declared.command.Text.TheVariants.{Script, Counts}
 use Rattle.ifdb.specs.Words.{usage_line}
 
 -- the generator's script, or what its run counts
@@ -17,10 +17,11 @@ abbrev pub text_of : Text → List ℕ
 text_of (Script n) = script n
 text_of (Counts n) = rehearsed_text (rehearsed (script n))
 
--- the text that is asked for; where the words are malformed the usage line
+-- the text that is asked for; where the program does nothing of the kind the usage line
 abbrev pub text_for : Option Command → List ℕ
 text_for None = usage_line
-text_for (Some Run) = []
+text_for (Some (Run limit)) = []
+text_for (Some (Serve service)) = usage_line
 text_for (Some (Write text)) = text_of text
 
 -- it was written whole, or a front of it where the output failed; where there was no memory nothing was

@@ -2,7 +2,6 @@
 #![tactic(auto)]
 
 mod adapters;
-mod command;
 mod no_site;
 #[cfg(test)]
 mod tests;

@@ -1,24 +1,15 @@
 // The site of a program that serves no connections.
 ghost use Rattle.std.specs.Prelude.{◌≡◌, None};
 ghost use Rattle.ifdb_io.specs.Doors.{Stays, Becomes};
-ghost use Rattle.ifdb.specs.NoSite.{asked_of};
 ghost use Rattle.ifdb.specs.declared.no_site.NoDoor.{NoDoor};
 
-use ifdb_io::{Door, Failed, Link, Sink, Site, SiteFault, Source};
+use ifdb_io::{Asked, Door, Failed, Link, Sink, Site, SiteFault, Source};
 
 /// A site without doors: to ask it for some is a fault.
 #[derive(Drop)]
 pub struct NoSite {
     failed: u64,
-    asked: Option<Asking>,
-}
-
-/// What a site was asked for last.
-#[derive(Clone, Copy)]
-pub struct Asking {
-    pub port: u16,
-    pub count: usize,
-    pub links: u64,
+    asked: Option<Asked>,
 }
 
 impl NoSite {
@@ -33,26 +24,25 @@ impl NoSite {
 
 impl Site for NoSite {
     ghost use Rattle.std.specs.Prelude.{None};
-    ghost use Rattle.ifdb.specs.NoSite.{asked_of};
 
     type Door = NoDoor;
 
     ghost faults = { λ s. s.failed };
 
-    ghost asked = { λ s. asked_of s.asked };
+    ghost asked = { λ s. s.asked };
 
     ghost waiting = { λ _. None };
 
     ghost back = { λ _. None };
 
     fn doors(&mut self, port: u16, count: usize, links: u64) -> Result<Vec<NoDoor>, SiteFault> {
-        self.asked = Some(Asking { port, count, links });
+        self.asked = Some(Asked { port, count, links });
         self.failed = self.failed.saturating_add(1);
         Err(SiteFault::Failed)
     }
 
     fn close(&mut self, doors: Vec<NoDoor>)
-        ensures asked { asked_of self.new.asked ≡ asked_of self.old.asked }
+        ensures asked { self.new.asked ≡ self.old.asked }
         ensures waiting { Stays {A = NoDoor} None None }
         ensures back { Becomes {A = NoDoor} None None doors.items }
         ensures faults { self.new.failed ≡ self.old.failed }

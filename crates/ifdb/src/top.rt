@@ -1,15 +1,16 @@
 // The one call that does all that the program does.
-ghost use Rattle.std.specs.Prelude.{◌≡◌, ◌≢◌, ◌+◌, ◌≤◌, ℕ, List, IfOk};
+ghost use Rattle.std.specs.Prelude.{◌≡◌, ◌≢◌, ◌+◌, ◌^◌, ◌≤◌, ℕ, List, IfOk};
 ghost use Rattle.ifdb_io.specs.Causes.{Rose};
 ghost use Rattle.ifdb_script.specs.Run.{RanWhole, RanFront, RanCut, CutsDontMatter, KeepsLevels};
-ghost use Rattle.ifdb.specs.Status.{EndsWell, IsMade, IsUsage};
+ghost use Rattle.ifdb.specs.Status.{EndsWell, IsMade, IsRunEnd, IsUsage};
 ghost use Rattle.ifdb.specs.Texts.{IsWritten, text_for, text_of};
-ghost use Rattle.ifdb.specs.Words.{IsMalformed, IsRun, command_of, usage_line};
+ghost use Rattle.ifdb.specs.Words.{IsOther, IsRefused, IsRun, usage_line};
+ghost use Rattle.ifdb_words.specs.Words.{command_of};
 
-use crate::command::{Command, Text, command_of};
 use ifdb_generate::{OutOfMemory, generated};
 use ifdb_io::{Failed, Sink, Site, Source, write_all};
 use ifdb_script::{ScriptEnd, rehearse, run_script};
+use ifdb_words::{Command, Text, command_of};
 use std::alloc::{AllocGlobal, Global};
 
 /// How the program ended. The exit status is the variant's place, from 0.
@@ -31,14 +32,12 @@ pub enum Status {
     SiteFault,
 }
 
-/// How many bytes of its input `run` takes for a script, where the words give no limit: 2^30.
-pub const DEFAULT_LIMIT: u64 = 1 << 30;
-
 const USAGE: &str =
     "usage: ifdb run [--limit N] | ifdb serve --port P [--workers W] [--links K] [--limit N] | ifdb generate [--run] N\n";
 
-/// Does what the words say, over this input, output and site. The words lack the program's name. So far these are understood: the one
-/// word `run`, which runs the input as a script, and `generate N` with or without `--run`.
+/// Does what the words say, over this input, output and site. The words lack the program's name. These are answered so far:
+/// `run [--limit N]`, which runs the input as a script, and `generate [--run] N`; `serve` is read, and answered as words that
+/// ask for nothing.
 #[tactic(auto, using(ifdb_script::proofs::RunLaws::cuts_dont_matter))]
 pub fn top<T: AllocGlobal, R: Source, W: Sink, S: Site>(
     rt: &T,
@@ -48,32 +47,32 @@ pub fn top<T: AllocGlobal, R: Source, W: Sink, S: Site>(
     site: &mut S,
 ) -> Status
     // The script's output.
-    ensures done { IsRun words.now → result ≡ Status.Done → RanWhole DEFAULT_LIMIT
+    ensures done { (limit : ℕ) → IsRun limit words.now → result ≡ Status.Done → RanWhole limit
         (R.left input.old) (R.left input.new) (W.written output.old) (W.written output.new) }
 
     ensures cuts { CutsDontMatter }
-    ensures two_worlds { IsRun words.now → result ≡ Status.Done → KeepsLevels DEFAULT_LIMIT
+    ensures two_worlds { (limit : ℕ) → IsRun limit words.now → result ≡ Status.Done → KeepsLevels limit
         (R.left input.old) (R.left input.new) (W.written output.old) (W.written output.new) }
 
     // Faults, and what was written before them.
     ensures read { result ≡ Status.ReadFault → Rose (R.faults input.old) (R.faults input.new) }
-    ensures read_front { result ≡ Status.ReadFault → RanFront (λ n. n ≤ DEFAULT_LIMIT)
+    ensures read_front { (limit : ℕ) → IsRun limit words.now → result ≡ Status.ReadFault → RanFront (λ n. n ≤ limit)
         (R.left input.old) (R.left input.new) (W.written output.old) (W.written output.new) }
     ensures write { result ≡ Status.WriteFault → Rose (W.faults output.old) (W.faults output.new) }
-    ensures write_front { result ≡ Status.WriteFault → IsRun words.now → RanCut DEFAULT_LIMIT
+    ensures write_front { (limit : ℕ) → IsRun limit words.now → result ≡ Status.WriteFault → RanCut limit
         (R.left input.old) (R.left input.new) (W.written output.old) (W.written output.new) }
-    ensures too_large { result ≡ Status.TooLarge → RanFront (λ n. n ≡ DEFAULT_LIMIT + 1)
+    ensures too_large { (limit : ℕ) → IsRun limit words.now → result ≡ Status.TooLarge → RanFront (λ n. n ≡ limit + 1)
         (R.left input.old) (R.left input.new) (W.written output.old) (W.written output.new) }
     ensures memory { result ≡ Status.OutOfMemory → (input.new ≡ input.old) × (output.new ≡ output.old) }
-    ensures complete { ¬ IsMalformed words.now → ¬ Rose (R.faults input.old) (R.faults input.new)
+    ensures complete { ¬ IsRefused words.now → ¬ Rose (R.faults input.old) (R.faults input.new)
         → ¬ Rose (W.faults output.old) (W.faults output.new) → result ≢ Status.TooLarge → EndsWell result }
 
-    // Other words than the one word `run`.
-    ensures usage { result ≡ Status.Usage → IsMalformed words.now }
-    ensures malformed { IsMalformed words.now → IsUsage result }
-    ensures text { ¬ IsRun words.now → IsWritten (text_for (command_of words.now)) result
+    // Other words than those of `run`.
+    ensures usage { result ≡ Status.Usage → IsRefused words.now }
+    ensures refused { IsRefused words.now → IsUsage result }
+    ensures text { IsOther words.now → IsWritten (text_for (command_of words.now)) result
         (W.written output.old) (W.written output.new) }
-    ensures other_input { ¬ IsRun words.now → input.new ≡ input.old }
+    ensures other_input { IsOther words.now → input.new ≡ input.old }
 
     // What is so at every end.
     ensures input_later { R.faults input.old ≤ R.faults input.new }
@@ -82,16 +81,12 @@ pub fn top<T: AllocGlobal, R: Source, W: Sink, S: Site>(
     ensures site_same { site.new ≡ site.old }
 {
     let _ = &site;
-    match command_of(words) {
-        None => write_usage(output),
-        Some(Command::Write(text)) => write_made(output, made(rt.alloc(), text)),
-        Some(Command::Run) => match run_script(rt.alloc(), input, output, DEFAULT_LIMIT) {
-            ScriptEnd::Done => Status::Done,
-            ScriptEnd::ReadFault => Status::ReadFault,
-            ScriptEnd::WriteFault => Status::WriteFault,
-            ScriptEnd::OutOfMemory => Status::OutOfMemory,
-            ScriptEnd::TooLarge => Status::TooLarge,
-        },
+    match command_of(rt.alloc(), words) {
+        Ok(Some(Command::Run { limit })) => run(rt.alloc(), input, output, limit),
+        Ok(Some(Command::Write(text))) => write_made(output, made(rt.alloc(), text)),
+        Ok(Some(Command::Serve(_))) => write_usage(output),
+        Ok(None) => write_usage(output),
+        Err(_) => Status::OutOfMemory,
     }
 }
 
@@ -100,6 +95,7 @@ fn write_usage<W: Sink>(output: &mut W) -> Status
     ensures ends { IsUsage result }
     ensures text { IsWritten usage_line result (W.written output.old) (W.written output.new) }
     ensures write { result ≡ Status.WriteFault → Rose (W.faults output.old) (W.faults output.new) }
+    ensures memory { result ≢ Status.OutOfMemory }
     ensures later { W.faults output.old ≤ W.faults output.new }
 {
     match write_all(output, USAGE.as_bytes()) {
@@ -133,5 +129,32 @@ fn made(alloc: Global, text: Text) -> Result<Vec<u8>, OutOfMemory>
     match text {
         Text::Script(size) => generated(alloc, size),
         Text::Counts(size) => rehearse(alloc, size)?.text(alloc),
+    }
+}
+
+/// Runs a script of at most so many bytes.
+fn run<R: Source, W: Sink>(alloc: Global, input: &mut R, output: &mut W, limit: u64) -> Status
+    requires { limit ≤ 2 ^ 40 }
+    ensures done { result ≡ Status.Done
+        → RanWhole limit (R.left input.old) (R.left input.new) (W.written output.old) (W.written output.new) }
+    ensures read { result ≡ Status.ReadFault → Rose (R.faults input.old) (R.faults input.new) }
+    ensures read_front { result ≡ Status.ReadFault → RanFront (λ n. n ≤ limit)
+        (R.left input.old) (R.left input.new) (W.written output.old) (W.written output.new) }
+    ensures write { result ≡ Status.WriteFault → Rose (W.faults output.old) (W.faults output.new) }
+    ensures write_front { result ≡ Status.WriteFault
+        → RanCut limit (R.left input.old) (R.left input.new) (W.written output.old) (W.written output.new) }
+    ensures too_large { result ≡ Status.TooLarge → RanFront (λ n. n ≡ limit + 1)
+        (R.left input.old) (R.left input.new) (W.written output.old) (W.written output.new) }
+    ensures memory { result ≡ Status.OutOfMemory → (input.new ≡ input.old) × (output.new ≡ output.old) }
+    ensures ends { IsRunEnd result }
+    ensures input_later { R.faults input.old ≤ R.faults input.new }
+    ensures output_later { W.faults output.old ≤ W.faults output.new }
+{
+    match run_script(alloc, input, output, limit) {
+        ScriptEnd::Done => Status::Done,
+        ScriptEnd::ReadFault => Status::ReadFault,
+        ScriptEnd::WriteFault => Status::WriteFault,
+        ScriptEnd::OutOfMemory => Status::OutOfMemory,
+        ScriptEnd::TooLarge => Status::TooLarge,
     }
 }

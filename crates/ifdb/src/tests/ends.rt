@@ -29,24 +29,38 @@ fn faults_have_their_status(rt: HostRuntime) -> Result<(), Fail> {
 }
 
 #[test]
+fn the_limit_of_the_words_is_kept(rt: HostRuntime) -> Result<(), Fail> {
+    let table = [
+        ("run --limit 4", Status::TooLarge, ""),
+        ("run --limit=5", Status::Done, "1 OPEN\n"),
+        ("run --limit 1099511627776", Status::Done, "1 OPEN\n"),
+        ("run", Status::Done, "1 OPEN\n"),
+    ];
+    for (words, status, written) in table {
+        let mut input = source(rt.alloc(), b"OPEN\n", 64)?;
+        let mut output = sink(rt.alloc(), 64)?;
+        assert_eq!(rt;
+            end_of(&rt, words, &mut input, &mut output)?,
+            status,
+            "{words}"
+        );
+        assert_eq!(rt; output.bytes(), written.as_bytes(), "{words}");
+    }
+    Ok(())
+}
+
+#[test]
 fn other_words_get_the_usage_line(rt: HostRuntime) -> Result<(), Fail> {
     for words in [
         "dance",
         "",
-        "run run",
         "Run",
+        "run run",
         "run --limit 0",
+        "serve",
         "serve --port 7070",
         "generate",
-        "generate 0",
-        "generate 10001",
-        "generate +8",
-        "generate 00000000000008",
-        "generate --run",
-        "generate --run --run",
         "generate --run=8",
-        "generate 8 8",
-        "generate --run 8 --run",
     ] {
         let mut input = source(rt.alloc(), b"OPEN\n", 64)?;
         let mut output = sink(rt.alloc(), 64)?;

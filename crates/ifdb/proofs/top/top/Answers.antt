@@ -1,6 +1,9 @@
-use Rattle.std.proofs.Common.{refl}
+use Rattle.std.proofs.Common.{rules}
+use Rattle.ifdb_script.specs.Run.{RanWhole}
 use Rattle.ifdb_script.proofs.RunLaws.{keeps_levels}
 use Rattle.ifdb.proofs.top.top.Goals as goal
 
-pub returns-in-Done-clause-two_worlds : goal.returns-in-Done-clause-two_worlds
-returns-in-Done-clause-two_worlds g c = λ run d. keeps_levels _ _ _ _ _ (c.run_script.ensures.done c.in-Done.is)
+pub returns-in-Ok-Some-Run-clause-two_worlds : goal.returns-in-Ok-Some-Run-clause-two_worlds
+returns-in-Ok-Some-Run-clause-two_worlds g c = λ limit is done.
+    let whole : RanWhole limit (g.R.Source.left c.args.input.now) (g.R.Source.left c.run.new.input) (g.W.Sink.written c.args.output.now) (g.W.Sink.written c.run.new.output) = search rules in
+    keeps_levels limit _ _ _ _ whole

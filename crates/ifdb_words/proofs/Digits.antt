@@ -9,7 +9,7 @@ use Rattle.std.proofs.lemmas.Bool.Decides.{nat_tests}
 use Rattle.std.proofs.lemmas.Int.Digits.{digits_value-lt}
 use Rattle.std.proofs.Math.Nat.{pow-le-pow_right}
 use Rattle.std.proofs.lemmas.Str.{digit_value_digit}
-use Rattle.ifdb.specs.Words.{number_of}
+use Rattle.ifdb_words.specs.Numbers.{number_of}
 
 digits_all : (bs : List ℕ) → list_all is_ascii_digit bs ≡ true → AllDigits 10 bs
 digits_all [] h = tt

@@ -1,0 +1,111 @@
+-- The numbers of a command are within their ranges.
+use Rattle.std.proofs.Common.{◌≡◌, ℕ, ◌≤◌, ◌^◌, ◌&&◌, Bool, true, false, refl, sym, subst, arith, List, [], ◌∷◌, Option, Some, None, codes, if◌then◌else◌}
+use Rattle.std.specs.Prelude.{nat_le, option_and_then, option_map, Result, Ok, Err, IfOk}
+use Rattle.std.specs.Str.{bytes_eq}
+use Rattle.std.proofs.lemmas.Bool.Decides.{nat_tests}
+use Rattle.ifdb_words.specs.declared.command.Command.{Command}
+use Rattle.ifdb_words.specs.declared.command.Command.TheVariants.{Run}
+use Rattle.ifdb_words.specs.Generate.{counts_for, generation_in, is_flag, script_for, size_of}
+use Rattle.ifdb_words.specs.Limit.{limit_of}
+use Rattle.ifdb_words.specs.Numbers.{up_to, needed_to, number_of, number_or, number_to}
+use Rattle.ifdb_words.specs.Options.{Use, uses_of, values_of}
+use Rattle.ifdb_words.specs.Ranges.{IsWithin}
+use Rattle.ifdb_words.specs.Run.{run_names, run_of}
+use Rattle.ifdb_words.specs.Serve.{links_of, port_of, serve_in, serve_names, serve_of, serve_with, workers_of}
+use Rattle.ifdb_words.specs.Words.{command_in}
+use Rattle.ifdb_words.proofs.Basics.{none_some, some_is}
+
+-- from 1 to this
+abbrev Within : ℕ → ℕ → Type 0
+Within most n = (1 ≤ n) × (n ≤ most)
+
+if_in : (most n m : ℕ) → up_to most n ≡ Some m → Within most m
+if_in most n m e = go (nat_le 1 n) (nat_le n most) refl refl e
+  where
+    go : (b c : Bool) → nat_le 1 n ≡ b → nat_le n most ≡ c → (if b && c then Some n else None) ≡ Some m → Within most m
+    go true true low high e =
+        let least : 1 ≤ n = grind (arith, nat_tests) in
+        let greatest : n ≤ most = grind (arith, nat_tests) in
+        subst (Within most) (some_is n m e) (least, greatest)
+    go true false low high e = absurd (none_some m e)
+    go false c low high e = absurd (none_some m e)
+
+number_in : (most : ℕ) (word : List ℕ) (m : ℕ) → number_to most word ≡ Some m → Within most m
+number_in most word m e = go (number_of word) e
+  where
+    go : (o : Option ℕ) → option_and_then (up_to most) o ≡ Some m → Within most m
+    go None e = absurd (none_some m e)
+    go (Some n) e = if_in most n m e
+
+needed_in : (most : ℕ) (word : Option (List ℕ)) (m : ℕ) → needed_to most word ≡ Some m → Within most m
+needed_in most None m e = absurd (none_some m e)
+needed_in most (Some word) m e = number_in most word m e
+
+default_in : (default most : ℕ) (word : Option (List ℕ)) (m : ℕ) → Within most default → number_or default most word ≡ Some m → Within most m
+default_in default most None m within e = subst (Within most) (some_is default m e) within
+default_in default most (Some word) m within e = number_in most word m e
+
+limit_in : (values : List ℕ → Option (List ℕ)) (n : ℕ) → limit_of values ≡ Some n → Within (2 ^ 40) n
+limit_in values n e = default_in (2 ^ 30) (2 ^ 40) (values (codes "limit")) n (omega arith, omega arith) e
+
+run_values : (values : List ℕ → Option (List ℕ)) → IsWithin (run_of values)
+run_values values = go (limit_of values) refl
+  where
+    go : (o : Option ℕ) → limit_of values ≡ o → IsWithin (option_map Run o)
+    go None e = tt
+    go (Some n) e = limit_in values n e
+
+serve_values : (values : List ℕ → Option (List ℕ)) → IsWithin (serve_of values)
+serve_values values = go (port_of values) (workers_of values) (links_of values) (limit_of values) refl refl refl refl
+  where
+    go : (p w l i : Option ℕ) → port_of values ≡ p → workers_of values ≡ w → links_of values ≡ l → limit_of values ≡ i → IsWithin (serve_with p w l i)
+    go None w l i ep ew el ei = tt
+    go (Some p) None l i ep ew el ei = tt
+    go (Some p) (Some w) None i ep ew el ei = tt
+    go (Some p) (Some w) (Some l) None ep ew el ei = tt
+    go (Some p) (Some w) (Some l) (Some i) ep ew el ei = record {
+      port = needed_in 65535 (values (codes "port")) p ep;
+      workers = default_in 4 64 (values (codes "workers")) w (omega arith, omega arith) ew;
+      links = default_in 1000000 1000000 (values (codes "links")) l (omega arith, omega arith) el;
+      limit = limit_in values i ei;
+    }
+
+-- what is asked for by the uses that were read
+by_uses : (of_values : (List ℕ → Option (List ℕ)) → Option Command) (uses : Option (List Use)) → ((values : List ℕ → Option (List ℕ)) → IsWithin (of_values values))
+    → IsWithin (option_and_then (λ (uses : List Use). of_values (values_of uses)) uses)
+by_uses of_values None within = tt
+by_uses of_values (Some uses) within = within (values_of uses)
+
+script_within : (o : Option ℕ) → IsWithin (script_for o)
+script_within None = tt
+script_within (Some n) = tt
+
+counts_within : (o : Option ℕ) → IsWithin (counts_for o)
+counts_within None = tt
+counts_within (Some n) = tt
+
+-- one of two
+either : (b : Bool) (c d : Option Command) → IsWithin c → IsWithin d → IsWithin (if b then c else d)
+either true c d first second = first
+either false c d first second = second
+
+generation_within : (words : List (List ℕ)) → IsWithin (generation_in words)
+generation_within [] = tt
+generation_within (word ∷ []) = script_within (size_of word)
+generation_within (word ∷ other ∷ []) =
+    either (is_flag word) _ _ (counts_within (size_of other)) (either (is_flag other) _ None (counts_within (size_of word)) tt)
+generation_within (word ∷ other ∷ third ∷ words) = tt
+
+command_within : (words : List (List ℕ)) → IsWithin (command_in words)
+command_within [] = tt
+command_within (word ∷ words) =
+    either (bytes_eq word (codes "run")) _ _ (by_uses run_of (uses_of run_names words) run_values)
+    (either (bytes_eq word (codes "serve")) _ _ (by_uses serve_of (uses_of serve_names words) serve_values)
+    (either (bytes_eq word (codes "generate")) _ None (generation_within words) tt))
+
+pub in_range : (words : List (List ℕ)) (c : Option Command) → c ≡ command_in words → IsWithin c
+in_range words c is = subst (λ (c : Option Command). IsWithin c) (sym is) (command_within words)
+
+pub serve_in_range : {E : Type 0} (words : List (List ℕ)) (r : Result (Option Command) E) → IfOk r (λ c. c ≡ serve_in words) → IfOk r IsWithin
+serve_in_range words (Ok c) is = subst (λ (c : Option Command). IsWithin c) (sym is) (by_uses serve_of (uses_of serve_names words) serve_values)
+serve_in_range words (Err e) is = tt

@@ -1,0 +1,34 @@
+-- The commands as clap knows them, and what the program takes of its answers.
+use Rattle.std.specs.Prelude.{◌≡◌, ◌⊎◌, ℕ, ◌&&◌, Bool, true, false, is_none, List, [], Option, Some, None, codes}
+use Rattle.std.specs.List.{list_any}
+use Rattle.clap.specs.Words.{App, Rule, HasMatchesOf, fault_of, new_app, new_rule, with_rule}
+use Rattle.clap.specs.declared.builder.action.ArgAction.TheVariants.{Set}
+use Rattle.clap.specs.declared.parser.matches.ArgMatches.{ArgMatches}
+use Rattle.ifdb_words.specs.Options.{is_hyphened, option_in}
+
+-- an option with a value
+abbrev pub option_of : List ℕ → Bool → Rule
+option_of name required = record (new_rule name) { long = Some name; required = required; action = Some Set }
+
+-- a command whose words don't begin with its name, and which answers no `--help`
+abbrev pub bared : App → App
+bared a = record { top = record a.top { no_binary_name = true; disable_help_flag = true }; subs = a.subs }
+
+abbrev pub bare_app : List ℕ → App
+bare_app name = bared (new_app name)
+
+abbrev pub run_app : App
+run_app = with_rule (bare_app (codes "run")) (option_of (codes "limit") false)
+
+abbrev pub serve_app : App
+serve_app = with_rule (with_rule (with_rule (with_rule (bare_app (codes "serve")) (option_of (codes "port") true))
+    (option_of (codes "workers") false)) (option_of (codes "links") false)) (option_of (codes "limit") false)
+
+-- a word that begins with a hyphen and is no option, as `-`, `--` and `-x`
+abbrev pub is_stray : List ℕ → Bool
+is_stray word = is_hyphened word && is_none (option_in word)
+
+-- clap takes the words and none is stray, or one is stray or clap refuses them
+abbrev pub IsTaken : App → List (List ℕ) → Option ArgMatches → Type 0
+IsTaken a words None = (list_any is_stray words ≡ true) ⊎ ((list_any is_stray words ≡ false) × ¬ (fault_of a words ≡ []))
+IsTaken a words (Some m) = (list_any is_stray words ≡ false) × ((fault_of a words ≡ []) × HasMatchesOf a words m)

@@ -1,0 +1,9 @@
+pub mod Clap
+pub mod Generate
+pub mod Limit
+pub mod Numbers
+pub mod Options
+pub mod Ranges
+pub mod Run
+pub mod Serve
+pub mod Words
