@@ -3,4 +3,5 @@ pub mod Talking
 pub mod Endings
 pub mod Serving
 pub mod Hosting
+pub mod Counting
 pub mod Turned

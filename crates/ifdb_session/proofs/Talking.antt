@@ -44,7 +44,7 @@ take-more (x ∷ xs) ys k =
     ap (λ l. x ∷ l) (take-more xs ys k) ∙ ap (λ j. take j (x ∷ (xs ++ ys))) same
 
 -- of two texts the first was written, and a front of the second
-short_on : (a b c : Option (List ℕ)) (texts text all : List ℕ) → Appends a b texts → WritesShort b c text → all ≡ texts ++ text → WritesShort a c all
+pub short_on : (a b c : Option (List ℕ)) (texts text all : List ℕ) → Appends a b texts → WritesShort b c text → all ≡ texts ++ text → WritesShort a c all
 short_on a b c texts text all first then is = subst (WritesShort a c) (sym is) (record {
   n = length texts + then.n;
   short = let few = then.short in let long = length-append texts text in omega (arith, few, long);

@@ -29,8 +29,17 @@ use Rattle.ifdb_history.proofs.Over.{opened_new}
 use Rattle.ifdb_history.proofs.Entries.{last_entry}
 use Rattle.ifdb_session.specs.Ends.{EndsBare, EndsWith}
 use Rattle.ifdb_session.specs.Passes.{Sees, Adds, IsNew}
-use Rattle.ifdb_session.specs.Turns.{IsNextNumber, IsLeftOpen, IsAnswered}
+use Rattle.ifdb_session.specs.declared.shared.SharedRoom.{SharedRoom}
+use Rattle.ifdb_session.specs.Standing.{StandsForHistory}
+use Rattle.ifdb_session.specs.Turns.{IsNextNumber, IsLeftOpen, IsAnswered, CountsTurn}
+use Rattle.ifdb_session.proofs.Counting.{stands_more}
 use Rattle.ifdb_session.proofs.Passes.{prefix-trans}
+
+-- the state after a line more
+goes_asked : (log : List Entry) (n : ℕ) (old new : Hall) (line : List ℕ) → StandsFor old (after read_line log) → GoesBy old new (asks n line)
+    → StandsFor new (after read_line (log ++ entry_of log n (kind.Asked n line) ∷ []))
+goes_asked log n old new line stands goes =
+    subst (StandsFor new) (sym (after-append read_line log (entry_of log n (kind.Asked n line) ∷ []))) (goes (after read_line log) stands)
 
 -- what a turn found: the history has grown by entries of others alone
 module _ (h log : List Entry) (own : List ℕ) (n : ℕ) (holds : Holds read_line h own n) (front : IsPrefix h log)
@@ -40,26 +49,31 @@ module _ (h log : List Entry) (own : List ℕ) (n : ℕ) (holds : Holds read_lin
 
   -- ---- the entry that it may add
 
-  pub may_ask : (old new : Hall) (line : List ℕ) → StandsFor old (after read_line log) → GoesBy old new (asks n line)
-      → StandsFor new (after read_line (log ++ entry_of log n (kind.Asked n line) ∷ []))
+  pub may_ask : (old new : SharedRoom) (line : List ℕ) → StandsForHistory old log → GoesBy old.room new.room (asks n line) → CountsTurn (kind.Asked n line) old new
+      → StandsForHistory new (log ++ entry_of log n (kind.Asked n line) ∷ [])
       × IsRight read_line log (entry_of log n (kind.Asked n line)) × (0 < times (root_in log n) own)
-  may_ask old new line stands goes =
+  may_ask old new line stands goes counts =
       let is = own_is_right read_line log own n kept.0 in
-      (subst (StandsFor new) (sym (after-append read_line log (entry_of log n (kind.Asked n line) ∷ []))) (goes (after read_line log) stands), is.0, is.1)
+      (stands_more old new log (entry_of log n (kind.Asked n line)) stands (goes_asked log n old.room new.room line stands.room goes) counts, is.0, is.1)
 
-  pub may_refuse : (room : Hall) (line : List ℕ) → StandsFor room (after read_line log)
-      → StandsFor room (after read_line (log ++ entry_of log n (kind.Refused n line) ∷ []))
+  pub may_refuse : (old new : SharedRoom) (line : List ℕ) → StandsForHistory old log → new.room ≡ old.room → CountsTurn (kind.Refused n line) old new
+      → StandsForHistory new (log ++ entry_of log n (kind.Refused n line) ∷ [])
       × IsRight read_line log (entry_of log n (kind.Refused n line)) × (0 < times (root_in log n) own)
-  may_refuse room line stands =
+  may_refuse old new line stands same counts =
       let is = own_is_right read_line log own n kept.0 in
-      (subst (StandsFor room) (sym (after-append read_line log (entry_of log n (kind.Refused n line) ∷ []))) stands, is.0, is.1)
+      let room : StandsFor new.room (after read_line (log ++ entry_of log n (kind.Refused n line) ∷ [])) =
+      subst (λ (h : Hall). StandsFor h (after read_line (log ++ entry_of log n (kind.Refused n line) ∷ []))) (sym same)
+      (subst (StandsFor old.room) (sym (after-append read_line log (entry_of log n (kind.Refused n line) ∷ []))) stands.room) in
+      (stands_more old new log (entry_of log n (kind.Refused n line)) stands room counts, is.0, is.1)
 
-  pub may_leave : (old new : Hall) → StandsFor old (after read_line log) → GoesBy old new (leaves n)
-      → StandsFor new (after read_line (log ++ entry_of log n (kind.Left n) ∷ []))
+  pub may_leave : (old new : SharedRoom) → StandsForHistory old log → GoesBy old.room new.room (leaves n) → CountsTurn (kind.Left n) old new
+      → StandsForHistory new (log ++ entry_of log n (kind.Left n) ∷ [])
       × IsRight read_line log (entry_of log n (kind.Left n)) × (0 < times (root_in log n) own)
-  may_leave old new stands goes =
+  may_leave old new stands goes counts =
       let is = own_is_right read_line log own n kept.0 in
-      (subst (StandsFor new) (sym (after-append read_line log (entry_of log n (kind.Left n) ∷ []))) (goes (after read_line log) stands), is.0, is.1)
+      let room : StandsFor new.room (after read_line (log ++ entry_of log n (kind.Left n) ∷ [])) =
+      subst (StandsFor new.room) (sym (after-append read_line log (entry_of log n (kind.Left n) ∷ []))) (goes (after read_line log) stands.room) in
+      (stands_more old new log (entry_of log n (kind.Left n)) stands room counts, is.0, is.1)
 
   -- ---- and what it says then
 
@@ -151,10 +165,12 @@ left_of log n e this = last_entry n log e (subst (λ (x : Entry). Rattle.ifdb_hi
 
 -- ---- a session that was opened
 
-pub may_open : (old new : Hall) (log : List Entry) → StandsFor old (after read_line log) → GoesBy old new opens
-    → StandsFor new (after read_line (log ++ opening_entry log ∷ [])) × IsRight read_line log (opening_entry log)
-may_open old new log stands goes =
-    (subst (StandsFor new) (sym (after-append read_line log (opening_entry log ∷ []))) (goes (after read_line log) stands), refl)
+pub may_open : (old new : SharedRoom) (log : List Entry) → StandsForHistory old log → GoesBy old.room new.room opens → CountsTurn kind.Opened old new
+    → StandsForHistory new (log ++ opening_entry log ∷ []) × IsRight read_line log (opening_entry log)
+may_open old new log stands goes counts =
+    let room : StandsFor new.room (after read_line (log ++ opening_entry log ∷ [])) =
+    subst (StandsFor new.room) (sym (after-append read_line log (opening_entry log ∷ []))) (goes (after read_line log) stands.room) in
+    (stands_more old new log (opening_entry log) stands room counts, refl)
 
 pub is_new : {X : Type 0} (old new : Pass X Entry) (room : Hall) (log : List Entry) (n : ℕ) → AllRight (IsRight read_line) log → StandsFor room (after read_line log)
     → IsNextNumber room n → history new ≡ log ++ opening_entry log ∷ [] → places new ≡ places old ++ length log ∷ [] → IsNew n old new
@@ -213,7 +229,7 @@ module _ {X : Type 0} (hall : Turnstile X Entry) (old : Pass X Entry) (turn : Tu
 
       stands_then : StandsFor next_room (after read_line (history new))
       stands_then = subst (λ l. StandsFor next_room (after read_line l)) (sym (ended.seen ∙ ap (λ x. log_of ++ x ∷ []) this))
-          (may_ask (history old) log_of (places old) n holds front right away room next_room line stands answered.0).0
+          (goes_asked log_of n room next_room line stands answered.0)
 
       pub ended_asked_open : is_open ≡ true → Holds read_line (history new) (places new) n
       ended_asked_open o = goes_on (history old) log_of (places old) n holds front right away (history new) e ended.seen next_room (places new) own_more stands_then

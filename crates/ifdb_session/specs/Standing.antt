@@ -1,14 +1,19 @@
 -- What the shared room stands for.
-use Rattle.std.specs.Prelude.{ℕ, List}
+use Rattle.std.specs.Prelude.{◌≡◌, ℕ, List, length}
 use Rattle.ifdb_db.specs.Reading.{read_line}
 use Rattle.ifdb_db.specs.Room.{StandsFor}
 use Rattle.ifdb_history.specs.declared.entry.Entry.{Entry}
+use Rattle.ifdb_history.specs.Counts.{commits_in, refusals_in}
 use Rattle.ifdb_history.specs.History.{after}
 use Rattle.ifdb_session.specs.declared.shared.SharedRoom.{SharedRoom}
+use Rattle.ifdb_session.specs.Endings.{capped}
 
--- its room is that of the state after the history
-abbrev pub StandsForHistory : SharedRoom → List Entry → Type 0
-StandsForHistory shared h = StandsFor shared.room (after read_line h)
+-- its room is that of the state after the history, and its counts are the history's
+pub record StandsForHistory (shared : SharedRoom) (h : List Entry) : Type 0 where
+  pub room : StandsFor shared.room (after read_line h)
+  pub entries : shared.entries ≡ capped (length h)
+  pub commits : shared.commits ≡ capped (commits_in read_line h)
+  pub refused : shared.refused ≡ capped (refusals_in read_line h)
 
 -- the place where an entry's session was opened
 abbrev pub root_of : Entry → ℕ

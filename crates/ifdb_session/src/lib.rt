@@ -1,6 +1,7 @@
 //! Sessions of connections: each connection is a session of one room, which all share by turns.
 #![tactic(auto)]
 
+mod counts;
 mod ending;
 mod host;
 mod link;
@@ -9,6 +10,7 @@ mod shared;
 mod tests;
 mod turns;
 
+pub use counts::Counts;
 pub use ending::Ending;
 pub use host::SessionHost;
 pub use link::serve_link;

@@ -1,21 +1,33 @@
 // The room that connections share.
-ghost use Rattle.std.specs.Prelude.{◌≡◌, [], IfOk, OnErr};
-ghost use Rattle.ifdb_model.specs.Run.{leaves, opens};
-ghost use Rattle.ifdb_db.specs.RoomSteps.{GoesBy};
+ghost use Rattle.std.specs.Prelude.{◌≡◌, [], false, List, None, IfOk, OnErr, OnOk, length};
+ghost use Rattle.ifdb_wire.specs.Text.{reply_text};
+ghost use Rattle.ifdb_model.specs.Run.{asks, leaves, opens};
+ghost use Rattle.ifdb_db.specs.RoomSteps.{GoesBy, IsReplyTo};
+ghost use Rattle.ifdb_history.specs.declared.entry.Kind.TheVariants.{Opened as OpenedKind, Left as LeftKind};
+ghost use Rattle.ifdb_session.specs.Counts.{counts_of, IsGlance};
+ghost use Rattle.ifdb_session.specs.Endings.{capped};
 ghost use Rattle.ifdb_session.specs.Standing.{StandsForHistory};
-ghost use Rattle.ifdb_session.specs.Turns.{IsAsked, IsNextNumber};
+ghost use Rattle.ifdb_session.specs.Turns.{CountsTurn, HasCounted, IsAsked, IsNextNumber};
 
 use crate::OutOfMemory;
+use crate::counts::{Counts, Glance, counted};
 use ifdb_db::Room;
 use ifdb_history::Entry;
 use ifdb_turn::Object;
-use ifdb_wire::Out;
+use ifdb_wire::{Fault, Out, Reply};
 use std::alloc::Global;
 
-/// What the turns of all connections are taken at: a room, which stands for the state that the history leaves.
+/// What the turns of all connections are taken at: a room, which stands for the state that the history leaves, and what is
+/// counted of the history.
 #[derive(Drop)]
 pub struct SharedRoom {
     pub(crate) room: Room,
+    /// How many entries the history has, up to 2^64 - 1.
+    pub(crate) entries: u64,
+    /// How many commits there were, up to 2^64 - 1.
+    pub(crate) commits: u64,
+    /// How many COMMITs were refused, up to 2^64 - 1.
+    pub(crate) refused: u64,
 }
 
 /// What became of a line that a session asked.
@@ -50,26 +62,50 @@ impl SharedRoom {
     {
         Ok(SharedRoom {
             room: Room::opening(alloc)?,
+            entries: 0,
+            commits: 0,
+            refused: 0,
         })
+    }
+
+    /// What the history comes to.
+    pub fn counts(&self) -> Counts
+        ensures { (h : List Entry) → StandsForHistory self.now h → result ≡ counts_of h }
+    {
+        Counts {
+            sessions: self.room.sessions(),
+            entries: self.entries,
+            commits: self.commits,
+            refused: self.refused,
+            rows: rows_in(&self.room),
+        }
     }
 
     /// Opens the next session, and gives its number. `OutOfMemory` changes nothing.
     pub(crate) fn open(&mut self) -> Result<u64, OutOfMemory>
         ensures opened { IfOk result (λ _. GoesBy self.old.room self.new.room opens) }
         ensures number { IfOk result (IsNextNumber self.old.room) }
+        ensures counted { IfOk result (λ _. CountsTurn OpenedKind self.old self.new) }
         ensures err { OnErr result (self.new ≡ self.old) }
     {
         self.room.open_next()?;
+        self.entries = counted(self.entries, true);
         Ok(self.room.sessions())
     }
 
-    /// Asks a line for a session; the reply stands in `out`. `Refused` changes nothing, and the reply is error 20.
+    /// Asks a line for a session; the reply stands in `out`. `Refused` changes only that an entry more is counted, and the
+    /// reply is error 20.
     pub(crate) fn ask(&mut self, n: u64, line: &[u8], out: &mut Out) -> Asked
-        ensures { IsAsked n line.now self.old.room self.new.room out.new.text result }
+        ensures { IsAsked n line.now self.old self.new out.new.text result }
     {
-        if !self.room.ask(n, None, line, out) {
-            return Asked::Refused;
-        }
+        let before = self.glance(n);
+        let Ok(reply) = tell(&mut self.room, n, line, out) else {
+            return self.refuse();
+        };
+        let after = self.glance(n);
+        self.entries = counted(self.entries, true);
+        self.commits = counted(self.commits, before.has_committed(after, &reply));
+        self.refused = counted(self.refused, before.has_refused(after, &reply));
         if self.room.is_open(n) {
             Asked::Open
         } else {
@@ -79,8 +115,61 @@ impl SharedRoom {
 
     /// Drops a session without BYE.
     pub(crate) fn leave(&mut self, n: u64)
-        ensures { GoesBy self.old.room self.new.room (leaves n) }
+        ensures left { GoesBy self.old.room self.new.room (leaves n) }
+        ensures counted { CountsTurn (LeftKind n) self.old self.new }
     {
         self.room.leave(n);
+        self.entries = counted(self.entries, true);
+    }
+
+    // Counts a line for which there was no memory.
+    fn refuse(&mut self) -> Asked
+        ensures refused { result ≡ Asked.Refused }
+        ensures room { self.new.room ≡ self.old.room }
+        ensures counted { HasCounted self.old self.new false false }
+    {
+        self.entries = counted(self.entries, true);
+        Asked::Refused
+    }
+
+    // Looks at the log and at a session.
+    fn glance(&self, n: u64) -> Glance
+        ensures { IsGlance self.now.room n result }
+    {
+        Glance {
+            entries: self.room.count_entries(),
+            in_transaction: self.room.in_transaction(n),
+        }
+    }
+}
+
+// Asks a line, and tells the reply on a connection, which is given. Where there is no memory nothing changes, and error 20 is
+// told.
+fn tell(room: &mut Room, n: u64, line: &[u8], out: &mut Out) -> Result<Reply, OutOfMemory>
+    ensures asked { OnOk result (GoesBy room.old room.new (asks n line.now)) }
+    ensures told { IfOk result (IsReplyTo room.old n line.now) }
+    ensures text { IfOk result (λ r. out.new.text ≡ reply_text None r) }
+    ensures err { OnErr result (room.new ≡ room.old) }
+    ensures memory { OnErr result (out.new.text ≡ reply_text None (Reply.Refused Fault.OutOfMemory)) }
+{
+    out.speak_for(None);
+    let Ok(reply) = room.reply(n, line) else {
+        out.put(&Reply::Refused(Fault::OutOfMemory));
+        return Err(OutOfMemory);
+    };
+    if out.put(&reply) {
+        Ok(reply)
+    } else {
+        Err(OutOfMemory)
+    }
+}
+
+// How many rows there are, up to 2^64 - 1.
+fn rows_in(room: &Room) -> u64
+    ensures { result ≡ capped (length room.now.desk.seen.rows) }
+{
+    match room.count_rows() {
+        Some(rows) => rows,
+        None => u64::MAX,
     }
 }

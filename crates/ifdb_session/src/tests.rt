@@ -1,9 +1,9 @@
-// What no clause says: that connections are served while there is memory, what their sessions see of each other, and how they
-// end.
+// What no clause says: that connections are served while there is memory, what their sessions see of each other, how they
+// end, and what is counted of them.
 ghost use Rattle.std.specs.Prelude.{◌≡◌};
 ghost use Rattle.ifdb_turn.specs.Passes.{shares};
 
-use crate::{Ending, SharedRoom, serve_link};
+use crate::{Counts, Ending, SharedRoom, serve_link};
 use ifdb_io::{MemoryLink, MemorySink, MemorySource};
 use ifdb_turn::Turnstile;
 use std::alloc::Global;
@@ -21,13 +21,13 @@ fn link_of(alloc: Global, input: &str, reads: &[u64], writes: &[u64]) -> Result<
     })
 }
 
-// Serves the links of a new room, one after another, and gives the end of each.
+// Serves the links of a new room, one after another, and gives the end of each and what is counted of all.
 fn serve<R: Wait>(
     rt: &R,
     alloc: Global,
     links: &mut Vec<MemoryLink>,
     limit: u32,
-) -> Result<Vec<Ending>, Fail> {
+) -> Result<(Vec<Ending>, Counts), Fail> {
     let mut endings = Vec::with_capacity(alloc, links.len())?;
     let Ok((hall, mut pass)) = Turnstile::new(alloc, SharedRoom::opening(alloc)?) else {
         return Err(Fail::from("no memory"));
@@ -36,8 +36,8 @@ fn serve<R: Wait>(
         let ending = serve_link(rt, alloc, &hall, &mut pass, link, u64::from(limit));
         let _ = endings.push(ending);
     }
-    hall.close(pass);
-    Ok(endings)
+    let shared = hall.close(pass);
+    Ok((endings, shared.counts()))
 }
 
 // Each client's requests in one connection, and its replies.
@@ -71,7 +71,7 @@ fn clients_one_after_another(rt: HostRuntime) -> Result<(), Fail> {
     for (input, _) in rows {
         links.push(link_of(rt.alloc(), input, &[], &[])?)?;
     }
-    let endings = serve(&rt, rt.alloc(), &mut links, 100_000)?;
+    let (endings, _) = serve(&rt, rt.alloc(), &mut links, 100_000)?;
     assert_eq!(rt; endings.len(), rows.len());
     for (link, (input, want)) in links.iter().zip(rows) {
         assert_eq!(rt; link.sink.bytes(), want.as_bytes(), "of {input}");
@@ -104,7 +104,7 @@ fn connections_end(rt: HostRuntime) -> Result<(), Fail> {
     for (input, reads, writes, limit, ending, want) in rows {
         let mut links = Vec::new(rt.alloc());
         links.push(link_of(rt.alloc(), input, reads, writes)?)?;
-        let endings = serve(&rt, rt.alloc(), &mut links, limit)?;
+        let (endings, _) = serve(&rt, rt.alloc(), &mut links, limit)?;
         assert_eq!(rt; endings.first(), Some(&ending), "of {input} with {limit}");
         for link in &links {
             assert_eq!(rt;
@@ -126,10 +126,104 @@ fn long_line_ends_a_connection(rt: HostRuntime) -> Result<(), Fail> {
     let sink = MemorySink::new(rt.alloc(), 64, ROOM, Vec::new(rt.alloc()))?;
     let mut links = Vec::new(rt.alloc());
     links.push(MemoryLink { source, sink })?;
-    let endings = serve(&rt, rt.alloc(), &mut links, 1_000_000)?;
+    let (endings, _) = serve(&rt, rt.alloc(), &mut links, 1_000_000)?;
     assert_eq!(rt; endings.first(), Some(&Ending::TooLong));
     for link in &links {
         assert_eq!(rt; link.sink.bytes(), b"ERR 21 TooLong\n".as_slice());
+    }
+    Ok(())
+}
+
+// What is counted of a new room that serves these inputs, one connection's after another's.
+fn counts_of<R: Wait>(rt: &R, alloc: Global, inputs: &[&str]) -> Result<Counts, Fail> {
+    let mut links = Vec::new(alloc);
+    for input in inputs {
+        links.push(link_of(alloc, input, &[], &[])?)?;
+    }
+    let (_, counts) = serve(rt, alloc, &mut links, 100_000)?;
+    Ok(counts)
+}
+
+// Five numbers in the order of the fields: sessions, entries, commits, refused COMMITs, rows.
+fn counts(of: [u64; 5]) -> Counts {
+    let [sessions, entries, commits, refused, rows] = of;
+    Counts {
+        sessions,
+        entries,
+        commits,
+        refused,
+        rows,
+    }
+}
+
+// Each opening, line and leaving is an entry; a public change is no commit, and a write is one.
+#[test]
+fn turns_are_counted(rt: HostRuntime) -> Result<(), Fail> {
+    let rows: [(&[&str], [u64; 5]); 7] = [
+        (&[], [0, 0, 0, 0, 0]),
+        (&[""], [1, 2, 0, 0, 0]),
+        (&["BYE\n"], [1, 2, 0, 0, 0]),
+        (&["BYE\n", "\nBYE\n"], [2, 5, 0, 0, 0]),
+        (
+            &["HELLO admin KEY 'admin'\nCREATE TABLE note (id INT, PRIMARY KEY (id))\nBYE\n"],
+            [1, 4, 0, 0, 0],
+        ),
+        (
+            &[
+                "HELLO admin KEY 'admin'\nCREATE TABLE note (id INT, PRIMARY KEY (id))\nINSERT INTO note VALUES (7)\nBYE\n",
+            ],
+            [1, 5, 1, 0, 1],
+        ),
+        (
+            &[
+                "HELLO admin KEY 'admin'\nCREATE TABLE note (id INT, PRIMARY KEY (id))\nINSERT INTO note VALUES (7), (8)\nDELETE FROM note WHERE id = 7\nBYE\n",
+            ],
+            [1, 6, 2, 0, 1],
+        ),
+    ];
+    for (inputs, want) in rows {
+        assert_eq!(rt; counts_of(&rt, rt.alloc(), inputs)?, counts(want));
+    }
+    Ok(())
+}
+
+// A COMMIT that goes through is a commit, also of no writes, and one that isn't in a transaction isn't a refused COMMIT: that
+// is one whose label doesn't flow to what was written. ROLLBACK and a session that leaves drop what was written.
+#[test]
+fn transactions_are_counted(rt: HostRuntime) -> Result<(), Fail> {
+    let rows: [(&[&str], [u64; 5]); 5] = [
+        (
+            &[
+                "HELLO admin KEY 'admin'\nCREATE TABLE note (id INT, PRIMARY KEY (id))\nBEGIN\nINSERT INTO note VALUES (7)\nCOMMIT\nBYE\n",
+            ],
+            [1, 7, 1, 0, 1],
+        ),
+        (
+            &["HELLO admin KEY 'admin'\nBEGIN\nCOMMIT\nCOMMIT\nBYE\n"],
+            [1, 6, 1, 0, 0],
+        ),
+        (
+            &[
+                "HELLO admin KEY 'admin'\nCREATE TAG a\nCREATE TABLE note (id INT, PRIMARY KEY (id))\nBEGIN\nINSERT INTO note VALUES (7)\nSET LABEL (a)\nCOMMIT\n",
+            ],
+            [1, 9, 0, 1, 0],
+        ),
+        (
+            &[
+                "HELLO admin KEY 'admin'\nCREATE TABLE note (id INT, PRIMARY KEY (id))\nBEGIN\nINSERT INTO note VALUES (7)\nROLLBACK\nBYE\n",
+            ],
+            [1, 7, 0, 0, 0],
+        ),
+        (
+            &[
+                "HELLO admin KEY 'admin'\nCREATE TABLE note (id INT, PRIMARY KEY (id))\nINSERT INTO note VALUES (7)\n",
+                "HELLO admin KEY 'admin'\nBEGIN\nDELETE FROM note\n",
+            ],
+            [2, 10, 1, 0, 1],
+        ),
+    ];
+    for (inputs, want) in rows {
+        assert_eq!(rt; counts_of(&rt, rt.alloc(), inputs)?, counts(want));
     }
     Ok(())
 }

@@ -2,10 +2,9 @@ use Rattle.std.proofs.Common.{rules, ◌<◌, inr, refl, sym, subst}
 use Rattle.ifdb_turn.specs.Passes.{history, places}
 use Rattle.ifdb_turn.specs.Places.{times}
 use Rattle.ifdb_turn.specs.Turns.{pass_of}
-use Rattle.ifdb_db.specs.Reading.{read_line}
-use Rattle.ifdb_db.specs.Room.{StandsFor}
-use Rattle.ifdb_history.specs.History.{after, root_in}
+use Rattle.ifdb_history.specs.History.{root_in}
 use Rattle.ifdb_session.specs.declared.shared.SharedRoom.{SharedRoom}
+use Rattle.ifdb_session.specs.Standing.{StandsForHistory}
 use Rattle.ifdb_session.proofs.Turned.{may_leave, ended_sees, ended_left_adds, ended_left_lines, ended_left_texts, ended_left_over}
 use Rattle.ifdb_session.proofs.turns.leave.Goals as goal
 
@@ -13,8 +12,8 @@ pub done_left-requires-clause-entry : goal.done_left-requires-clause-entry
 done_left-requires-clause-entry g c =
     let e = c.enter-turn.ensures in
     let log = history (pass_of c.enter-turn.result) in
-    let stands = subst (λ (s : SharedRoom). StandsFor s.room (after read_line log)) (sym c.object.ensures.value) e.stands in
-    let m = may_leave (history c.args.pass.now) log (places c.args.pass.now) c.args.n c.requires.session e.begins e.orderly.0 e.own c.object.result.now.room c.leave.new.self.room stands c.leave.ensures in
+    let stands = subst (λ (s : SharedRoom). StandsForHistory s log) (sym c.object.ensures.value) e.stands in
+    let m = may_leave (history c.args.pass.now) log (places c.args.pass.now) c.args.n c.requires.session e.begins e.orderly.0 e.own c.object.result.now c.leave.new.self stands c.leave.ensures.left c.leave.ensures.counted in
     (refl, (m.0, (m.1, inr (subst (λ l. 0 < times (root_in log c.args.n) l) (sym e.places) m.2))))
 
 pub returns-clause-sees : goal.returns-clause-sees

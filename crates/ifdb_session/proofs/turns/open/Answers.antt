@@ -1,10 +1,8 @@
 use Rattle.std.proofs.Common.{rules, inl, refl, sym, subst}
 use Rattle.ifdb_turn.specs.Passes.{history}
 use Rattle.ifdb_turn.specs.Turns.{pass_of}
-use Rattle.ifdb_db.specs.Reading.{read_line}
-use Rattle.ifdb_db.specs.Room.{StandsFor}
-use Rattle.ifdb_history.specs.History.{after}
 use Rattle.ifdb_session.specs.declared.shared.SharedRoom.{SharedRoom}
+use Rattle.ifdb_session.specs.Standing.{StandsForHistory}
 use Rattle.ifdb_session.proofs.Turned.{may_open, ended_sees, ended_new, bare_sees}
 use Rattle.ifdb_session.proofs.turns.open.Goals as goal
 
@@ -12,8 +10,8 @@ pub done_opened-requires-clause-entry : goal.done_opened-requires-clause-entry
 done_opened-requires-clause-entry g c =
     let e = c.enter-turn.ensures in
     let log = history (pass_of c.enter-turn.result) in
-    let stands = subst (λ (s : SharedRoom). StandsFor s.room (after read_line log)) (sym c.object.ensures.value) e.stands in
-    let m = may_open c.object.result.now.room c.open.new.self.room log stands (search rules) in
+    let stands = subst (λ (s : SharedRoom). StandsForHistory s log) (sym c.object.ensures.value) e.stands in
+    let m = may_open c.object.result.now c.open.new.self log stands (search rules) (search rules) in
     (refl, (m.0, (m.1, inl refl)))
 
 pub returns-clause-sees : goal.returns-clause-sees
@@ -25,8 +23,8 @@ pub returns-clause-new : goal.returns-clause-new
 returns-clause-new g c =
     let e = c.enter-turn.ensures in
     let log = history (pass_of c.enter-turn.result) in
-    let stands = subst (λ (s : SharedRoom). StandsFor s.room (after read_line log)) (sym c.object.ensures.value) e.stands in
-    let x = ended_new c.args.hall.now c.args.pass.now _ _ _ c.done_opened.ensures e.turnstile e.begins e.places e.shares c.object.result.now.room c.in-Ok.n e.orderly.0 stands (search rules) refl in search rules
+    let stands = subst (λ (s : SharedRoom). StandsForHistory s log) (sym c.object.ensures.value) e.stands in
+    let x = ended_new c.args.hall.now c.args.pass.now _ _ _ c.done_opened.ensures e.turnstile e.begins e.places e.shares c.object.result.now.room c.in-Ok.n e.orderly.0 stands.room (search rules) refl in search rules
 
 pub returns-in_default-clause-sees : goal.returns-in_default-clause-sees
 returns-in_default-clause-sees g c =

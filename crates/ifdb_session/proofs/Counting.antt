@@ -1,0 +1,207 @@
+-- What a turn adds to the counts of a history, and that the room's tests tell it.
+use Rattle.std.proofs.Common.{◌≡◌, ℕ, ◌+◌, ◌-◌, ◌<◌, Bool, true, false, List, [], ◌∷◌, ◌++◌, ◌∙◌, length, refl, sym, ap, subst, arith, cond, Option, Some, None, Result}
+use Rattle.std.specs.Prelude.{not, ◌&&◌, ◌||◌, nat_lt, option_to_list, slice_index_or, slice_set}
+use Rattle.std.specs.Option.{is_some}
+use Rattle.std.proofs.lemmas.Bool.Decides.{nat_tests}
+use Rattle.std.proofs.lemmas.List.{append-nil, length-append, get_or-set_same}
+use Rattle.ifdb_syntax.specs.declared.request.Request.{Request}
+use Rattle.ifdb_wire.specs.declared.fault.Fault.{Fault}
+use Rattle.ifdb_wire.specs.declared.fault.Fault.TheVariants as fault
+use Rattle.ifdb_wire.specs.declared.reply.Reply.{Reply}
+use Rattle.ifdb_wire.specs.Text.{reply_text}
+use Rattle.ifdb_model.specs.Log.{Entry as LogEntry, changes, commits, commits_of}
+use Rattle.ifdb_model.specs.Session.{Txn, Session, no_session, in_txn}
+use Rattle.ifdb_model.specs.Step.{Reader, Outcome, refuses, ask}
+use Rattle.ifdb_model.specs.Run.{State, session_of, outcome_of, with_outcome, asks, leaves, opening, next, run}
+use Rattle.ifdb_model.proofs.Runs.{run-append}
+use Rattle.ifdb_laws.proofs.Shapes.{Shape, stayed, greeted_as, relabelled_to, begun, ended, published, joined, wrote, done, shape}
+use Rattle.ifdb_db.specs.Client.{Open, txn_at}
+use Rattle.ifdb_db.specs.Reading.{read_line}
+use Rattle.ifdb_db.specs.Room.{Hall, StandsFor, client_in}
+use Rattle.ifdb_db.specs.RoomSteps.{GoesBy, IsReplyTo, IsReplyText}
+use Rattle.ifdb_db.proofs.RoomLaws.{same_session}
+use Rattle.ifdb_history.specs.declared.entry.Entry.{Entry}
+use Rattle.ifdb_history.specs.declared.entry.Kind.{Kind}
+use Rattle.ifdb_history.specs.declared.entry.Kind.TheVariants as kind
+use Rattle.ifdb_history.specs.Counts.{is_refusal, refusal_of, refusals_from, refusals_in, commits_in}
+use Rattle.ifdb_history.specs.History.{steps_of, flat, after}
+use Rattle.ifdb_history.proofs.Flat.{after-append}
+use Rattle.ifdb_history.proofs.Sessions.{open_was}
+use Rattle.ifdb_session.specs.declared.counts.Glance.{Glance}
+use Rattle.ifdb_session.specs.declared.shared.SharedRoom.{SharedRoom}
+use Rattle.ifdb_session.specs.Counts.{counted, is_commit, commits_at, refuses_at, is_count, IsGlance, has_committed, has_refused}
+use Rattle.ifdb_session.specs.Endings.{capped}
+use Rattle.ifdb_session.specs.Standing.{StandsForHistory}
+use Rattle.ifdb_session.specs.Turns.{IsAnswered, IsLeftOpen, HasCounted, CountsTurn}
+
+-- ---- a history and one more entry
+
+commits_of-append : (xs ys : List LogEntry) → length (commits_of (xs ++ ys)) ≡ length (commits_of xs) + length (commits_of ys)
+commits_of-append [] ys = omega arith
+commits_of-append (changes c ∷ xs) ys = commits_of-append xs ys
+commits_of-append (commits ws ∷ xs) ys = let e = commits_of-append xs ys in omega (arith, e)
+
+-- what a line adds
+one_commit : (added : Option LogEntry) → length (commits_of (option_to_list added)) ≡ cond (is_commit added) 1 0
+one_commit None = refl
+one_commit (Some (changes c)) = refl
+one_commit (Some (commits ws)) = refl
+
+module _ (read : Reader) where
+  line_commits : (st : State) (n : ℕ) (line : List ℕ)
+      → length (commits_of (next read st (asks n line)).log) ≡ length (commits_of st.log) + cond (commits_at read st (kind.Asked n line)) 1 0
+  line_commits st n line = by (session_of st n).is_open where
+    by : (b : Bool) → length (commits_of (cond b (with_outcome st n (ask read st.log (session_of st n) line)) st).log)
+        ≡ length (commits_of st.log) + cond (is_commit (cond b (ask read st.log (session_of st n) line) (refuses (session_of st n) fault.NoSession)).added) 1 0
+    by true =
+        let o = ask read st.log (session_of st n) line in
+        commits_of-append st.log (option_to_list o.added) ∙ ap (λ k. length (commits_of st.log) + k) (one_commit o.added)
+    by false = omega arith
+
+  leaving_commits : (st : State) (n : ℕ) → length (commits_of (next read st (leaves n)).log) ≡ length (commits_of st.log) + 0
+  leaving_commits st n = by (session_of st n).is_open where
+    by : (b : Bool) → length (commits_of (cond b (Rattle.ifdb_model.specs.Run.with_session st n (Rattle.ifdb_model.specs.Session.closed (session_of st n))) st).log) ≡ length (commits_of st.log) + 0
+    by true = omega arith
+    by false = omega arith
+
+  turn_commits : (st : State) (x : Kind) → length (commits_of (run read st (steps_of x)).log) ≡ length (commits_of st.log) + cond (commits_at read st x) 1 0
+  turn_commits st kind.Opened = omega arith
+  turn_commits st (kind.Asked n line) = line_commits st n line
+  turn_commits st (kind.Refused n line) = omega arith
+  turn_commits st (kind.Left n) = leaving_commits st n
+
+  pub commits_more : (h : List Entry) (e : Entry) → commits_in read (h ++ e ∷ []) ≡ commits_in read h + cond (commits_at read (after read h) e.kind) 1 0
+  commits_more h e =
+      ap (λ (st : State). length (commits_of st.log)) (after-append read h (e ∷ []) ∙ ap (run read (after read h)) (append-nil (steps_of e.kind)))
+      ∙ turn_commits (after read h) e.kind
+
+  refusals_from-append : (st : State) (h k : List Entry) → refusals_from read st (h ++ k) ≡ refusals_from read st h + refusals_from read (run read st (flat h)) k
+  refusals_from-append st [] k = omega arith
+  refusals_from-append st (e ∷ h) k =
+      let a = refusals_from-append (run read st (steps_of e.kind)) h k in
+      let b = ap (λ (s : State). refusals_from read s k) (run-append read st (steps_of e.kind) (flat h)) in
+      omega (arith, a, b)
+
+  one_refusal : (st : State) (x : Kind) → refusal_of read st x ≡ cond (refuses_at read st x) 1 0
+  one_refusal st kind.Opened = refl
+  one_refusal st (kind.Asked n line) = refl
+  one_refusal st (kind.Refused n line) = refl
+  one_refusal st (kind.Left n) = refl
+
+  pub refusals_more : (h : List Entry) (e : Entry) → refusals_in read (h ++ e ∷ []) ≡ refusals_in read h + cond (refuses_at read (after read h) e.kind) 1 0
+  refusals_more h e =
+      let a = refusals_from-append opening h (e ∷ []) in
+      let b = one_refusal (after read h) e.kind in
+      omega (arith, a, b)
+
+-- ---- the counts go along
+
+capped_more : (n m k : ℕ) (is_so : Bool) → n ≡ capped m → k ≡ m + cond is_so 1 0 → counted n is_so ≡ capped k
+capped_more n m k true e f = omega (arith, e, f)
+capped_more n m k false e f = omega (arith, e, f)
+
+-- the room stands for one entry more, where the turn was counted as what it is
+pub stands_more : (old new : SharedRoom) (h : List Entry) (e : Entry) → StandsForHistory old h → StandsFor new.room (after read_line (h ++ e ∷ [])) → CountsTurn e.kind old new
+    → StandsForHistory new (h ++ e ∷ [])
+stands_more old new h e stands room counts = record {
+  room = room;
+  entries = told.entries ∙ capped_more old.entries (length h) (length (h ++ e ∷ [])) true stands.entries (length-append h (e ∷ []));
+  commits = told.commits ∙ capped_more old.commits _ _ (commits_at read_line (after read_line h) e.kind) stands.commits (commits_more read_line h e);
+  refused = told.refused ∙ capped_more old.refused _ _ (refuses_at read_line (after read_line h) e.kind) stands.refused (refusals_more read_line h e);
+} where
+  told : HasCounted old new (commits_at read_line (after read_line h) e.kind) (refuses_at read_line (after read_line h) e.kind)
+  told = counts (after read_line h) stands.room
+
+-- ---- how the room tells what a line did
+
+no_longer : (log : List LogEntry) → nat_lt (length log) (length (log ++ [])) ≡ false
+no_longer log = let same = length-append log [] in grind (arith, nat_tests, same)
+
+longer : (log : List LogEntry) (e : LogEntry) → nat_lt (length log) (length (log ++ e ∷ [])) ≡ true
+longer log e = let more = length-append log (e ∷ []) in grind (arith, nat_tests, more)
+
+-- a commit adds to the log, and is of a transaction or tells a count
+commit_told : (log : List LogEntry) (s : Session) (line : Result Request Fault) (o : Outcome) → Shape log s line o
+    → (nat_lt (length log) (length (log ++ option_to_list o.added)) && (in_txn s.txn || is_count o.reply)) ≡ is_commit o.added
+commit_told log s line _ (stayed r) = ap (λ b. b && (in_txn s.txn || is_count r)) (no_longer log)
+commit_told log s line _ (greeted_as n) = ap (λ b. b && (in_txn s.txn || false)) (no_longer log)
+commit_told log s line _ (relabelled_to asker r label e h) = ap (λ b. b && (in_txn s.txn || false)) (no_longer log)
+commit_told log s line _ (begun t) = ap (λ b. b && (in_txn s.txn || false)) (no_longer log)
+commit_told log s line _ (ended is_open r) = ap (λ b. b && (in_txn s.txn || is_count r)) (no_longer log)
+commit_told log s line _ (published asker r c t e b f) = ap (λ b. b && (in_txn s.txn || false)) (longer log (changes c)) ∙ ap (λ (x : Option Txn). in_txn x || false) t
+commit_told log s line _ (joined asker r b x w i t e) = ap (λ b. b && (in_txn s.txn || true)) (no_longer log)
+commit_told log s line _ (wrote asker r b w i t e f) = ap (λ b. b && (in_txn s.txn || true)) (longer log (commits w.writes)) ∙ ap (λ (x : Option Txn). in_txn x || true) t
+commit_told log s line _ (done x t j) = ap (λ b. b && (in_txn s.txn || false)) (longer log (commits x.own)) ∙ ap (λ (x : Option Txn). in_txn x || false) t
+
+module _ (read : Reader) (st : State) (n : ℕ) (line : List ℕ) where
+  -- by the log before and after, the session's transaction and the reply
+  pub line_committed : (nat_lt (length st.log) (length (next read st (asks n line)).log) && (in_txn (session_of st n).txn || is_count (outcome_of read st n line).reply))
+      ≡ commits_at read st (kind.Asked n line)
+  line_committed = by (session_of st n).is_open where
+    by : (b : Bool) → (nat_lt (length st.log) (length (cond b (with_outcome st n (ask read st.log (session_of st n) line)) st).log)
+        && (in_txn (session_of st n).txn || is_count (cond b (ask read st.log (session_of st n) line) (refuses (session_of st n) fault.NoSession)).reply))
+        ≡ is_commit (cond b (ask read st.log (session_of st n) line) (refuses (session_of st n) fault.NoSession)).added
+    by true = commit_told st.log (session_of st n) (read line) (ask read st.log (session_of st n) line) (shape read st.log (session_of st n) line)
+    by false = ap (λ b. b && (in_txn (session_of st n).txn || false)) same where
+      same : nat_lt (length st.log) (length st.log) ≡ false
+      same = grind (arith, nat_tests)
+
+  -- the session after the line
+  pub session_after : session_of (next read st (asks n line)) n ≡ (outcome_of read st n line).session
+  session_after = by (session_of st n).is_open refl where
+    by : (b : Bool) → (session_of st n).is_open ≡ b → session_of (cond b (with_outcome st n (ask read st.log (session_of st n) line)) st) n
+        ≡ (cond b (ask read st.log (session_of st n) line) (refuses (session_of st n) fault.NoSession)).session
+    by true e = there ∙ get_or-set_same st.sessions (n - 1) (ask read st.log (session_of st n) line).session no_session below where
+      below : n - 1 < length st.sessions
+      below = let w = open_was st n e in let some = w.0 in let le = w.1 in omega (arith, some, le)
+
+      there : session_of (with_outcome st n (ask read st.log (session_of st n) line)) n
+          ≡ slice_index_or (slice_set st.sessions (n - 1) (ask read st.log (session_of st n) line).session) (n - 1) no_session
+      there = let some = (open_was st n e).0 in let from_1 : nat_lt 0 n ≡ true = grind (arith, nat_tests) in rw from_1 refl
+    by false e = refl
+
+-- a client's transaction is its session's
+txn_told : (x : Option Open) → is_some x ≡ in_txn (txn_at x)
+txn_told None = refl
+txn_told (Some x) = refl
+
+glance_told : (h : Hall) (st : State) (n : ℕ) → StandsFor h st → is_some (client_in h n).txn ≡ in_txn (session_of st n).txn
+glance_told h st n w = txn_told (client_in h n).txn ∙ ap (λ (s : Session). in_txn s.txn) (sym (same_session h st w n))
+
+-- the two tests of the room are what the line did
+module _ (h g : Hall) (n : ℕ) (line : List ℕ) (r : Reply) (before now : Glance) (was : IsGlance h n before) (is : IsGlance g n now) (goes : GoesBy h g (asks n line)) (told : IsReplyTo h n line r)
+    (st : State) (w : StandsFor h st) where
+  log_before : before.entries ≡ length st.log
+  log_before = was.0 ∙ w.desk.count
+
+  log_now : now.entries ≡ length (next read_line st (asks n line)).log
+  log_now = is.0 ∙ (goes st w).desk.count
+
+  txn_before : before.in_transaction ≡ in_txn (session_of st n).txn
+  txn_before = was.1 ∙ glance_told h st n w
+
+  txn_now : now.in_transaction ≡ in_txn (outcome_of read_line st n line).session.txn
+  txn_now = is.1 ∙ glance_told g (next read_line st (asks n line)) n (goes st w) ∙ ap (λ (s : Session). in_txn s.txn) (session_after read_line st n line)
+
+  pub committed_so : has_committed before now r ≡ commits_at read_line st (kind.Asked n line)
+  committed_so = seen ∙ line_committed read_line st n line where
+    seen : has_committed before now r ≡ (nat_lt (length st.log) (length (next read_line st (asks n line)).log) && (in_txn (session_of st n).txn || is_count (outcome_of read_line st n line).reply))
+    seen = λ i. nat_lt (log_before i) (log_now i) && (txn_before i || is_count (told st w i))
+
+  pub refused_so : has_refused before now r ≡ refuses_at read_line st (kind.Asked n line)
+  refused_so = λ i. txn_before i && not (txn_now i) && is_refusal (told st w i)
+
+-- a line that was answered so, and counted by these tests
+pub answered_and_counted : (old new : SharedRoom) (n : ℕ) (line text : List ℕ) (r : Reply) (before now : Glance) (is_open : Bool) → IsGlance old.room n before → IsGlance new.room n now
+    → GoesBy old.room new.room (asks n line) → IsReplyTo old.room n line r → text ≡ reply_text None r → (client_in new.room n).is_open ≡ is_open
+    → HasCounted old new (has_committed before now r) (has_refused before now r) → IsAnswered n line old.room new.room text is_open × CountsTurn (kind.Asked n line) old new
+answered_and_counted old new n line text r before now is_open was is goes told says left counts = ((goes, said, shown), counted_so) where
+  said : IsReplyText old.room n line None text
+  said st w = says ∙ ap (reply_text None) (told st w)
+
+  shown : IsLeftOpen new.room n is_open
+  shown st w = ap (λ (s : Session). s.is_open) (same_session new.room st w n) ∙ left
+
+  counted_so : CountsTurn (kind.Asked n line) old new
+  counted_so st w = subst (λ (z : Bool × Bool). HasCounted old new z.0 z.1)
+      (λ i. (committed_so old.room new.room n line r before now was is goes told st w i, refused_so old.room new.room n line r before now was is goes told st w i)) counts
