@@ -2,7 +2,7 @@
 use Rattle.ifdb.specs.declared.top.Status.{Status}
 use Rattle.ifdb.specs.declared.top.Status.TheVariants.{Done, Usage, ReadFault, WriteFault, OutOfMemory, TooLarge, SiteFault}
 
--- a script whose input and output had no fault, and which keeps to the limit, ends in one of these two ways
+-- where nothing had a fault, and a script keeps to its limit, the program ends in one of these two ways
 abbrev pub EndsWell : Status → Type 0
 EndsWell Done = Unit {0}
 EndsWell Usage = ⊥
@@ -41,3 +41,13 @@ IsRunEnd WriteFault = Unit {0}
 IsRunEnd OutOfMemory = Unit {0}
 IsRunEnd TooLarge = Unit {0}
 IsRunEnd SiteFault = ⊥
+
+-- connections were served, or there was no memory to begin, or the output or the site failed
+abbrev pub IsServeEnd : Status → Type 0
+IsServeEnd Done = Unit {0}
+IsServeEnd Usage = ⊥
+IsServeEnd ReadFault = ⊥
+IsServeEnd WriteFault = Unit {0}
+IsServeEnd OutOfMemory = Unit {0}
+IsServeEnd TooLarge = ⊥
+IsServeEnd SiteFault = Unit {0}

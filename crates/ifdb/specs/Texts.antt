@@ -1,4 +1,4 @@
--- What is written for other words than those of `run`.
+-- What is written for words that ask for a text.
 use Rattle.std.specs.Prelude.{◌≡◌, ℕ, List, [], Option, Some, None}
 use Rattle.std.specs.Io.KnownBytes.{Appends}
 use Rattle.ifdb_generate.specs.Script.{script}
@@ -17,11 +17,11 @@ abbrev pub text_of : Text → List ℕ
 text_of (Script n) = script n
 text_of (Counts n) = rehearsed_text (rehearsed (script n))
 
--- the text that is asked for; where the program does nothing of the kind the usage line
+-- the text that is asked for; the usage line where the words ask for nothing
 abbrev pub text_for : Option Command → List ℕ
 text_for None = usage_line
 text_for (Some (Run limit)) = []
-text_for (Some (Serve service)) = usage_line
+text_for (Some (Serve service)) = []
 text_for (Some (Write text)) = text_of text
 
 -- it was written whole, or a front of it where the output failed; where there was no memory nothing was

@@ -2,32 +2,30 @@
 #![tactic(auto)]
 
 mod adapters;
-mod no_site;
 #[cfg(test)]
 mod tests;
 mod top;
 
 use adapters::{Reading, Writing};
-use no_site::NoSite;
+use ifdb_net::TcpSite;
 use std::io;
 use std::process::ExitCode;
 use top::{Status, top};
 
+// Hands the program's words, standard input and output, and this machine's ports to the top call.
 fn main(rt: HostRuntime) -> ExitCode {
-    ExitCode::from(start(&rt) as u8)
-}
-
-// Hands the program's words, standard input and output, and no site to the top call.
-fn start(rt: &HostRuntime) -> Status {
-    let words = match words(rt) {
+    let words = match words(&rt) {
         Ok(words) => words,
-        Err(error) if error.kind() == io::ErrorKind::OutOfMemory => return Status::OutOfMemory,
+        Err(error) if error.kind() == io::ErrorKind::OutOfMemory => {
+            return ExitCode::from(Status::OutOfMemory as u8);
+        }
         // A word that is no text asks for nothing that the program does.
         Err(_) => Vec::new(rt.alloc()),
     };
     let mut input = Reading::new(rt.stdin());
     let mut output = Writing::new(rt.stdout());
-    top(rt, &words, &mut input, &mut output, &mut NoSite::new())
+    let mut site = TcpSite::new(&rt, rt.alloc());
+    ExitCode::from(top(&rt, &words, &mut input, &mut output, &mut site) as u8)
 }
 
 // The program's words, without its name.

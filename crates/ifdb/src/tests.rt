@@ -4,13 +4,14 @@ ghost use Rattle.std.specs.Prelude.{◌<◌};
 mod ends;
 mod generate;
 mod rows;
+mod serve;
 mod spellings;
 mod statements;
 mod transactions;
 mod worlds;
 
 use super::*;
-use ifdb_io::{MemorySink, MemorySource};
+use ifdb_io::{MemoryLink, MemorySink, MemorySite, MemorySource};
 use std::alloc::Global;
 use std::test::Fail;
 
@@ -26,7 +27,7 @@ fn words_of(alloc: Global, text: &str) -> Result<Vec<String>, Fail> {
     Ok(words)
 }
 
-// How `top` ends with these words over this source and sink in memory.
+// How `top` ends with these words over this source and sink in memory, and a site without doors.
 fn end_of(
     rt: &HostRuntime,
     words: &str,
@@ -34,7 +35,12 @@ fn end_of(
     output: &mut MemorySink,
 ) -> Result<Status, Fail> {
     let words = words_of(rt.alloc(), words)?;
-    Ok(top(rt, &words, input, output, &mut NoSite::new()))
+    let mut site: MemorySite<MemoryLink> = MemorySite::new(
+        rt.alloc(),
+        Vec::new(rt.alloc()),
+        Vec::new(rt.alloc()),
+    );
+    Ok(top(rt, &words, input, output, &mut site))
 }
 
 // A source that gives this many bytes a call.

@@ -1,17 +1,23 @@
 // The one call that does all that the program does.
-ghost use Rattle.std.specs.Prelude.{◌≡◌, ◌≢◌, ◌+◌, ◌^◌, ◌≤◌, ℕ, List, IfOk};
+ghost use Rattle.std.specs.Prelude.{◌≡◌, ◌≢◌, ◌+◌, ◌^◌, ◌≤◌, ◌⊎◌, ℕ, List, IfOk};
 ghost use Rattle.ifdb_io.specs.Causes.{Rose};
 ghost use Rattle.ifdb_script.specs.Run.{RanWhole, RanFront, RanCut, CutsDontMatter, KeepsLevels};
-ghost use Rattle.ifdb.specs.Status.{EndsWell, IsMade, IsRunEnd, IsUsage};
-ghost use Rattle.ifdb.specs.Texts.{IsWritten, text_for, text_of};
-ghost use Rattle.ifdb.specs.Words.{IsOther, IsRefused, IsRun, usage_line};
+ghost use Rattle.ifdb_service.specs.Site.{GivesNone, IsCut, IsDone, IsUnserved};
+ghost use Rattle.ifdb_words.specs.Ranges.{IsService};
 ghost use Rattle.ifdb_words.specs.Words.{command_of};
+ghost use Rattle.ifdb_words.specs.declared.service.Service.{Service as ServiceWords};
+ghost use Rattle.ifdb.specs.Status.{EndsWell, IsMade, IsRunEnd, IsServeEnd, IsUsage};
+ghost use Rattle.ifdb.specs.Texts.{IsWritten, text_for, text_of};
+ghost use Rattle.ifdb.specs.Words.{IsRefused, IsRun, IsServe, IsText, NeedsNoInput, NeedsNoSite, usage_line};
 
 use ifdb_generate::{OutOfMemory, generated};
 use ifdb_io::{Failed, Sink, Site, Source, write_all};
 use ifdb_script::{ScriptEnd, rehearse, run_script};
-use ifdb_words::{Command, Text, command_of};
+use ifdb_service::{ServiceEnd, serve as serve_site};
+use ifdb_words::{Command, Service, Text, command_of};
 use std::alloc::{AllocGlobal, Global};
+use std::sync::Wait;
+use std::thread::Threads;
 
 /// How the program ended. The exit status is the variant's place, from 0.
 #[derive(Clone, Copy, Debug, PartialEq, Eq)]
@@ -35,11 +41,11 @@ pub enum Status {
 const USAGE: &str =
     "usage: ifdb run [--limit N] | ifdb serve --port P [--workers W] [--links K] [--limit N] | ifdb generate [--run] N\n";
 
-/// Does what the words say, over this input, output and site. The words lack the program's name. These are answered so far:
-/// `run [--limit N]`, which runs the input as a script, and `generate [--run] N`; `serve` is read, and answered as words that
-/// ask for nothing.
+/// Does what the words say, over this input, output and site. The words lack the program's name. `run [--limit N]` runs the input
+/// as a script; `serve --port P [--workers W] [--links K] [--limit N]` serves connections; `generate [--run] N` writes a text.
+/// Other words get the usage line.
 #[tactic(auto, using(ifdb_script::proofs::RunLaws::cuts_dont_matter))]
-pub fn top<T: AllocGlobal, R: Source, W: Sink, S: Site>(
+pub fn top<T: AllocGlobal + Threads + Wait + Sync, R: Source, W: Sink, S: Site>(
     rt: &T,
     words: &[String],
     input: &mut R,
@@ -49,12 +55,11 @@ pub fn top<T: AllocGlobal, R: Source, W: Sink, S: Site>(
     // The script's output.
     ensures done { (limit : ℕ) → IsRun limit words.now → result ≡ Status.Done → RanWhole limit
         (R.left input.old) (R.left input.new) (W.written output.old) (W.written output.new) }
-
     ensures cuts { CutsDontMatter }
     ensures two_worlds { (limit : ℕ) → IsRun limit words.now → result ≡ Status.Done → KeepsLevels limit
         (R.left input.old) (R.left input.new) (W.written output.old) (W.written output.new) }
 
-    // Faults, and what was written before them.
+    // Faults of a script, and what was written before them.
     ensures read { result ≡ Status.ReadFault → Rose (R.faults input.old) (R.faults input.new) }
     ensures read_front { (limit : ℕ) → IsRun limit words.now → result ≡ Status.ReadFault → RanFront (λ n. n ≤ limit)
         (R.left input.old) (R.left input.new) (W.written output.old) (W.written output.new) }
@@ -63,28 +68,42 @@ pub fn top<T: AllocGlobal, R: Source, W: Sink, S: Site>(
         (R.left input.old) (R.left input.new) (W.written output.old) (W.written output.new) }
     ensures too_large { (limit : ℕ) → IsRun limit words.now → result ≡ Status.TooLarge → RanFront (λ n. n ≡ limit + 1)
         (R.left input.old) (R.left input.new) (W.written output.old) (W.written output.new) }
-    ensures memory { result ≡ Status.OutOfMemory → (input.new ≡ input.old) × (output.new ≡ output.old) }
+    ensures memory { NeedsNoSite words.now → result ≡ Status.OutOfMemory
+        → (input.new ≡ input.old) × (output.new ≡ output.old) }
     ensures complete { ¬ IsRefused words.now → ¬ Rose (R.faults input.old) (R.faults input.new)
-        → ¬ Rose (W.faults output.old) (W.faults output.new) → result ≢ Status.TooLarge → EndsWell result }
+        → ¬ Rose (W.faults output.old) (W.faults output.new) → ¬ Rose (S.faults site.old) (S.faults site.new)
+        → result ≢ Status.TooLarge → EndsWell result }
 
-    // Other words than those of `run`.
+    // The service.
+    ensures served { (s : ServiceWords) → IsServe s words.now → result ≡ Status.Done
+        → IsDone S.Site S.Door.Door S.Door.Link.Source S.Door.Link.Sink W.Sink s site.old site.new output.old output.new }
+    ensures served_cut { (s : ServiceWords) → IsServe s words.now → result ≡ Status.WriteFault
+        → IsCut S.Site S.Door.Door S.Door.Link.Source S.Door.Link.Sink W.Sink s site.old site.new output.old output.new }
+    ensures unserved { (s : ServiceWords) → IsServe s words.now → result ≡ Status.OutOfMemory
+        → ((site.new ≡ site.old) × (output.new ≡ output.old)) ⊎ IsUnserved S.Site S.Door.Door S.Door.Link.Source S.Door.Link.Sink W.Sink
+        s site.old site.new output.old output.new }
+    ensures site { result ≡ Status.SiteFault → Rose (S.faults site.old) (S.faults site.new) }
+    ensures no_doors { (s : ServiceWords) → IsServe s words.now → result ≡ Status.SiteFault
+        → GivesNone S.Site s site.old site.new × (output.new ≡ output.old) }
+    ensures serve_ends { (s : ServiceWords) → IsServe s words.now → IsServeEnd result }
+
+    // Other words.
     ensures usage { result ≡ Status.Usage → IsRefused words.now }
     ensures refused { IsRefused words.now → IsUsage result }
-    ensures text { IsOther words.now → IsWritten (text_for (command_of words.now)) result
+    ensures text { IsText words.now → IsWritten (text_for (command_of words.now)) result
         (W.written output.old) (W.written output.new) }
-    ensures other_input { IsOther words.now → input.new ≡ input.old }
+    ensures other_input { NeedsNoInput words.now → input.new ≡ input.old }
+    ensures other_site { NeedsNoSite words.now → site.new ≡ site.old }
 
     // What is so at every end.
     ensures input_later { R.faults input.old ≤ R.faults input.new }
     ensures output_later { W.faults output.old ≤ W.faults output.new }
-    ensures site { result ≢ Status.SiteFault }
-    ensures site_same { site.new ≡ site.old }
+    ensures site_later { S.faults site.old ≤ S.faults site.new }
 {
-    let _ = &site;
     match command_of(rt.alloc(), words) {
         Ok(Some(Command::Run { limit })) => run(rt.alloc(), input, output, limit),
+        Ok(Some(Command::Serve(service))) => serve(rt, output, site, service),
         Ok(Some(Command::Write(text))) => write_made(output, made(rt.alloc(), text)),
-        Ok(Some(Command::Serve(_))) => write_usage(output),
         Ok(None) => write_usage(output),
         Err(_) => Status::OutOfMemory,
     }
@@ -156,5 +175,34 @@ fn run<R: Source, W: Sink>(alloc: Global, input: &mut R, output: &mut W, limit: 
         ScriptEnd::WriteFault => Status::WriteFault,
         ScriptEnd::OutOfMemory => Status::OutOfMemory,
         ScriptEnd::TooLarge => Status::TooLarge,
+    }
+}
+
+/// Serves the connections of a site.
+fn serve<T: AllocGlobal + Threads + Wait + Sync, W: Sink, S: Site>(
+    rt: &T,
+    output: &mut W,
+    site: &mut S,
+    service: Service,
+) -> Status
+    requires { IsService service }
+    ensures done { result ≡ Status.Done
+        → IsDone S.Site S.Door.Door S.Door.Link.Source S.Door.Link.Sink W.Sink service site.old site.new output.old output.new }
+    ensures write { result ≡ Status.WriteFault → Rose (W.faults output.old) (W.faults output.new) }
+    ensures cut { result ≡ Status.WriteFault
+        → IsCut S.Site S.Door.Door S.Door.Link.Source S.Door.Link.Sink W.Sink service site.old site.new output.old output.new }
+    ensures site { result ≡ Status.SiteFault → Rose (S.faults site.old) (S.faults site.new) }
+    ensures no_doors { result ≡ Status.SiteFault → GivesNone S.Site service site.old site.new × (output.new ≡ output.old) }
+    ensures memory { result ≡ Status.OutOfMemory → IsUnserved S.Site S.Door.Door S.Door.Link.Source S.Door.Link.Sink W.Sink
+        service site.old site.new output.old output.new }
+    ensures ends { IsServeEnd result }
+    ensures output_later { W.faults output.old ≤ W.faults output.new }
+    ensures site_later { S.faults site.old ≤ S.faults site.new }
+{
+    match serve_site(rt, rt.alloc(), output, site, service) {
+        ServiceEnd::Done => Status::Done,
+        ServiceEnd::WriteFault => Status::WriteFault,
+        ServiceEnd::OutOfMemory => Status::OutOfMemory,
+        ServiceEnd::SiteFault => Status::SiteFault,
     }
 }

@@ -58,7 +58,7 @@ fn other_words_get_the_usage_line(rt: HostRuntime) -> Result<(), Fail> {
         "run run",
         "run --limit 0",
         "serve",
-        "serve --port 7070",
+        "serve --port 0",
         "generate",
         "generate --run=8",
     ] {

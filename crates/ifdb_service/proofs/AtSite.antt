@@ -1,0 +1,69 @@
+-- The service of a site, put together.
+use Rattle.std.proofs.Common.{◌≡◌, ℕ, List, [], ◌++◌, length, Option, Some, None, sym, ap, ◌∙◌, subst, arith}
+use Rattle.ifdb_io.specs.Doors.{Stays, LosesFirst, Becomes}
+use Rattle.ifdb_io.specs.declared.outside.Source as source
+use Rattle.ifdb_io.specs.declared.outside.Sink as sink
+use Rattle.ifdb_io.specs.declared.doors.Door as door
+use Rattle.ifdb_io.specs.declared.doors.Site as site
+use Rattle.ifdb_turn.specs.declared.turnstile.Pass.{Pass}
+use Rattle.ifdb_turn.specs.Histories.{AllRight}
+use Rattle.ifdb_turn.specs.Passes.{history, places, OwnsAll}
+use Rattle.ifdb_turn.specs.Places.{times, RisesFrom}
+use Rattle.ifdb_turn.proofs.PlaceLemmas.{merged_apart}
+use Rattle.ifdb_history.specs.declared.entry.Entry.{Entry}
+use Rattle.ifdb_history.specs.History.{IsRight}
+use Rattle.ifdb_db.specs.Reading.{read_line}
+use Rattle.ifdb_session.specs.declared.counts.Counts.{Counts}
+use Rattle.ifdb_session.specs.Counts.{counts_of}
+use Rattle.ifdb_words.specs.declared.service.Service.{Service}
+use Rattle.ifdb_service.specs.Doors.{ServedAll}
+use Rattle.ifdb_service.specs.Site.{Exchanges, IsServed, IsAskedFor}
+use Rattle.ifdb_service.specs.Summary.{listening_line, summary_text}
+
+loses_kept : {A : Type 0} (a b c : Option (List A)) (xs : List A) → LosesFirst a b xs → Stays b c → LosesFirst a c xs
+loses_kept None b c xs l s = tt
+loses_kept (Some told) None c xs l s = absurd l
+loses_kept (Some told) (Some left) c xs l s = subst (λ o. LosesFirst (Some told) o xs) (sym s) l
+
+becomes_kept : {A : Type 0} (a b c : Option (List A)) (xs : List A) → Stays a b → Becomes b c xs → Becomes a c xs
+becomes_kept None b c xs s l = tt
+becomes_kept (Some told) b c xs s l = subst (λ o. Becomes o c xs) s l
+
+module _ {S D K : Type 0} (sites : site.Ghosts S D K) where
+  -- the site gave doors, and then took some back
+  pub exchanged : (s : Service) (first then last : S) (given back : List D) → IsAskedFor sites s then → sites.asked last ≡ sites.asked then
+      → LosesFirst (sites.waiting first) (sites.waiting then) given → Stays (sites.waiting then) (sites.waiting last)
+      → Stays (sites.back first) (sites.back then) → Becomes (sites.back then) (sites.back last) back
+      → length given ≡ s.workers → Exchanges sites s first last given back
+  exchanged s first then last given back asked kept loses waits stays becomes many = record {
+    asked = kept ∙ asked;
+    first = loses_kept _ _ _ given loses waits;
+    returned = becomes_kept _ _ _ back stays becomes;
+    many = many;
+  }
+
+module _ {S D K : Type 0} (sites : site.Ghosts S D K) (doors : door.Ghosts D K) (sources : source.Ghosts K) (sinks : sink.Ghosts K) where
+  -- all doors were served, in the history with which the turnstile was closed
+  pub is_served : {X : Type 0} (Wrote : List ℕ → Type 0) (s : Service) (first last : S) (given back : List D) (old now : Pass X Entry) (faults : ℕ) (counts : Counts)
+      → Exchanges sites s first last given back → places old ≡ [] → ServedAll doors sources sinks s.limit old now given back faults
+      → AllRight (IsRight read_line) (history now) → OwnsAll now → RisesFrom 0 (places now)
+      → counts ≡ counts_of (history now) → Wrote (listening_line s.port ++ summary_text counts faults)
+      → IsServed sites doors sources sinks Wrote s first last
+  is_served Wrote s first last given back old now faults counts exchanges none all right owns rises counted wrote = record {
+    log = history now;
+    order = right;
+    given = given;
+    back = back;
+    exchanged = exchanges;
+    runs = all.runs;
+    given_are = all.before;
+    back_are = all.after;
+    served = all.served;
+    each = λ k lt.
+        let own = all.own k in
+        let one = owns k lt in
+        let most = merged_apart (places now) [] rises k in
+        let z : times k (places old) ≡ 0 = ap (times k) none in
+        omega arith;
+    written = subst (λ (z : Counts × ℕ). Wrote (listening_line s.port ++ summary_text z.0 z.1)) (λ i. (counted i, all.total i)) wrote;
+  }

@@ -1,0 +1,270 @@
+-- Workers: hired, sent out, and joined.
+use Rattle.std.specs.Bool.{if◌then◌else◌}
+use Rattle.std.specs.Result.{IsOk, is_ok}
+use Rattle.std.proofs.Common.{Result, ◌≡◌, ◌<◌, ◌≤◌, ◌+◌, ◌^◌, ℕ, suc, not, Bool, true, false, List, [], ◌∷◌, ◌++◌, map, length, All, sym, refl, ap, ap₂, ◌∙◌, subst, arith, append-nil, append_assoc, length-append}
+use Rattle.std.proofs.lemmas.List.{map-append, length-map}
+use Rattle.std.proofs.lemmas.List.Elements.{All-append, All-head, All-tail, All-cons}
+use mathlib.Core.List.{IsPrefix}
+use Rattle.std.specs.Borrow.{Bor}
+use Rattle.ifdb_io.specs.declared.outside.Source as source
+use Rattle.ifdb_io.specs.declared.outside.Sink as sink
+use Rattle.ifdb_io.specs.declared.doors.Door as door
+use Rattle.ifdb_turn.specs.declared.turnstile.Turnstile.{Turnstile}
+use Rattle.ifdb_turn.specs.declared.turnstile.Pass.{Pass}
+use Rattle.ifdb_turn.specs.Passes.{history, places, shares, BelongsTo, IsOrderly}
+use Rattle.ifdb_turn.specs.Places.{times, merge, RisesFrom}
+use Rattle.ifdb_turn.specs.Histories.{AllRight}
+use Rattle.ifdb_turn.proofs.PlaceLemmas.{times_merge}
+use Rattle.ifdb_history.specs.declared.entry.Entry.{Entry}
+use Rattle.ifdb_history.specs.History.{IsRight}
+use Rattle.ifdb_db.specs.Reading.{read_line}
+use Rattle.ifdb_pool.specs.Visits.{Visit, Serves as ServesAll}
+use Rattle.ifdb_pool.specs.Work.{Worked, AllWorked}
+use Rattle.ifdb_pool.specs.declared.worker.Worker.{Worker}
+use Rattle.ifdb_session.specs.declared.host.SessionHost.{SessionHost}
+use Rattle.ifdb_session.specs.declared.shared.SharedRoom.{SharedRoom}
+use Rattle.ifdb_session.specs.Endings.{fault_of, capped}
+use Rattle.ifdb_session.specs.Hosts.{Serves}
+use Rattle.ifdb_session.specs.Passes.{Sees}
+use Rattle.ifdb_session.proofs.Passes.{prefix-trans}
+use Rattle.ifdb_service.specs.Doors.{Connection, Run, AllLinked, IsRunIn, ServedAll, faults_in, faults_of, one_unless, turns_of, turns_at}
+use Rattle.ifdb_service.specs.Workers.{IsFresh, Hiring, IsHome, AllHome, Joining, hosts, one_if}
+use Rattle.ifdb_service.proofs.Links.{linked1, all_later, run_later}
+
+all_snoc : {X : Type 0} (P : X → Type 0) (xs : List X) (x : X) → All P xs → P x → All P (xs ++ x ∷ [])
+all_snoc P xs x all one = All-append P xs (x ∷ []) all (All-cons P x [] one (λ k d lt. absurd (omega arith)))
+
+-- a push that succeeded
+pub pushed_so : {T E X : Type 0} (r : Result T E) (now was : List X) (x : X) → IsOk r → now ≡ (if is_ok r then was ++ x ∷ [] else was) → now ≡ was ++ x ∷ []
+pushed_so r now was x ok is = is ∙ ap (λ b. if b then was ++ x ∷ [] else was) ok
+
+-- a pass that was split off is in order where its parent was
+pub split_orderly : {X E : Type 0} (right : List E → E → Type 0) (old own : Pass X E) → IsOrderly right old → history own ≡ history old → places own ≡ []
+    → IsOrderly right own
+split_orderly right old own orderly seen none =
+    (subst (AllRight right) (sym seen) orderly.0, subst (RisesFrom 0) (sym none) tt, λ k le. ap (times k) none)
+
+-- ---- workers are hired
+
+module _ {D K R : Type 0} (doors : door.Ghosts D K) (hall : Turnstile SharedRoom Entry) (limit : ℕ) where
+  pub hired : (old now now' : Pass SharedRoom Entry) (given : List D) (ws ws' : List (Worker D (SessionHost R K))) (d : D) (rs rest : List D) (room room' : ℕ)
+      (w : Worker D (SessionHost R K)) → rs ≡ d ∷ rest → Hiring doors hall limit old now given ws rs room
+      → BelongsTo hall now' → shares now' + 1 ≡ shares now → history now' ≡ history now → places now' ≡ places now
+      → w.door ≡ d → (doors.most d < 2 ^ 64 → IsFresh doors hall limit w) → ws' ≡ ws ++ w ∷ [] → room ≤ room'
+      → Hiring doors hall limit old now' given ws' rest room'
+  hired old now now' given ws ws' d rs rest room room' w gone i belongs share seen own is fresh more fits =
+      let h = subst (λ l. Hiring doors hall limit old now given ws l room) gone i in
+      let s = h.share in
+      let f = h.fits in
+      let few : D → Type 0 = λ x. doors.most x < 2 ^ 64 in
+      let len : length ws' ≡ length ws + 1 = ap length more ∙ length-append ws (w ∷ []) in
+      let first : doors.most d < 2 ^ 64 = All-head few d rest h.few in
+      record {
+        belongs = belongs;
+        share = omega arith;
+        taken = ap (λ l. map (λ w. w.door) l ++ rest) more ∙ ap (λ l. l ++ rest) (map-append (λ w. w.door) ws (w ∷ [])) ∙ append_assoc (map (λ w. w.door) ws) (w.door ∷ []) rest
+            ∙ ap (λ x. map (λ w. w.door) ws ++ x ∷ rest) is ∙ h.taken;
+        fresh = subst (All (IsFresh doors hall limit)) (sym more) (all_snoc (IsFresh doors hall limit) ws w h.fresh (fresh first));
+        few = All-tail few d rest h.few;
+        fits = omega arith;
+        seen = seen ∙ h.seen;
+        own = own ∙ h.own;
+      }
+
+-- ---- what the services of a host come to
+
+capped_more : (a b c : ℕ) → capped (capped (a + b) + c) ≡ capped (a + (b + c))
+capped_more a b c = omega arith
+
+tally : (f e u : ℕ) → capped (capped (capped f + capped e) + u) ≡ capped (f + (e + u))
+tally f e u = omega arith
+
+if_not : (b c : Bool) → c ≡ not b → one_if c ≡ one_unless b
+if_not true c is = ap one_if is
+if_not false c is = ap one_if is
+
+capped_zero : (a n : ℕ) → a < 2 ^ 64 → n ≡ a → n ≡ capped (a + 0)
+capped_zero a n lt is = omega arith
+
+capped_lt : (a n : ℕ) → n ≡ capped a → n < 2 ^ 64
+capped_lt a n is = omega arith
+
+faults_snoc : {D K : Type 0} (doors : door.Ghosts D K) (rs : List (Run D K)) (r : Run D K)
+    → faults_of doors (rs ++ r ∷ []) ≡ faults_of doors rs + (faults_in r.connections + one_unless (doors.ended r.after))
+faults_snoc doors [] r = omega arith
+faults_snoc doors (x ∷ xs) r = let i = faults_snoc doors xs r in omega arith
+
+turns_snoc : {D K : Type 0} (k : ℕ) (rs : List (Run D K)) (r : Run D K) → turns_at k (rs ++ r ∷ []) ≡ turns_at k rs + times k (turns_of r.connections)
+turns_snoc k [] r = omega arith
+turns_snoc k (x ∷ xs) r = let i = turns_snoc k xs r in omega arith
+
+module _ {K R : Type 0} (sources : source.Ghosts K) (sinks : sink.Ghosts K) where
+  -- one service after another
+  record Chained (a b : SessionHost R K) (vs : List (Visit K)) : Type 0 where
+    connections : List Connection
+    linked : AllLinked sources sinks a.limit (history b.pass) vs connections
+    own : places b.pass ≡ places a.pass ++ turns_of connections
+    faults : b.faults ≡ capped (a.faults + faults_in connections)
+    share : shares b.pass ≡ shares a.pass
+    begins : IsPrefix (history a.pass) (history b.pass)
+    hall : b.hall ≡ a.hall
+    limit : b.limit ≡ a.limit
+
+  chained : (a b : SessionHost R K) (vs : List (Visit K)) → a.faults < 2 ^ 64 → AllRight (IsRight read_line) (history b.pass)
+      → ServesAll (Serves sources sinks) a vs b → Chained a b vs
+  chained a b [] lt right is = record {
+    connections = [];
+    linked = tt;
+    own = sym (append-nil (places a.pass) ∙ ap (λ (h : SessionHost R K). places h.pass) is);
+    faults = capped_zero a.faults b.faults lt (ap (λ (h : SessionHost R K). h.faults) (sym is));
+    share = ap (λ (h : SessionHost R K). shares h.pass) (sym is);
+    begins = ([], append-nil (history a.pass) ∙ ap (λ (h : SessionHost R K). history h.pass) is);
+    hall = ap (λ (h : SessionHost R K). h.hall) (sym is);
+    limit = ap (λ (h : SessionHost R K). h.limit) (sym is);
+  }
+  chained a b (v ∷ vs) lt right s =
+      let m = s.0 in
+      let one = s.1 in
+      let rest = chained m b vs (capped_lt _ m.faults one.faults) right s.2 in
+      let l = linked1 sources sinks a m v one in
+      let first = all_later sources sinks a.limit (history m.pass) (history b.pass) (v ∷ []) (l.connection ∷ []) (l.linked, tt) rest.begins right in
+      record {
+        connections = l.connection ∷ rest.connections;
+        linked = (first.0, subst (λ n. AllLinked sources sinks n (history b.pass) vs rest.connections) one.limit rest.linked);
+        own = rest.own ∙ ap (λ p. p ++ turns_of rest.connections) l.own ∙ append_assoc (places a.pass) l.connection.turns (turns_of rest.connections);
+        faults = rest.faults ∙ ap (λ n. capped (n + faults_in rest.connections)) one.faults ∙ capped_more a.faults (fault_of one.service.ending) (faults_in rest.connections)
+            ∙ ap (λ e. capped (a.faults + (fault_of e + faults_in rest.connections))) (sym l.same);
+        share = rest.share ∙ one.sees.shares;
+        begins = prefix-trans (history a.pass) (history m.pass) (history b.pass) one.sees.begins rest.begins;
+        hall = rest.hall ∙ one.hall;
+        limit = rest.limit ∙ one.limit;
+      }
+
+-- ---- workers come home, and are joined
+
+module _ {D K R : Type 0} (doors : door.Ghosts D K) (hall : Turnstile SharedRoom Entry) (limit : ℕ) (sources : source.Ghosts K) (sinks : sink.Ghosts K) where
+  home_of : (w w' : Worker D (SessionHost R K)) → IsFresh doors hall limit w → Worked doors (hosts sources sinks) w w' → IsHome doors hall limit sources sinks w.door w'
+  home_of w w' f d =
+      let lt : w.host.faults < 2 ^ 64 = subst (λ n. n < 2 ^ 64) (sym f.no_fault) (omega arith) in
+      let c = chained sources sinks w.host w'.host d.visits lt d.served.ready.orderly.0 d.served.host in
+      let at : w'.host.hall.now ≡ hall = ap (λ (b : Bor (Turnstile SharedRoom Entry)). b.now) c.hall ∙ f.at in
+      let z : 0 + faults_in c.connections ≡ faults_in c.connections = omega arith in
+      record {
+        belongs = subst (λ t. BelongsTo t w'.host.pass) at d.served.ready.belongs;
+        share = c.share ∙ f.share;
+        visits = d.visits;
+        connections = c.connections;
+        run = record {
+          coming = d.served.coming;
+          back = d.served.back;
+          linked = subst (λ n. AllLinked sources sinks n (history w'.host.pass) d.visits c.connections) f.limit_is c.linked;
+          all = d.all;
+          cause = λ off. d.cause (d.failed ∙ ap not off);
+        };
+        own = c.own ∙ ap (λ l. l ++ turns_of c.connections) f.none;
+        faults = c.faults ∙ ap (λ n. capped (n + faults_in c.connections)) f.no_fault ∙ ap capped z;
+        failed = d.failed;
+      }
+
+  all_home : (ws ws' : List (Worker D (SessionHost R K))) → All (IsFresh doors hall limit) ws → AllWorked (Worked doors (hosts sources sinks)) ws ws'
+      → AllHome doors hall limit sources sinks (map (λ w. w.door) ws) ws'
+  all_home [] [] f a = tt
+  all_home [] (y ∷ ys) f a = absurd (omega (arith, a.0))
+  all_home (x ∷ xs) [] f a = absurd (omega (arith, a.0))
+  all_home (x ∷ xs) (y ∷ ys) f a =
+      let len : length ys ≡ length xs = let e = a.0 in omega arith in (
+        home_of x y (All-head (IsFresh doors hall limit) x xs f) (a.1 0 x (omega arith)),
+        all_home xs ys (All-tail (IsFresh doors hall limit) x xs f) (len, λ k d lt. a.1 (suc k) d (omega arith)),
+      )
+
+  -- all workers are at home, and none is joined yet
+  pub sent : (old now : Pass SharedRoom Entry) (given : List D) (ws0 ws ws' rs : List (Worker D (SessionHost R K))) (back : List D)
+      → BelongsTo hall now → IsOrderly (IsRight read_line) old → shares now + length given ≡ shares old → history now ≡ history old → places now ≡ places old
+      → map (λ w. w.door) ws ≡ given → All (IsFresh doors hall limit) ws → ws0 ≡ ws → AllWorked (Worked doors (hosts sources sinks)) ws0 ws' → rs ≡ ws' → back ≡ []
+      → Joining doors hall limit sources sinks old now given rs back 0
+  sent old now given ws0 ws ws' rs back belongs orderly share seen own taken fresh same first is none =
+      let worked = subst (λ l. AllWorked (Worked doors (hosts sources sinks)) l ws') same first in
+      let l1 : length ws ≡ length given = sym (length-map ws (λ w. w.door)) ∙ ap length taken in
+      let l2 : length ws' ≡ length ws = worked.0 in
+      let l3 : length rs ≡ length ws' = ap length is in
+      record {
+        belongs = belongs;
+        orderly = subst (λ (z : List Entry × List ℕ). AllRight (IsRight read_line) z.0 × RisesFrom 0 z.1 × Rattle.ifdb_turn.specs.Places.LiesBelow (length z.0) z.1) (λ i. (sym seen i, sym own i)) orderly;
+        share = omega arith;
+        begins = ([], append-nil (history old) ∙ sym seen);
+        left = map (λ w. w.door) ws;
+        home = subst (AllHome doors hall limit sources sinks (map (λ w. w.door) ws)) (sym is) (all_home ws ws' fresh worked);
+        runs = [];
+        before = taken;
+        after = sym none;
+        served = λ k d lt. absurd (omega arith);
+        total = refl;
+        own = λ k. ap (times k) own ∙ omega arith;
+      }
+
+  pub joined : (old now now' : Pass SharedRoom Entry) (given : List D) (w : Worker D (SessionHost R K)) (rs rest : List (Worker D (SessionHost R K))) (back back' : List D) (faults faults' : ℕ)
+      → rs ≡ w ∷ rest → Joining doors hall limit sources sinks old now given rs back faults
+      → BelongsTo hall now' → IsOrderly (IsRight read_line) now' → IsPrefix (history now) (history now') → IsPrefix (history w.host.pass) (history now')
+      → places now' ≡ merge (places now) (places w.host.pass) → shares now' ≡ shares now + shares w.host.pass
+      → back' ≡ back ++ w.door ∷ [] → faults' ≡ capped (capped (faults + w.host.faults) + one_if w.failed)
+      → Joining doors hall limit sources sinks old now' given rest back' faults'
+  joined old now now' given w rs rest back back' faults faults' gone i belongs orderly begins from own shares_are more total =
+      go i.left (subst (λ l. AllHome doors hall limit sources sinks i.left l) gone i.home) refl
+    where
+      go : (left : List D) → AllHome doors hall limit sources sinks left (w ∷ rest) → left ≡ i.left → Joining doors hall limit sources sinks old now' given rest back' faults'
+      go [] h is = absurd h
+      go (d ∷ ds) h is =
+          let one = h.0 in
+          let r : Run D K = record { before = d; after = w.door; visits = one.visits; connections = one.connections } in
+          let len : length rs ≡ length rest + 1 = ap length gone ∙ omega arith in
+          let s = i.share in
+          let s1 = one.share in
+          record {
+            belongs = belongs;
+            orderly = orderly;
+            share = omega arith;
+            begins = prefix-trans (history old) (history now) (history now') i.begins begins;
+            left = ds;
+            home = h.1;
+            runs = i.runs ++ r ∷ [];
+            before = ap (λ l. l ++ ds) (map-append (λ r. r.before) i.runs (r ∷ [])) ∙ append_assoc (map (λ r. r.before) i.runs) (d ∷ []) ds ∙ ap (λ l. map (λ r. r.before) i.runs ++ l) is ∙ i.before;
+            after = map-append (λ r. r.after) i.runs (r ∷ []) ∙ ap (λ l. l ++ w.door ∷ []) i.after ∙ sym more;
+            served = all_snoc (IsRunIn doors sources sinks limit (history now')) i.runs r
+                (λ k d lt. run_later sources sinks doors limit (history now) (history now') _ (i.served k d lt) begins orderly.0)
+                (run_later sources sinks doors limit (history w.host.pass) (history now') r one.run from orderly.0);
+            total = total ∙ ap₂ (λ a b. capped (capped (a + w.host.faults) + b)) i.total (if_not _ w.failed one.failed)
+                ∙ ap (λ b. capped (capped (capped (faults_of doors i.runs) + b) + one_unless (doors.ended w.door))) one.faults
+                ∙ tally (faults_of doors i.runs) (faults_in one.connections) _ ∙ ap capped (sym (faults_snoc doors i.runs r));
+            own = λ k. let o = i.own k in let m = times_merge k (places now) (places w.host.pass) in let t = ap (times k) own in let n = ap (times k) one.own in
+                let x = turns_snoc k i.runs r in omega arith;
+          }
+
+  pub next_belongs : (left : List D) (rs rest : List (Worker D (SessionHost R K))) (w : Worker D (SessionHost R K)) → AllHome doors hall limit sources sinks left rs → rs ≡ w ∷ rest
+      → BelongsTo hall w.host.pass
+  next_belongs left rs rest w home is = go left (subst (λ l. AllHome doors hall limit sources sinks left l) is home)
+    where
+      go : (left : List D) → AllHome doors hall limit sources sinks left (w ∷ rest) → BelongsTo hall w.host.pass
+      go [] h = absurd h
+      go (d ∷ ds) h = h.0.belongs
+
+  pub all_served : (old now : Pass SharedRoom Entry) (given : List D) (rs : List (Worker D (SessionHost R K))) (back : List D) (faults : ℕ)
+      → Joining doors hall limit sources sinks old now given rs back faults → length rs ≡ 0 → ServedAll doors sources sinks limit old now given back faults
+  all_served old now given rs back faults i is = record {
+    runs = i.runs;
+    before = go i.left rs i.home is i.before;
+    after = i.after;
+    served = i.served;
+    total = i.total;
+    own = i.own;
+  }
+    where
+      go : (left : List D) (rs : List (Worker D (SessionHost R K))) → AllHome doors hall limit sources sinks left rs → length rs ≡ 0 → map (λ r. r.before) i.runs ++ left ≡ given
+          → map (λ r. r.before) i.runs ≡ given
+      go [] rs h z e = sym (append-nil (map (λ r. r.before) i.runs)) ∙ e
+      go (d ∷ ds) [] h z e = absurd h
+      go (d ∷ ds) (w ∷ ws) h z e = absurd (omega (arith, z))
+
+  pub all_seen : (old now : Pass SharedRoom Entry) (given : List D) (rs : List (Worker D (SessionHost R K))) (back : List D) (faults : ℕ)
+      → Joining doors hall limit sources sinks old now given rs back faults → length rs ≡ 0 → Sees hall old now
+  all_seen old now given rs back faults i is =
+      let s = i.share in record { belongs = i.belongs; orderly = i.orderly; begins = i.begins; shares = omega arith }

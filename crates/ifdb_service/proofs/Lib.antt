@@ -1,0 +1,6 @@
+mod Links
+mod Crew
+mod AtSite
+mod Written
+mod Rooms
+mod Hosts

@@ -1,0 +1,74 @@
+-- That a room may go to another thread, type by type: the checker's own search gives up on types that hold themselves.
+use denote.Param.Send.{IsSend, IsSync, AllSend, AllSync, struct_send, struct_sync, recorded_send, recorded_sync, view_send, view_sync, sendable}
+use denote.Struct.Declared.{shape}
+use Rattle.std.proofs.Crossing.{Vec-send, Vec-sync, Arc-send}
+use Rattle.std.proofs.alloc.Global.TheSendSync as heap
+use Rattle.ifdb_value.specs.contracts.name.Name as name
+use Rattle.ifdb_value.proofs.name.Name.TheSendSync.{the_send as name_send, the_sync as name_sync}
+use Rattle.ifdb_label.proofs.label.Label.TheSendSync.{the_send as label_send}
+use Rattle.ifdb_row.proofs.writes.Writes.TheSendSync.{the_send as writes_send}
+use Rattle.ifdb_store.specs.contracts.content.Content as content
+use Rattle.ifdb_store.specs.contracts.store.Store as store
+use Rattle.ifdb_catalog.specs.contracts.catalog.Catalog as catalog
+use Rattle.ifdb_catalog.specs.contracts.catalog.Catalog.TheInside as in_catalog
+use Rattle.ifdb_snapshot.specs.contracts.public_state.PublicState as public_state
+use Rattle.ifdb_snapshot.specs.contracts.public_state.PublicState.TheInside as in_public_state
+use Rattle.ifdb_snapshot.specs.contracts.shared_state.SharedState as shared_state
+use Rattle.ifdb_snapshot.specs.contracts.shared_state.SharedState.TheInside as in_shared_state
+use Rattle.ifdb_db.specs.contracts.txn.Txn as txn
+use Rattle.ifdb_db.specs.contracts.txn.Txn.TheInside as in_txn
+use Rattle.ifdb_db.specs.contracts.session.Session as session
+use Rattle.ifdb_db.specs.contracts.session.Session.TheInside as in_session
+use Rattle.ifdb_db.specs.contracts.db.Db as db
+use Rattle.ifdb_db.specs.contracts.db.Db.TheInside as in_db
+use Rattle.ifdb_db.specs.contracts.room.Room as room
+use Rattle.ifdb_db.specs.contracts.room.Room.TheInside as in_room
+use Rattle.ifdb_session.specs.contracts.shared.SharedRoom as shared_room
+
+-- what is held of a catalog, field by field
+abbrev pub CatalogSends : Type 0
+CatalogSends = AllSend (shape in_catalog.the_type).fields
+
+abbrev pub CatalogSyncs : Type 0
+CatalogSyncs = AllSync (shape in_catalog.the_type).fields
+
+catalog_send : CatalogSends → IsSend catalog.the_row
+catalog_send s = view_send _ _ _ _ _ (recorded_send in_catalog.the_field.row _ _ in_catalog.the_type.to_one (struct_send (shape in_catalog.the_type) s))
+
+catalog_sync : CatalogSyncs → IsSync catalog.the_row
+catalog_sync s = view_sync _ _ _ _ _ (recorded_sync in_catalog.the_field.row _ _ in_catalog.the_type.to_one (struct_sync (shape in_catalog.the_type) s))
+
+public_send : IsSend catalog.the_row → IsSend public_state.the_row
+public_send s = view_send _ _ _ _ _ (recorded_send in_public_state.the_field.row _ _ in_public_state.the_type.to_one
+    (struct_send (shape in_public_state.the_type) (heap.the_field_send, (s, (Vec-send name.the_row name_send, tt)))))
+
+public_sync : IsSync catalog.the_row → IsSync public_state.the_row
+public_sync s = view_sync _ _ _ _ _ (recorded_sync in_public_state.the_field.row _ _ in_public_state.the_type.to_one
+    (struct_sync (shape in_public_state.the_type) (heap.the_field_sync, (s, (Vec-sync name.the_row name_sync, tt)))))
+
+shared_state_send : IsSend public_state.the_row → IsSync public_state.the_row → IsSend shared_state.the_row
+shared_state_send s y = view_send _ _ _ _ _ (recorded_send in_shared_state.the_field.row _ _ in_shared_state.the_type.to_one
+    (struct_send (shape in_shared_state.the_type) (heap.the_field_send, (Arc-send public_state.the_row s y, tt))))
+
+txn_send : IsSend shared_state.the_row → IsSend content.the_row → IsSend txn.the_row
+txn_send s c = view_send _ _ _ _ _ (recorded_send in_txn.the_field.row _ _ in_txn.the_type.to_one
+    (struct_send (shape in_txn.the_type) (heap.the_field_send, (search sendable depth 30, (s, (c, (c, (writes_send, tt))))))))
+
+session_send : IsSend txn.the_row → IsSend session.the_row
+session_send t = view_send _ _ _ _ _ (recorded_send in_session.the_field.row _ _ in_session.the_type.to_one
+    (struct_send (shape in_session.the_type) (search sendable depth 30, (search sendable depth 30, (label_send, (search sendable depth 30, tt))))))
+
+db_send : IsSend shared_state.the_row → IsSend store.the_row → IsSend db.the_row
+db_send s t = view_send _ _ _ _ _ (recorded_send in_db.the_field.row _ _ in_db.the_type.to_one
+    (struct_send (shape in_db.the_type) (heap.the_field_send, (s, (t, (search sendable depth 30, (Vec-send _ (search sendable depth 30), tt)))))))
+
+room_send : IsSend db.the_row → IsSend session.the_row → IsSend room.the_row
+room_send d s = view_send _ _ _ _ _ (recorded_send in_room.the_field.row _ _ in_room.the_type.to_one
+    (struct_send (shape in_room.the_type) (heap.the_field_send, (d, (Vec-send session.the_row s, tt)))))
+
+pub shared_room_send : CatalogSends → CatalogSyncs → IsSend store.the_row → IsSend content.the_row → IsSend shared_room.the_row
+shared_room_send sends syncs s c =
+    let state = shared_state_send (public_send (catalog_send sends)) (public_sync (catalog_sync syncs)) in
+    let r = room_send (db_send state s) (session_send (txn_send state c)) in
+    recorded_send shared_room.the_field.row _ _ shared_room.the_type.to_one
+    (struct_send (shape shared_room.the_type) (r, (search sendable depth 30, (search sendable depth 30, (search sendable depth 30, tt)))))

@@ -1,0 +1,7 @@
+use Rattle.std.proofs.Common.{vec_capacity}
+use Rattle.ifdb_service.specs.Workers.{Hiring}
+use Rattle.ifdb_service.proofs.workers.hire.Given as goal
+
+abbrev pub invariant-loop-door : goal.invariant-loop-door
+invariant-loop-door g l =
+    Hiring g.D.Door l.hall l.limit l.fn.pass l.pass l.fn.doors.items l.workers.items l.door-iterator.rest.items (vec_capacity l.workers)

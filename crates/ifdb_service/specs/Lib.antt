@@ -1,0 +1,4 @@
+pub mod Summary
+pub mod Doors
+pub mod Workers
+pub mod Site

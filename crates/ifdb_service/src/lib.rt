@@ -1,0 +1,16 @@
+//! The service of a site: a worker for each door, over one room that all connections share, and the summary at the end.
+#![tactic(auto)]
+
+mod crossing;
+mod doors;
+mod end;
+mod numbered_line;
+mod service;
+mod summary;
+#[cfg(test)]
+mod tests;
+mod workers;
+
+pub use doors::{Ended, Unserved, serve_doors};
+pub use end::ServiceEnd;
+pub use service::serve;
