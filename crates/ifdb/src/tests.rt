@@ -2,6 +2,7 @@
 ghost use Rattle.std.specs.Prelude.{◌<◌};
 
 mod ends;
+mod faults;
 mod generate;
 mod rows;
 mod serve;
@@ -12,8 +13,11 @@ mod worlds;
 
 use super::*;
 use ifdb_io::{MemoryLink, MemorySink, MemorySite, MemorySource};
-use std::alloc::Global;
+use std::alloc::{AllocGlobal, Global};
+use std::marker::Sync;
+use std::sync::Wait;
 use std::test::Fail;
+use std::thread::Threads;
 
 // As many bytes as a script of these tests writes at most.
 const ROOM: usize = 4096;
@@ -28,8 +32,8 @@ fn words_of(alloc: Global, text: &str) -> Result<Vec<String>, Fail> {
 }
 
 // How `top` ends with these words over this source and sink in memory, and a site without doors.
-fn end_of(
-    rt: &HostRuntime,
+fn end_of<R: AllocGlobal + Threads + Wait + Sync>(
+    rt: &R,
     words: &str,
     input: &mut MemorySource,
     output: &mut MemorySink,
@@ -65,7 +69,11 @@ struct Ran {
 }
 
 // Runs a script that comes and is answered in pieces of this size.
-fn run(rt: &HostRuntime, script: &[u8], piece: usize) -> Result<Ran, Fail>
+fn run<R: AllocGlobal + Threads + Wait + Sync>(
+    rt: &R,
+    script: &[u8],
+    piece: usize,
+) -> Result<Ran, Fail>
     requires { 0 < piece }
 {
     let mut input = source(rt.alloc(), script, piece)?;

@@ -10,7 +10,11 @@ const NAMES: [&str; 5] = ["lines", "ok", "rows", "errors", "live"];
 const EIGHT: &[u8] = b"lines 31\nok 28\nrows 2\nerrors 1\nlive 7\n";
 
 // What the words write, and how they end.
-fn written_for(rt: &HostRuntime, words: &str, piece: usize) -> Result<Ran, Fail>
+fn written_for<R: AllocGlobal + Threads + Wait + Sync>(
+    rt: &R,
+    words: &str,
+    piece: usize,
+) -> Result<Ran, Fail>
     requires { 0 < piece }
 {
     let mut input = source(rt.alloc(), b"", 1)?;

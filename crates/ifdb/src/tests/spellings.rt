@@ -7,7 +7,7 @@ const BEGINNING: &[u8] =
 const BEGUN: &[u8] = b"1 OPEN\n1 OK\n1 OK\n";
 
 // What is written for a line behind the beginning.
-fn answer(rt: &HostRuntime, line: &[u8]) -> Result<Ran, Fail> {
+fn answer<R: AllocGlobal + Threads + Wait + Sync>(rt: &R, line: &[u8]) -> Result<Ran, Fail> {
     let mut script = both(rt.alloc(), BEGINNING, line)?;
     script.push(b'\n')?;
     run(rt, &script, 65_536)

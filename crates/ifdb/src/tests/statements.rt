@@ -77,8 +77,8 @@ const ENDS: (&[u8], &[u8]) = (
 );
 
 /// What is written for a script, behind another.
-pub(super) fn written(
-    rt: &HostRuntime,
+pub(super) fn written<R: AllocGlobal + Threads + Wait + Sync>(
+    rt: &R,
     begin: &[u8],
     (script, _): (&[u8], &[u8]),
 ) -> Result<Vec<u8>, Fail> {
