@@ -6,6 +6,7 @@
 //! joined again, and the one that has all shares closes the turnstile.
 #![tactic(auto)]
 
+mod bells;
 mod kinds;
 mod object;
 mod turn;

@@ -1,6 +1,7 @@
 //! The turnstile and its passes.
 ghost use Rattle.std.specs.Prelude.{◌≡◌};
 
+use crate::bells::Bells;
 use crate::kinds::{
     Append, CopyPass, HandOn, JoinPasses, LoadCount, LookAtServing, MakeSeat, NamedEntry,
     SplitShare, TakeFirstTicket, TakeTicket,
@@ -25,6 +26,7 @@ const COUNT: usize = 2;
 /// the thread that makes it. It has to be ended by `close`, as it can't be dropped.
 pub struct Turnstile<O: Object> {
     pub(crate) table: Table<Option<Kept<O, O::Entry>>, PassView<O::Entry>, (), TurnRule<O>, Global>,
+    pub(crate) bells: Bells,
     ghost sized: { (table.shared.table_id.words ≡ 3) × (table.shared.table_id.slots ≡ 1) },
 }
 
@@ -80,7 +82,10 @@ impl<O: Object> Turnstile<O> {
             .compare_exchange_with::<TakeFirstTicket>(&mut seat, TICKET, 0, 1, &kept);
         table.shared.load::<LookAtServing<O>>(&mut seat, SERVING);
         let Some(kept) = kept else { unreachable!() };
-        let turnstile = Turnstile { table };
+        let turnstile = Turnstile {
+            table,
+            bells: Bells::new(),
+        };
         turnstile.hand_on(&mut seat, kept);
         Ok((turnstile, Pass { seat }))
     }
@@ -135,7 +140,7 @@ impl<O: Object> Turnstile<O> {
         ensures order { AllRight O.right (history pass) }
         ensures own { OwnsAll pass }
     {
-        let Turnstile { table } = self;
+        let Turnstile { table, bells: _ } = self;
         let Pass { seat } = pass;
         let mut closed = table.close_with(seat);
         let Some(kept) = closed.take(0) else {
@@ -151,7 +156,7 @@ impl<O: Object> Turnstile<O> {
     ///
     /// No promise says that the turn ever comes: it does not where a turn before it never ends, and whoever would have
     /// the last ticket, 2^64 - 1, waits for good. Turns come in the order of tickets, but no promise says that either.
-    /// A thread that waits sleeps, and wakes each time that a turn ends.
+    /// A thread that waits sleeps, and wakes when its turn comes, or that of a ticket a multiple of 64 away.
     pub fn enter<'a, R: Wait>(&'a self, rt: &R, pass: &'a mut Pass<O>) -> Turn<'a, O>
         requires pass { BelongsTo self.now pass.old }
         ensures turnstile { IsAt self.now result }
@@ -195,8 +200,7 @@ impl<O: Object> Turnstile<O> {
         self.table.shared.fetch_add::<Append<N>>(seat, COUNT, 1);
     }
 
-    // Puts the object back, and gives the turn to the next ticket. All who wait are woken, since each waits for a
-    // ticket of its own, and the one whose turn it is may be any of them.
+    // Puts the object back, gives the turn to the next ticket, and wakes who waits for it.
     pub(crate) fn hand_on(&self, seat: &mut PassSeat<O>, kept: Kept<O, O::Entry>)
         requires turn { KnowsAll self.now.table.shared.table_id seat.old }
         requires slot { seat.old.me.1 ≡ (0, None) ∷ [] }
@@ -207,8 +211,8 @@ impl<O: Object> Turnstile<O> {
         let shared = &self.table.shared;
         let old = shared.exchange(seat, 0, Some(kept));
         let None = old else { unreachable!() };
-        shared.fetch_add::<HandOn<O>>(seat, SERVING, 1);
-        shared.wake_all(SERVING);
+        let served = shared.fetch_add::<HandOn<O>>(seat, SERVING, 1);
+        self.bells.ring(served.wrapping_add(1));
     }
 
     // Ticket 2^64 - 1 is never given out: whoever would have it waits for good.
@@ -240,13 +244,12 @@ impl<O: Object> Turnstile<O> {
         ensures { BeginsTurn O.stands O.right O.root ticket seat.old seat.new }
     {
         for _ in rt.forever() {
+            let rung = self.bells.rung(ticket);
             let serving = self.table.shared.load::<LookAtServing<O>>(seat, SERVING);
             if serving == ticket {
                 return;
             }
-            self.table
-                .shared
-                .park(rt, SERVING, (serving % (1 << 32)) as u32);
+            self.bells.sleep(rt, ticket, rung);
         }
         unreachable!()
     }
