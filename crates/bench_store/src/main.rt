@@ -1,12 +1,15 @@
-//! Times a store of many rows: snapshots, commits of one write, look-ups by slot and walks through a table.
+//! Times a store of many rows: snapshots, commits of one write, look-ups by slot, walks through a table, and questions for the
+//! children of a slot.
 //!
 //! With a word, as `time`, it prints what each call takes at 10,000, 100,000 and 1,000,000 rows. Without one it fills a small
 //! store and prints how many rows a walk finds, which is the same each time.
 #![tactic(auto)]
 
+mod family;
 mod rows;
 mod work;
 
+use family::{QUESTIONS, add_each, add_many, children, count};
 use ifdb_store::Store;
 use std::time::Instant;
 use std::{env, io};
@@ -19,6 +22,7 @@ fn main(rt: HostRuntime) -> io::Result<()> {
         time(&rt, 1_000_000)?;
     } else {
         show(&rt, 200)?;
+        show_children(&rt, 200)?;
     }
     Ok(())
 }
@@ -31,6 +35,14 @@ fn show(rt: &HostRuntime, rows: u32) -> io::Result<()> {
     println!(rt; "{rows} commits of one write: {found} rows")
 }
 
+/// Prints how many children of a slot there are among so many rows.
+fn show_children(rt: &HostRuntime, rows: u32) -> io::Result<()> {
+    let mut store = Store::new(rt.alloc())?;
+    add_many(rt.alloc(), &mut store, rows)?;
+    let found = count(rt.alloc(), store.content(), 7)?;
+    println!(rt; "{rows} rows with parents: {found} children of a slot")
+}
+
 /// Fills a store, and times it.
 fn time(rt: &HostRuntime, rows: u32) -> io::Result<()> {
     println!(rt; "{rows} rows")?;
@@ -40,7 +52,8 @@ fn time(rt: &HostRuntime, rows: u32) -> io::Result<()> {
     time_look(rt, &store, rows)?;
     time_share(rt, &store)?;
     time_fill(rt, &mut store, rows)?;
-    time_walk(rt, &store, rows)
+    time_walk(rt, &store, rows)?;
+    time_family(rt, rows)
 }
 
 /// Times the making of slots, which is a part of a look-up's time.
@@ -76,6 +89,35 @@ fn time_walk(rt: &HostRuntime, store: &Store, rows: u32) -> io::Result<()> {
     let start = Instant::now(rt)?;
     let _ = walk(store.content());
     tell(rt, "row of a walk", start, rows)
+}
+
+/// Fills a store with rows that have parents, and times it.
+fn time_family(rt: &HostRuntime, rows: u32) -> io::Result<()> {
+    let mut store = Store::new(rt.alloc())?;
+    time_many(rt, &mut store, rows)?;
+    time_children(rt, &store, rows)?;
+    time_each(rt, &mut store, rows)
+}
+
+/// Times one commit of many rows with parents.
+fn time_many(rt: &HostRuntime, store: &mut Store, rows: u32) -> io::Result<()> {
+    let start = Instant::now(rt)?;
+    add_many(rt.alloc(), store, rows)?;
+    tell(rt, "row with a parent in one commit", start, rows)
+}
+
+/// Times questions for the first child of a slot.
+fn time_children(rt: &HostRuntime, store: &Store, rows: u32) -> io::Result<()> {
+    let start = Instant::now(rt)?;
+    children(rt.alloc(), store.content(), rows)?;
+    tell(rt, "first child of a slot", start, QUESTIONS)
+}
+
+/// Times commits of one row with a parent.
+fn time_each(rt: &HostRuntime, store: &mut Store, rows: u32) -> io::Result<()> {
+    let start = Instant::now(rt)?;
+    add_each(rt.alloc(), store, rows)?;
+    tell(rt, "commit of one row with a parent", start, QUESTIONS)
 }
 
 /// Prints how long each of some calls took.

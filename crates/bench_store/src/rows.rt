@@ -1,4 +1,7 @@
 // Rows of a number as key and another number, at the empty label.
+ghost use Rattle.std.specs.Prelude.{IfOk, IsTrue};
+ghost use Rattle.ifdb_row.specs.Writes.{is_fitting};
+
 use ifdb_label::Label;
 use ifdb_row::{Key, OutOfMemory, Refs, Row, Slot, Values, Write, Writes};
 use ifdb_value::{TableId, Value};
@@ -21,6 +24,21 @@ fn row_of(alloc: Global, number: i64) -> Result<Row, OutOfMemory> {
         values,
         refs: Refs::new(alloc),
     })
+}
+
+/// The write of a row of table 1 with this key, bound to the row of another key of table 0.
+pub(crate) fn child_write(alloc: Global, number: i64, parent: i64) -> Result<Write, OutOfMemory>
+    ensures { IfOk result (λ write. IsTrue (is_fitting write.slot write.row)) }
+{
+    let refs = Refs::single(alloc, slot_of(alloc, parent)?)?;
+    let key = Key::single(alloc, Value::Int(number))?;
+    let slot = Slot {
+        table: TableId(1),
+        key,
+        label: Label::empty(alloc),
+    };
+    let values = Values::new(alloc);
+    Write::of_row(alloc, Row { slot, values, refs })
 }
 
 /// The slot of this key.

@@ -64,7 +64,7 @@ pub(crate) fn walk(content: &Content) -> u64 {
 }
 
 /// A number, spread over the numbers below the number of rows.
-fn spread(i: u32, rows: u32) -> i64 {
+pub(crate) fn spread(i: u32, rows: u32) -> i64 {
     let far = u64::from(i).wrapping_mul(7919);
     i64::from(far.checked_rem(u64::from(rows)).unwrap_or(0) as u32)
 }

@@ -7,4 +7,6 @@ pub mod KeptLemmas
 pub mod Bounds
 pub mod Joining
 pub mod Marks
-pub mod Spans
+pub mod Prints
+pub mod Linking
+pub mod Walking

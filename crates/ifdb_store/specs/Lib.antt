@@ -3,4 +3,4 @@ pub mod Costs
 pub mod Kept
 pub mod Later
 pub mod Marks
-pub mod Spans
+pub mod Links

@@ -4,13 +4,12 @@ ghost use Rattle.std.specs.List.{list_all, flat_map};
 ghost use Rattle.ifdb_row.specs.Content.{after, rising};
 ghost use Rattle.ifdb_store.specs.Pages.{AddsOne, AddsRows, StaysFull, flat, is_chapter, is_full, is_page};
 
-use crate::entry::{Entry, span_of};
+use crate::entry::Entry;
 use crate::join::joined;
 use crate::page::Page;
 use crate::part::{Part, bound_to, end_of, parts_after, run_from};
 use crate::put::shared;
 use crate::search::Placed;
-use crate::span::Span;
 use crate::steps::Steps;
 use ifdb_row::{Edge, OutOfMemory, Row, Slot, Write};
 use ifdb_value::{Sequence, Shared};
@@ -94,10 +93,6 @@ impl Placed for Chapter {
 
     fn slot(&self) -> &Slot {
         self.pages()[0].get().slot()
-    }
-
-    fn span(&self) -> Span {
-        span_of(self.pages())
     }
 }
 

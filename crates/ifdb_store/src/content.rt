@@ -1,44 +1,43 @@
 // Contents in versions.
-ghost use Rattle.std.specs.Prelude.{◌≡◌, ◌≤◌, ◌<◌, ◌+◌, ◌-◌, ◌*◌, ◌^◌, [], length, IfOk, IfSome, IsTrue, None, OnOk};
-ghost use Rattle.std.specs.List.{list_all};
+ghost use Rattle.std.specs.Prelude.{◌≡◌, ◌≤◌, ◌+◌, ◌-◌, ◌*◌, ◌^◌, [], length, IfOk, IfSome, IsTrue, None};
 ghost use Rattle.std.specs.Option.{option_copied};
 ghost use Rattle.ifdb_row.specs.Content.{after, rising};
-ghost use Rattle.ifdb_row.specs.Writes.{are_fitting, are_rising};
-ghost use Rattle.ifdb_row.specs.Questions.{IsRun, first_row_from, rows_from};
-ghost use Rattle.ifdb_store.specs.Pages.{are_full, flat, is_chapter, is_full, is_page, rows_of};
+ghost use Rattle.ifdb_row.specs.Questions.{first_row_from};
+ghost use Rattle.ifdb_store.specs.Links.{are_links};
 
-use crate::chapter::{Chapter, bind};
-use crate::entry::Entry;
-use crate::page::{Page, cut};
-use crate::part::{bound_to, parts_after, run_from};
-use crate::put::{add_shared, rows_after};
+use crate::links::{are_near, first_child, links_after, writes_after};
 use crate::steps::Steps;
-use ifdb_row::{Edge, OutOfMemory, Row, Rows, Slot, Write, Writes, first_of_run};
-use ifdb_value::{Sequence, Shared};
+use crate::tree::Tree;
+use ifdb_row::{Edge, OutOfMemory, Row, Rows, Slot, Writes};
+use ifdb_value::Shared;
 use std::alloc::Global;
-use std::marker::{Brand, Model};
-use std::sync::ledger::{Blank, Ledger};
+use std::marker::Model;
+use std::sync::ledger::Ledger;
 
-/// The chapters of a content.
-type Chapters = Sequence<Entry<Chapter>>;
+/// Rows, and the links from their parents to them.
+#[derive(Drop)]
+struct Body {
+    rows: Tree,
+    links: Tree,
+}
 
 /// Rows in the order of their slots, each slot once. It never changes: a later version is a content of its own, which
 /// shares what it has in common with this one. Contracts see the list of the rows.
 #[derive(Drop)]
 pub struct Content {
-    chapters: Shared<Chapters>,
+    body: Shared<Body>,
 }
 
 impl Model for Content {
     ghost use Rattle.std.specs.Prelude.{List, IsTrue};
     ghost use Rattle.ifdb_row.specs.declared.row.Row.{Row};
-    ghost use Rattle.ifdb_store.specs.Pages.{rows_of, is_content};
+    ghost use Rattle.ifdb_store.specs.Links.{are_links};
 
     ghost Value = { List Row };
 
-    ghost view = { λ c. rows_of c.chapters };
+    ghost view = { λ c. c.body.rows };
 
-    ghost invariant = { λ c. IsTrue (is_content c.chapters) };
+    ghost invariant = { λ c. IsTrue (are_links c.body.links c.body.rows) };
 }
 
 impl Content {
@@ -46,8 +45,18 @@ impl Content {
     pub fn new(alloc: Global) -> Result<Content, OutOfMemory>
         ensures { IfOk result (λ c. c ≡ []) }
     {
+        let rows = Tree::new(alloc)?;
+        let links = rows.share()?;
+        Content::of(alloc, rows, links)
+    }
+
+    /// The content of these rows, with their links.
+    fn of(alloc: Global, rows: Tree, links: Tree) -> Result<Content, OutOfMemory>
+        requires { IsTrue (are_links links rows) }
+        ensures { IfOk result (λ c. c ≡ rows) }
+    {
         Ok(Content {
-            chapters: Shared::new(alloc, Sequence::new(alloc))?,
+            body: Shared::new(alloc, Body { rows, links })?,
         })
     }
 
@@ -56,7 +65,7 @@ impl Content {
         ensures { IfOk result (λ c. c ≡ self.now) }
     {
         Ok(Content {
-            chapters: self.chapters.share()?,
+            body: self.body.share()?,
         })
     }
 
@@ -64,10 +73,29 @@ impl Content {
     pub fn after(&self, alloc: Global, writes: &Writes) -> Result<Content, OutOfMemory>
         ensures { IfOk result (λ c. c ≡ after self.now writes.now) }
     {
-        let chapters = chapters_after(alloc, self.chapters.get().items(), writes.items())?;
-        Ok(Content {
-            chapters: Shared::new(alloc, Sequence::from_vec(chapters))?,
-        })
+        let links = self.links_after(alloc, writes)?;
+        let rows = self.rows().after(alloc, writes)?;
+        Content::of(alloc, rows, links)
+    }
+
+    /// The links after writes to the rows.
+    fn links_after(&self, alloc: Global, writes: &Writes) -> Result<Tree, OutOfMemory>
+        ensures { IfOk result (λ links. IsTrue (are_links links (after self.now writes.now))) }
+    {
+        let following = writes_after(alloc, self.linked_rows(), writes.items())?;
+        links_after(alloc, self.links(), &following)
+    }
+
+    /// The rows, if any of them has a link.
+    fn linked_rows(&self) -> Option<&Tree>
+        ensures { IsTrue (rising self.now) }
+    {
+        let rows = self.rows();
+        if self.links().chapters().is_empty() {
+            None
+        } else {
+            Some(rows)
+        }
     }
 
     /// How many rows it has; `None` where they are too many for the type. In time the number of its pages.
@@ -75,12 +103,7 @@ impl Content {
         ensures some { IfSome result (λ n. n ≡ length self.now) }
         ensures none { result ≡ None → 2 ^ 64 ≤ length self.now }
     {
-        let chapters = self.chapters();
-        let mut count = 0;
-        for chapter in chapters {
-            count = chapter.get().count_on(count)?;
-        }
-        Some(count)
+        self.rows().count()
     }
 
     /// The first row from an edge on. Each comparison of slots is a step, and for n rows there are s steps with 2^s at most
@@ -90,43 +113,28 @@ impl Content {
         ensures more { steps.old ≤ steps.new }
         ensures cost { 2 ^ (steps.new - steps.old) ≤ 4 * (length self.now + 1) ^ 2 }
     {
-        first_of_run(self.seek_run(edge, steps))
+        self.rows().seek(edge, steps)
     }
 
-    /// The first rows from an edge on, as many as lie side by side. Each comparison of slots is a step.
-    fn seek_run<L: Ledger>(&self, edge: &Edge<'_>, steps: &mut Steps<L>) -> &[Shared<Row>]
-        ensures run { IsRun result.now (rows_from edge.now self.now) }
+    /// The rows.
+    fn rows(&self) -> &Tree
+        ensures rows { result.now ≡ self.now }
         ensures rising { IsTrue (rising self.now) }
-        ensures more { steps.old ≤ steps.new }
-        ensures cost { 2 ^ (steps.new - steps.old) ≤ 4 * (length self.now + 1) ^ 2 }
     {
-        let chapters = self.chapters();
-        if chapters.is_empty() {
-            return &[];
-        }
-        run_from(chapters, edge, steps)
+        let rows = &self.body.get().rows;
+        // Its chapters also say that the rows rise.
+        let _ = rows.chapters();
+        rows
     }
 
-    /// The same, with steps that nobody reads.
-    fn uncounted_run<L: Ledger>(&self, edge: &Edge<'_>, blank: Blank) -> &[Shared<Row>]
-        requires name { blank.name ≡ L.name }
-        requires parts { blank.parts ≡ L.parts }
-        requires some { 0 < blank.parts }
-        ensures run { IsRun result.now (rows_from edge.now self.now) }
-        ensures rising { IsTrue (rising self.now) }
+    /// The links from the rows' parents to them.
+    fn links(&self) -> &Tree
+        ensures links { IsTrue (are_links result.now self.now) }
+        ensures rising { IsTrue (rising result.now) }
     {
-        let mut steps = Steps::<L>::new(blank);
-        self.seek_run(edge, &mut steps)
-    }
-
-    /// The chapters.
-    fn chapters(&self) -> &[Entry<Chapter>]
-        ensures rows { rows_of result.now ≡ self.now }
-        ensures good { IsTrue (list_all is_chapter result.now) }
-        ensures full { IsTrue (are_full result.now) }
-        ensures rising { IsTrue (rising self.now) }
-    {
-        self.chapters.get().items()
+        let links = &self.body.get().links;
+        let _ = links.chapters();
+        links
     }
 }
 
@@ -134,99 +142,14 @@ impl Rows for Content {
     ghost rows = { λ c. c };
 
     fn run_from(&self, edge: &Edge<'_>) -> &[Shared<Row>] {
-        self.uncounted_run::<Brand>(edge, Blank::new(1))
+        self.rows().run_from(edge)
     }
 
     fn bound_to(&self, slot: &Slot, after: Option<&Slot>) -> Option<&Row> {
-        bound_to(self.chapters(), slot, after)
+        if are_near(self.rows(), after) {
+            first_child(self.rows(), self.links(), slot, after)
+        } else {
+            self.rows().bound_to(slot, after)
+        }
     }
-}
-
-/// The chapters that hold the rows of some chapters after writes.
-#[tactic(auto, using(ifdb_row::proofs::ContentLaws::rising_after))]
-fn chapters_after(
-    alloc: Global,
-    chapters: &[Entry<Chapter>],
-    writes: &[Write],
-) -> Result<Vec<Entry<Chapter>>, OutOfMemory>
-    requires good { IsTrue (list_all is_chapter chapters.now) }
-    requires in_order { IsTrue (rising (rows_of chapters.now)) }
-    requires fitting { IsTrue (are_fitting writes.now) }
-    requires rising { IsTrue (are_rising writes.now) }
-    ensures rows { IfOk result (λ cs. rows_of cs.items ≡ after (rows_of chapters.now) writes.now) }
-    ensures good { IfOk result (λ all. IsTrue (list_all is_chapter all.items)) }
-    ensures full { IfOk result (λ all. IsTrue (are_full all.items)) }
-    ensures rising { IfOk result (λ all. IsTrue (rising (rows_of all.items))) }
-{
-    let mut all = Vec::with_capacity(alloc, chapters.len() + 1)?;
-    if chapters.is_empty() {
-        first_chapters(alloc, writes, &mut all)?;
-    } else {
-        parts_after(alloc, chapters, writes, &mut all)?;
-    }
-    if are_full(&all) {
-        return Ok(all);
-    }
-    bound_anew(alloc, &all)
-}
-
-/// Whether each chapter is full, where there are several.
-fn are_full(chapters: &[Entry<Chapter>]) -> bool
-    ensures { result ≡ are_full chapters.now }
-{
-    chapters.len() < 2 || are_all_full(chapters)
-}
-
-/// Whether each chapter is full.
-fn are_all_full(chapters: &[Entry<Chapter>]) -> bool
-    ensures { result ≡ list_all is_full chapters.now }
-{
-    chapters.iter().all(|chapter| chapter.get().is_full())
-}
-
-/// Full chapters of the same pages.
-fn bound_anew(
-    alloc: Global,
-    chapters: &[Entry<Chapter>],
-) -> Result<Vec<Entry<Chapter>>, OutOfMemory>
-    requires good { IsTrue (list_all is_chapter chapters.now) }
-    requires in_order { IsTrue (rising (rows_of chapters.now)) }
-    ensures rows { IfOk result (λ all. rows_of all.items ≡ rows_of chapters.now) }
-    ensures good { IfOk result (λ all. IsTrue (list_all is_chapter all.items)) }
-    ensures full { IfOk result (λ all. IsTrue (are_full all.items)) }
-{
-    let mut all = Vec::new(alloc);
-    bind(alloc, pages_of(alloc, chapters)?, &mut all)?;
-    Ok(all)
-}
-
-/// The pages of all chapters, shared.
-fn pages_of(alloc: Global, chapters: &[Entry<Chapter>]) -> Result<Vec<Entry<Page>>, OutOfMemory>
-    requires { IsTrue (list_all is_chapter chapters.now) }
-    ensures rows { IfOk result (λ pages. flat pages.items ≡ rows_of chapters.now) }
-    ensures good { IfOk result (λ pages. IsTrue (list_all is_page pages.items)) }
-{
-    let mut pages = Vec::new(alloc);
-    for chapter in chapters {
-        add_shared(chapter.get().pages(), &mut pages)?;
-    }
-    Ok(pages)
-}
-
-/// Adds the chapters of what is written where no row stands.
-fn first_chapters(
-    alloc: Global,
-    writes: &[Write],
-    out: &mut Vec<Entry<Chapter>>,
-) -> Result<(), OutOfMemory>
-    requires empty { out.old.items ≡ [] }
-    requires fitting { IsTrue (are_fitting writes.now) }
-    requires rising { IsTrue (are_rising writes.now) }
-    ensures rows { OnOk result (rows_of out.new.items ≡ after [] writes.now) }
-    ensures good { OnOk result (IsTrue (list_all is_chapter out.new.items)) }
-{
-    let rows = rows_after(alloc, &[], writes)?;
-    let mut pages = Vec::new(alloc);
-    cut(alloc, rows, &mut pages)?;
-    bind(alloc, pages, out)
 }

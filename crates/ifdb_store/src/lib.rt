@@ -6,14 +6,16 @@ mod content;
 mod entry;
 mod join;
 mod laws;
+mod links;
 mod mark;
 mod page;
 mod part;
+mod print;
 mod put;
 mod search;
-mod span;
 mod steps;
 mod store;
+mod tree;
 
 pub use content::Content;
 pub use laws::stands_for_a_log;

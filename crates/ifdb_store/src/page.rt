@@ -8,7 +8,6 @@ use crate::entry::Entry;
 use crate::part::{Part, end_of};
 use crate::put::{rows_after, shared};
 use crate::search::{Placed, reach};
-use crate::span::Span;
 use crate::steps::Steps;
 use ifdb_row::{Edge, OutOfMemory, Row, Slot, Write, first_bound};
 use ifdb_value::{Sequence, Shared};
@@ -67,10 +66,6 @@ impl Placed for Page {
 
     fn slot(&self) -> &Slot {
         &self.rows()[0].get().slot
-    }
-
-    fn span(&self) -> Span {
-        Span::of_rows(self.rows())
     }
 }
 

@@ -259,7 +259,8 @@ fn run_at<P: Part>(parts: &[Entry<P>], at: usize) -> &[Shared<Row>]
     }
 }
 
-/// The first row, of all parts, bound to a slot whose own slot is behind another, or the first row bound to it.
+/// The first row, of all parts, bound to a slot whose own slot is behind another, or the first row bound to it. Looks at each
+/// row.
 pub(crate) fn bound_to<'a, P: Part>(
     parts: &'a [Entry<P>],
     slot: &Slot,
@@ -269,23 +270,10 @@ pub(crate) fn bound_to<'a, P: Part>(
     ensures { option_copied result ≡ bound_behind slot.now after.entry (flat_map P.rows parts.now) }
 {
     for part in parts {
-        let row = child_in(part, slot, after);
+        let row = part.get().bound_to(slot, after);
         if row.is_some() {
             return row;
         }
     }
     None
-}
-
-/// The same of one part, which it doesn't touch where no row of it can have a parent in the slot's table.
-#[tactic(auto, using(crate::proofs::Spans::none_bound))]
-fn child_in<'a, P: Part>(part: &'a Entry<P>, slot: &Slot, after: Option<&Slot>) -> Option<&'a Row>
-    requires { IsTrue (P.is_part part.now) }
-    ensures { option_copied result ≡ bound_behind slot.now after.entry (P.rows part.now) }
-{
-    if part.may_refer(slot.table) {
-        part.get().bound_to(slot, after)
-    } else {
-        None
-    }
 }

@@ -5,10 +5,8 @@ ghost use Rattle.ifdb_row.specs.declared.row.Row.{Row as AnyRow};
 ghost use Rattle.ifdb_row.specs.Edges.{lies_before};
 ghost use Rattle.ifdb_row.specs.Reach.{reach, is_parted};
 ghost use Rattle.ifdb_store.specs.Marks.{edge_mark};
-ghost use Rattle.ifdb_store.specs.Spans.{has_parents};
 
 use crate::mark::Mark;
-use crate::span::Span;
 use crate::steps::Steps;
 use ifdb_row::{Edge, OutOfMemory, Row, Slot};
 use ifdb_value::Shared;
@@ -27,10 +25,6 @@ pub(crate) trait Placed {
     /// The slot that it stands by.
     fn slot(&self) -> &Slot
         ensures { result.now ≡ place self.now };
-
-    /// A span that has the tables of all parents of its rows.
-    fn span(&self) -> Span
-        ensures { IsTrue (has_parents result (rows self.now)) };
 }
 
 /// An item of a list in the order of slots. It is shared, and never copied.

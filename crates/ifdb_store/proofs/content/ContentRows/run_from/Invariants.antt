@@ -1,4 +1,0 @@
-use Rattle.ifdb_store.proofs.content.ContentRows.run_from.Given as goal
-
-abbrev pub ghosts-uncounted_run : goal.ghosts-uncounted_run
-ghosts-uncounted_run a = record { name = a.blank.name; parts = a.blank.parts }
