@@ -120,7 +120,7 @@ times_more b (x ∷ xs) ys = by (x == b) (times_more b xs ys) where
   by false h = h
 
 -- one session of many
-times_set : (b : ℕ) (sessions : List Session) (k : ℕ) (s : Session) → k < length sessions
+pub times_set : (b : ℕ) (sessions : List Session) (k : ℕ) (s : Session) → k < length sessions
     → times b (begins_of (slice_set sessions k s)) + times b (begin_of (slice_index_or sessions k no_session).txn) ≡ times b (begins_of sessions) + times b (begin_of s.txn)
 times_set b [] k s lt = absurd (omega (arith, lt))
 times_set b (x ∷ sessions) zero s lt =

@@ -21,7 +21,7 @@ use Rattle.ifdb_db.proofs.Saying.{by_form}
 module _ (asker : ℕ) (l : List ℕ) (x : Open) (r : Request) where
   -- what is said over what the transaction sees is said in it
   pub replied : (f : Form) (m : List ℕ) (told : Reply) → form_of r ≡ f → is_end f ≡ false → IsSaid (seen_of x) asker l m r (Ok told) → IsReplied asker l m x x r told
-  replied f m told e g s = record { goes_on = ap is_end e ∙ g; told = λ n v. s.0 n v (txn_at (Some x)); base = refl; still = λ i. (s.1 i, refl) }
+  replied f m told e g s = record { goes_on = ap is_end e ∙ g; told = λ n v. s.0 n v (txn_at (Some x)); begin = refl; base = refl; still = λ i. (s.1 i, refl) }
 
   pub denied : (f : Form) (m : List ℕ) (g : Fault) → form_of r ≡ f → is_end f ≡ false → IsSaid (seen_of x) asker l m r (Err g) → IsDenied asker l m x x r g
   denied f m g e h s = record { goes_on = ap is_end e ∙ h; cause = by s.0; label = s.1; txn = refl } where
@@ -78,7 +78,7 @@ module _ (asker : ℕ) (l : List ℕ) (x : Open) (r : Request) where
     found_unbound g (inr e) = inr (λ n v. by_form (seen_of x) asker l r writes f n v there ∙ ap (write_bound x.base.public (seen_of x).rows asker there) e)
 
     pub rows_changed : (w : Written) (y : Open) → Finds asker l x r (Ok w) → y ≡ record x { own = merged x.own w.writes } → IsReplied asker l l x y r (reply.Count w.count)
-    rows_changed w y h k = subst (λ z. IsReplied asker l l x z r (reply.Count w.count)) (sym k) (record { goes_on = goes_on; told = h; base = refl; still = λ i. absurd i })
+    rows_changed w y h k = subst (λ z. IsReplied asker l l x z r (reply.Count w.count)) (sym k) (record { goes_on = goes_on; told = h; begin = refl; base = refl; still = λ i. absurd i })
 
     pub rows_denied : (g : Fault) → Finds asker l x r (Err g) → IsDenied asker l l x x r g
     rows_denied g h = record { goes_on = goes_on; cause = h; label = refl; txn = refl }

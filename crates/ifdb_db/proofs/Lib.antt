@@ -5,6 +5,7 @@ mod DeskLaws
 mod Inside
 mod Keeping
 mod Landing
+pub mod Lending
 mod Narrow
 mod Publishing
 pub mod RoomLaws

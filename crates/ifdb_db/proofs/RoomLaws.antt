@@ -26,12 +26,12 @@ use Rattle.ifdb_db.proofs.Keeping.{all_set, all_add}
 
 -- ---- the clients of a room
 
-index_map : (clients : List Client) (k : ℕ) → slice_index_or (map session_at clients) k no_session ≡ session_at (slice_index_or clients k no_client)
+pub index_map : (clients : List Client) (k : ℕ) → slice_index_or (map session_at clients) k no_session ≡ session_at (slice_index_or clients k no_client)
 index_map [] k = refl
 index_map (c ∷ clients) zero = refl
 index_map (c ∷ clients) (suc k) = index_map clients k
 
-set_map : (clients : List Client) (k : ℕ) (c : Client) → map session_at (slice_set clients k c) ≡ slice_set (map session_at clients) k (session_at c)
+pub set_map : (clients : List Client) (k : ℕ) (c : Client) → map session_at (slice_set clients k c) ≡ slice_set (map session_at clients) k (session_at c)
 set_map [] k c = refl
 set_map (x ∷ clients) zero c = refl
 set_map (x ∷ clients) (suc k) c = ap (λ l. session_at x ∷ l) (set_map clients k c)
@@ -65,7 +65,7 @@ module _ (h : Hall) (st : State) (w : StandsFor h st) where
   pub as_many : length h.clients ≡ length st.sessions
   as_many = sym (length-map h.clients session_at) ∙ ap length w.sessions
 
-  over_at : (n : ℕ) → IsThere h n → IsOver st.log (client_in h n).txn
+  pub over_at : (n : ℕ) → IsThere h n → IsOver st.log (client_in h n).txn
   over_at n t = subst (λ (c : Client). IsOver st.log c.txn) (sym t.at) (w.over (n - 1) no_client t.there)
 
   oldest_at : IsSound h.desk → (n : ℕ) → IsThere h n → (x : Open) → (client_in h n).txn ≡ Some x → oldest h.desk ≤ x.begin
@@ -100,7 +100,7 @@ told_reply h st n line r k t w = t ∙ sym (ap (λ (o : Outcome). o.reply) (same
 
 -- ---- transactions over a longer log
 
-over_more : (log zs : List Entry) (t : Option Open) → IsOver log t → IsOver (log ++ zs) t
+pub over_more : (log zs : List Entry) (t : Option Open) → IsOver log t → IsOver (log ++ zs) t
 over_more log zs None o = tt
 over_more log zs (Some x) o = (long, o.1 ∙ ap (λ l. seen_in l None) (sym (take-append-le x.begin log zs o.0))) where
   long : x.begin ≤ length (log ++ zs)
@@ -183,7 +183,7 @@ follows h g st n line r k a w =
 
 -- ---- a refusal
 
-set_itself : {X : Type 0} (xs : List X) (k : ℕ) (d : X) → slice_set xs k (slice_index_or xs k d) ≡ xs
+pub set_itself : {X : Type 0} (xs : List X) (k : ℕ) (d : X) → slice_set xs k (slice_index_or xs k d) ≡ xs
 set_itself [] k d = refl
 set_itself (x ∷ xs) zero d = refl
 set_itself (x ∷ xs) (suc k) d = ap (λ l. x ∷ l) (set_itself xs k d)

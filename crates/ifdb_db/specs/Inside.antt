@@ -70,6 +70,7 @@ Finds asker l x r (Err f) = (f ≡ fault.OutOfMemory) ⊎ Inside asker l x r (re
 pub record IsReplied (asker : ℕ) (l m : List ℕ) (x y : Open) (r : Request) (reply : Reply) : Type 0 where
   pub goes_on : is_end (form_of r) ≡ false
   pub told : Inside asker l x r (tells (session_of asker m (txn_at (Some y))) reply)
+  pub begin : y.begin ≡ x.begin
   pub base : y.base ≡ x.base
   pub still : IsUnbounded reply → (m ≡ l) × (y ≡ x)
 

@@ -1,5 +1,5 @@
 -- How a line is read.
-use Rattle.std.specs.Prelude.{Result, Ok, Err}
+use Rattle.std.specs.Prelude.{◌≡◌, ◌⊎◌, List, ℕ, IsTrue, Result, Ok, Err}
 use Rattle.ifdb_syntax.specs.declared.request.Request.{Request}
 use Rattle.ifdb_parse.specs.declared.fault.ParseFault.{ParseFault}
 use Rattle.ifdb_parse.specs.declared.fault.ParseFault.TheVariants as read
@@ -7,6 +7,7 @@ use Rattle.ifdb_parse.specs.Parsed.{parsed}
 use Rattle.ifdb_wire.specs.declared.fault.Fault.{Fault}
 use Rattle.ifdb_wire.specs.declared.fault.Fault.TheVariants as fault
 use Rattle.ifdb_model.specs.Step.{Reader}
+use Rattle.ifdb_snapshot.specs.Narrow.{is_narrow}
 
 -- the refusal of a line with a fault
 abbrev pub line_fault : ParseFault → Fault
@@ -22,3 +23,8 @@ request_or_fault (Err f) = Err (line_fault f)
 -- by the grammar, with the faults of a line in their order
 abbrev pub read_line : Reader
 read_line line = request_or_fault (parsed line)
+
+-- a line was read so: its request, whose tables are narrow, or the refusal of its fault; or there was no memory
+abbrev pub IsRead : List ℕ → Result Request Fault → Type 0
+IsRead line (Ok r) = (read_line line ≡ Ok r) × IsTrue (is_narrow r)
+IsRead line (Err f) = (f ≡ fault.OutOfMemory) ⊎ (read_line line ≡ Err f)

@@ -13,7 +13,7 @@ mod publish;
 mod write;
 
 use crate::OutOfMemory;
-use crate::reading::read_line;
+use crate::reading::ReadLine;
 use crate::session::Session;
 use ifdb_label::Tags;
 use ifdb_snapshot::{SharedState, Snapshot};
@@ -82,15 +82,15 @@ impl Db {
     }
 
     /// Answers a line of an open session. An error is a refusal or want of memory, and changes nothing.
-    pub fn ask(&mut self, session: &mut Session, line: &[u8]) -> Result<Reply, Fault>
+    pub fn ask(&mut self, session: &mut Session, line: ReadLine<'_>) -> Result<Reply, Fault>
         requires open { IsTrue session.old.is_open }
         requires kept { IsKept self.old.seen.public session.old }
-        ensures answered { IsAnswered (answered self.old session.old (read_line line.now))
+        ensures answered { IsAnswered (answered self.old session.old (read_line line.entry))
             session.old session.new self.old self.new result }
         ensures kept { IsKept self.new.seen.public session.new }
         ensures still { IsStill session.old session.new self.old self.new result }
     {
-        let request = read_line(self.alloc, line)?;
+        let request = line.into_request()?;
         self.answer(session, request)
     }
 

@@ -3,6 +3,7 @@
 
 mod begins;
 mod db;
+mod lent;
 mod looks;
 mod reading;
 mod room;
@@ -10,5 +11,7 @@ mod session;
 mod told;
 mod txn;
 
+pub use reading::ReadLine;
 pub use room::Room;
+pub use session::Session;
 pub use std::alloc::AllocError as OutOfMemory;

@@ -10,8 +10,11 @@ ghost use Rattle.ifdb_db.specs.Client.{new_client};
 ghost use Rattle.ifdb_db.specs.Room.{StandsFor, IsSoundRoom, client_in, was_opened};
 ghost use Rattle.ifdb_db.specs.RoomSteps.{GoesBy, IsAskedIn, IsLeftBy, IsReplyText, IsReplyTo};
 
+mod lending;
+
 use crate::OutOfMemory;
 use crate::db::Db;
+use crate::reading::ReadLine;
 use crate::session::Session;
 use ifdb_label::{Label, Tags};
 use ifdb_wire::{Fault, Out, Reply};
@@ -115,6 +118,16 @@ impl Room {
     pub fn reply(&mut self, n: u64, line: &[u8]) -> Result<Reply, OutOfMemory>
         ensures asked { OnOk result (GoesBy self.old self.new (asks n line.now)) }
         ensures told { IfOk result (IsReplyTo self.old n line.now) }
+        ensures still { IfOk result (λ r. IsUnbounded r → self.new ≡ self.old) }
+        ensures err { OnErr result (self.new ≡ self.old) }
+    {
+        self.reply_read(n, ReadLine::new(self.alloc, line))
+    }
+
+    /// The same of a line that was read before.
+    pub fn reply_read(&mut self, n: u64, line: ReadLine<'_>) -> Result<Reply, OutOfMemory>
+        ensures asked { OnOk result (GoesBy self.old self.new (asks n line.entry)) }
+        ensures told { IfOk result (IsReplyTo self.old n line.entry) }
         ensures still { IfOk result (λ r. IsUnbounded r → self.new ≡ self.old) }
         ensures err { OnErr result (self.new ≡ self.old) }
     {
@@ -222,8 +235,8 @@ impl Room {
     }
 
     /// What a line of a session comes to. An error changes nothing, and want of memory is one.
-    fn answer(&mut self, n: u64, line: &[u8]) -> Result<Reply, Fault>
-        ensures { IsAskedIn n line.now self.old self.new result }
+    fn answer(&mut self, n: u64, line: ReadLine<'_>) -> Result<Reply, Fault>
+        ensures { IsAskedIn n line.entry self.old self.new result }
     {
         if !self.is_open(n) {
             return Err(Fault::NoSession);
@@ -232,9 +245,9 @@ impl Room {
     }
 
     /// What a line of an open session comes to.
-    fn answer_open(&mut self, n: u64, line: &[u8]) -> Result<Reply, Fault>
+    fn answer_open(&mut self, n: u64, line: ReadLine<'_>) -> Result<Reply, Fault>
         requires { IsTrue (client_in self.old n).is_open }
-        ensures { IsAskedIn n line.now self.old self.new result }
+        ensures { IsAskedIn n line.entry self.old self.new result }
     {
         let reply = self.db.ask(&mut self.sessions[(n - 1) as usize], line)?;
         Ok(reply)
@@ -252,7 +265,7 @@ fn say(out: &mut Out, session: Option<u64>, reply: &Reply) -> bool
 }
 
 /// The reply that refuses, unless there was no memory.
-fn refusal_of(fault: Fault) -> Result<Reply, OutOfMemory>
+pub(crate) fn refusal_of(fault: Fault) -> Result<Reply, OutOfMemory>
     ensures told { IfOk result (λ r. r ≡ reply.Refused fault) }
     ensures cause { IfOk result (λ _. fault ≡ Fault.OutOfMemory → ⊥) }
 {

@@ -1,5 +1,5 @@
 // Open transactions.
-ghost use Rattle.std.specs.Prelude.{◌≡◌, [], IfOk, IsTrue, OnErr, OnOk};
+ghost use Rattle.std.specs.Prelude.{◌≡◌, [], IfOk, IfSome, IsTrue, OnErr, OnOk};
 ghost use Rattle.ifdb_row.specs.Writes.{are_fitting, merged};
 ghost use Rattle.ifdb_snapshot.specs.Sound.{is_sound};
 ghost use Rattle.ifdb_snapshot.specs.Writing.{are_fit};
@@ -67,6 +67,25 @@ impl Txn {
             rows: rows.share()?,
             own: Writes::new(alloc),
         })
+    }
+
+    /// A copy of a transaction that has written nothing, which shares what all saw at the BEGIN; `None` where it has written, or
+    /// there is no memory.
+    pub(crate) fn lend(&self) -> Option<Txn>
+        ensures { IfSome result (λ txn. txn ≡ self.now) }
+    {
+        if self.own.len() > 0 {
+            return None;
+        }
+        match Txn::begun(self.alloc, self.begin, &self.public, &self.base) {
+            Ok(txn) => Some(txn),
+            Err(OutOfMemory) => None,
+        }
+    }
+
+    /// Where the transaction's own writes are kept.
+    pub(crate) fn alloc(&self) -> Global {
+        self.alloc
     }
 
     /// How many entries the log had at the BEGIN.

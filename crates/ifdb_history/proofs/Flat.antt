@@ -1,17 +1,18 @@
 -- A history and then more of it.
-use Rattle.std.proofs.Common.{◌≡◌, ℕ, ◌+◌, ◌-◌, ◌≤◌, List, [], ◌∷◌, ◌++◌, ◌∙◌, length, refl, sym, ap, arith}
+use Rattle.std.proofs.Common.{◌≡◌, ℕ, ◌+◌, ◌-◌, List, [], ◌∷◌, ◌++◌, ◌∙◌, length, refl, sym, ap, arith}
 use Rattle.std.proofs.lemmas.List.{append_assoc, length-append}
+use Rattle.std.proofs.lemmas.List.Concat.{flat_map-append}
 use lib.ListN.{get_elem?}
 use Rattle.atomic_table.proofs.Lists.{at_longer}
 use Rattle.ifdb_model.specs.Step.{Reader}
-use Rattle.ifdb_model.specs.Run.{State, opening, run}
-use Rattle.ifdb_model.proofs.Runs.{run-append}
+use Rattle.ifdb_model.specs.Run.{State, Step, opening, asks, leaves, run, replies}
+use Rattle.ifdb_model.proofs.Runs.{run-append, replies-append}
 use Rattle.ifdb_history.specs.declared.entry.Entry.{Entry}
 use Rattle.ifdb_history.specs.declared.entry.Kind.{Kind}
 use Rattle.ifdb_history.specs.declared.entry.Kind.TheVariants as kind
-use Rattle.ifdb_history.specs.History.{steps_of, flat, after, root_of, roots_from, HasRoot}
-use Rattle.ifdb_history.specs.Lines.{line_of, lines_of, text_of, texts_from, texts_of}
-use Rattle.ifdb_history.proofs.Sessions.{one_more, as_many_at_line, as_many_at_leaving}
+use Rattle.ifdb_history.specs.History.{work_steps, steps_of, flat, after, root_of, roots_from, HasRoot}
+use Rattle.ifdb_history.specs.Lines.{lines_at, lines_of, text_to, told_in, text_of, texts_from, texts_of}
+use Rattle.ifdb_history.proofs.Sessions.{one_more, as_many_at_line, as_many_at_leaving, as_many_at_work}
 
 pub flat-append : (h k : List Entry) → flat (h ++ k) ≡ flat h ++ flat k
 flat-append [] k = refl
@@ -22,7 +23,7 @@ after-append read h k = ap (run read opening) (flat-append h k) ∙ run-append r
 
 pub lines-append : (n : ℕ) (h k : List Entry) → lines_of n (h ++ k) ≡ lines_of n h ++ lines_of n k
 lines-append n [] k = refl
-lines-append n (e ∷ h) k = ap (λ ls. line_of n e.kind ++ ls) (lines-append n h k) ∙ sym (append_assoc (line_of n e.kind) (lines_of n h) (lines_of n k))
+lines-append n (e ∷ h) k = ap (λ ls. lines_at n e.kind ++ ls) (lines-append n h k) ∙ sym (append_assoc (lines_at n e.kind) (lines_of n h) (lines_of n k))
 
 texts_from-append : (read : Reader) (n : ℕ) (st : State) (h k : List Entry) → texts_from read n st (h ++ k) ≡ texts_from read n st h ++ texts_from read n (run read st (flat h)) k
 texts_from-append read n st [] k = refl
@@ -33,6 +34,11 @@ texts_from-append read n st (e ∷ h) k =
 
 pub texts-append : (read : Reader) (n : ℕ) (h k : List Entry) → texts_of read n (h ++ k) ≡ texts_of read n h ++ texts_from read n (after read h) k
 texts-append read n h k = texts_from-append read n opening h k
+
+pub told_in-append : (read : Reader) (n : ℕ) (st : State) (first more : List Step) → told_in read n st (first ++ more) ≡ told_in read n st first ++ told_in read n (run read st first) more
+told_in-append read n st first more =
+    ap (Rattle.std.specs.Prelude.flat_map (text_to n)) (replies-append read st first more)
+    ∙ flat_map-append (text_to n) (replies read st first) (replies read (run read st first) more)
 
 -- ---- the places where sessions were opened
 
@@ -52,9 +58,17 @@ root-append h k n place r = ap (λ l. get_elem? l (n - 1)) (roots-append h k) �
 -- a session has a root exactly where it was opened
 kind_count : (read : Reader) (st : State) (place : ℕ) (x : Kind) → length (run read st (steps_of x)).sessions ≡ length st.sessions + length (root_of place x)
 kind_count read st place kind.Opened = one_more read st
-kind_count read st place (kind.Asked n line) = let e = as_many_at_line read st n line in omega (arith, e)
+kind_count read st place (kind.Asked n work line) =
+    let parts = ap (λ (t : State). length t.sessions) (run-append read st (work_steps n work) (asks n line ∷ [])) in
+    let e = as_many_at_line read (run read st (work_steps n work)) n line in
+    let before = as_many_at_work read st n work in
+    omega (arith, parts, e, before)
 kind_count read st place (kind.Refused n line) = omega arith
-kind_count read st place (kind.Left n) = let e = as_many_at_leaving read st n in omega (arith, e)
+kind_count read st place (kind.Left n work) =
+    let parts = ap (λ (t : State). length t.sessions) (run-append read st (work_steps n work) (leaves n ∷ [])) in
+    let e = as_many_at_leaving read (run read st (work_steps n work)) n in
+    let before = as_many_at_work read st n work in
+    omega (arith, parts, e, before)
 
 run_count : (read : Reader) (st : State) (place : ℕ) (h : List Entry) → length (run read st (flat h)).sessions ≡ length st.sessions + length (roots_from place h)
 run_count read st place [] = omega arith
@@ -67,20 +81,3 @@ run_count read st place (e ∷ h) =
 
 pub as_many_roots : (read : Reader) (h : List Entry) → length (after read h).sessions ≡ length (roots_from 0 h)
 as_many_roots read h = let e = run_count read opening 0 h in omega (arith, e)
-
-few_roots : (place : ℕ) (h : List Entry) → length (roots_from place h) ≤ length h
-few_roots place [] = omega arith
-few_roots place (e ∷ h) =
-    let a = few_roots (place + 1) h in
-    let b = one_at_most e.kind in
-    let c = length-append (root_of place e.kind) (roots_from (place + 1) h) in
-    omega (arith, a, b, c) where
-      one_at_most : (x : Kind) → length (root_of place x) ≤ 1
-      one_at_most kind.Opened = omega arith
-      one_at_most (kind.Asked n line) = omega arith
-      one_at_most (kind.Refused n line) = omega arith
-      one_at_most (kind.Left n) = omega arith
-
--- no more sessions than entries
-pub few_sessions : (read : Reader) (h : List Entry) → length (after read h).sessions ≤ length h
-few_sessions read h = let a = as_many_roots read h in let b = few_roots 0 h in omega (arith, a, b)

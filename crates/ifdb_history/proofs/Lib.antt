@@ -4,3 +4,4 @@ pub mod Others
 pub mod Own
 pub mod Over
 pub mod Entries
+pub mod Logs

@@ -25,9 +25,9 @@ module _ (read : Reader) where
 
   shut_apart : (h : List Entry) (n root : ℕ) (x : Kind) → IsShut (after read h) n → IsRightKind read h root x → IsApart n x
   shut_apart h n root kind.Opened shut right = tt
-  shut_apart h n root (kind.Asked m line) shut right = λ same. false≢true (sym shut.1 ∙ subst (IsOpen (after read h)) same right.0)
+  shut_apart h n root (kind.Asked m work line) shut right = λ same. false≢true (sym shut.1 ∙ subst (IsOpen (after read h)) same right.0.0)
   shut_apart h n root (kind.Refused m line) shut right = λ same. false≢true (sym shut.1 ∙ subst (IsOpen (after read h)) same right.0)
-  shut_apart h n root (kind.Left m) shut right = λ same. false≢true (sym shut.1 ∙ subst (IsOpen (after read h)) same right.0)
+  shut_apart h n root (kind.Left m work) shut right = λ same. false≢true (sym shut.1 ∙ subst (IsOpen (after read h)) same right.0.0)
 
   shut_still : (h k : List Entry) (n : ℕ) → IsShut (after read h) n → AreApart n k → IsShut (after read (h ++ k)) n
   shut_still h k n shut apart =
@@ -64,9 +64,9 @@ module _ (read : Reader) where
 
   fresh_apart : (h : List Entry) (n root : ℕ) (x : Kind) → length (after read h).sessions < n → IsRightKind read h root x → IsApart n x
   fresh_apart h n root kind.Opened few right = tt
-  fresh_apart h n root (kind.Asked m line) few right = λ same. let there = (open_was (after read h) m right.0).1 in omega (arith, there, few, same)
+  fresh_apart h n root (kind.Asked m work line) few right = λ same. let there = (open_was (after read h) m right.0.0).1 in omega (arith, there, few, same)
   fresh_apart h n root (kind.Refused m line) few right = λ same. let there = (open_was (after read h) m right.0).1 in omega (arith, there, few, same)
-  fresh_apart h n root (kind.Left m) few right = λ same. let there = (open_was (after read h) m right.0).1 in omega (arith, there, few, same)
+  fresh_apart h n root (kind.Left m work) few right = λ same. let there = (open_was (after read h) m right.0.0).1 in omega (arith, there, few, same)
 
   fresh : (n : ℕ) (h k : List Entry) → AllRight (IsRight read) (h ++ k) → length (after read (h ++ k)).sessions < n → AreApart n k
   fresh n h [] right few = tt

@@ -5,8 +5,9 @@ use Rattle.std.proofs.lemmas.Bool.Decides.{nat_tests}
 use Rattle.std.proofs.lemmas.List.{get_or_append_left, get_or_push, get_or-set_same, get_or-set_other, length-append, length-set}
 use Rattle.ifdb_model.specs.Session.{Session, new_session, no_session, closed}
 use Rattle.ifdb_model.specs.Step.{Reader, ask}
-use Rattle.ifdb_model.specs.Run.{State, session_of, opens, asks, leaves, next, with_outcome, with_session}
-use Rattle.ifdb_history.specs.History.{WasOpened, IsOpen, IsShut}
+use Rattle.ifdb_model.specs.Run.{State, session_of, opens, asks, refused, leaves, next, run, with_outcome, with_session}
+use Rattle.ifdb_history.specs.declared.entry.Note.{Note}
+use Rattle.ifdb_history.specs.History.{note_step, work_steps, WasOpened, IsOpen, IsShut}
 
 opened_at : (sessions : List Session) (k : ℕ) → (slice_index_or sessions k no_session).is_open ≡ true → k < length sessions
 opened_at [] k h = cc
@@ -79,6 +80,32 @@ module _ (read : Reader) where
     by : (b : Bool) → length (cond b (with_session st m (closed (session_of st m))) st).sessions ≡ length st.sessions
     by true = length-set st.sessions (m - 1) (closed (session_of st m))
     by false = refl
+
+  -- ---- the work of a transaction
+
+  as_many_at_note : (st : State) (m : ℕ) (w : Note) → length (next read st (note_step m w)).sessions ≡ length st.sessions
+  as_many_at_note st m w = by w.is_refused where
+    by : (b : Bool) → length (next read st (cond b (refused m) (asks m w.line))).sessions ≡ length st.sessions
+    by true = refl
+    by false = as_many_at_line st m w.line
+
+  pub as_many_at_work : (st : State) (m : ℕ) (work : List Note) → length (run read st (work_steps m work)).sessions ≡ length st.sessions
+  as_many_at_work st m [] = refl
+  as_many_at_work st m (w ∷ work) = as_many_at_work (next read st (note_step m w)) m work ∙ as_many_at_note st m w
+
+  pub was_at_work : (st : State) (m n : ℕ) (work : List Note) → WasOpened st n → WasOpened (run read st (work_steps m work)) n
+  was_at_work st m n work w = let e = as_many_at_work st m work in let le = w.1 in (w.0, omega (arith, e, le))
+
+  kept_at_note : (st : State) (m n : ℕ) (w : Note) → m ≢ n → WasOpened st n → session_of (next read st (note_step m w)) n ≡ session_of st n
+  kept_at_note st m n w ne was = by w.is_refused where
+    by : (b : Bool) → session_of (next read st (cond b (refused m) (asks m w.line))) n ≡ session_of st n
+    by true = refl
+    by false = kept_at_line st m n w.line ne was
+
+  pub kept_at_work : (st : State) (m n : ℕ) (work : List Note) → m ≢ n → WasOpened st n → session_of (run read st (work_steps m work)) n ≡ session_of st n
+  kept_at_work st m n [] ne was = refl
+  kept_at_work st m n (w ∷ work) ne was =
+      kept_at_work (next read st (note_step m w)) m n work ne (was_at_work st m n (w ∷ []) was) ∙ kept_at_note st m n w ne was
 
   -- ---- a session comes and goes
 

@@ -9,7 +9,7 @@ use Rattle.ifdb_model.specs.Run.{State, session_of, opening, run, outcome_of}
 use Rattle.ifdb_history.specs.declared.entry.Entry.{Entry}
 use Rattle.ifdb_history.specs.declared.entry.Kind.{Kind}
 use Rattle.ifdb_history.specs.declared.entry.Kind.TheVariants as kind
-use Rattle.ifdb_history.specs.History.{steps_of, after}
+use Rattle.ifdb_history.specs.History.{work_steps, steps_of, after}
 
 -- the reply is a refusal
 abbrev pub is_refusal : Reply → Bool
@@ -22,9 +22,9 @@ abbrev pub refuses_commit : Reader → State → ℕ → List ℕ → Bool
 refuses_commit read st n line =
     in_txn (session_of st n).txn && not (in_txn (outcome_of read st n line).session.txn) && is_refusal (outcome_of read st n line).reply
 
--- 1 where a turn is such a line
+-- 1 where a turn's line is such a one
 abbrev pub refusal_of : Reader → State → Kind → ℕ
-refusal_of read st (kind.Asked n line) = if refuses_commit read st n line then 1 else 0
+refusal_of read st (kind.Asked n work line) = if refuses_commit read (run read st (work_steps n work)) n line then 1 else 0
 refusal_of read st _ = 0
 
 -- how many there are from a state on

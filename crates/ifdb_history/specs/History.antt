@@ -1,21 +1,31 @@
 -- The history of a served room, as steps of the machine. Lines are read by `read`.
-use Rattle.std.specs.Prelude.{◌≡◌, ℕ, ◌+◌, ◌-◌, ◌<◌, ◌≤◌, true, false, List, [], ◌∷◌, ◌++◌, length}
+use Rattle.std.specs.Prelude.{◌≡◌, ℕ, ◌+◌, ◌-◌, ◌<◌, ◌≤◌, true, false, List, [], ◌∷◌, ◌++◌, length, map, if◌then◌else◌}
 use mathlib.Core.Option.{some, none}
 use mathlib.Core.Option as maybe
 use lib.ListN.{get_elem?}
 use Rattle.ifdb_turn.specs.Places.{times}
+use Rattle.ifdb_model.specs.Session.{in_txn}
 use Rattle.ifdb_model.specs.Step.{Reader}
-use Rattle.ifdb_model.specs.Run.{State, session_of, Step, opens, asks, refused, leaves, opening, run}
+use Rattle.ifdb_model.specs.Run.{State, session_of, Step, opens, asks, refused, leaves, opening, next, run}
 use Rattle.ifdb_history.specs.declared.entry.Entry.{Entry}
 use Rattle.ifdb_history.specs.declared.entry.Kind.{Kind}
+use Rattle.ifdb_history.specs.declared.entry.Note.{Note}
 use Rattle.ifdb_history.specs.declared.entry.Kind.TheVariants as kind
+
+-- the step of a line that a session asked in its transaction, away from the room
+abbrev pub note_step : ℕ → Note → Step
+note_step n w = if w.is_refused then refused n else asks n w.line
+
+-- the steps of such lines: the work of a transaction
+abbrev pub work_steps : ℕ → List Note → List Step
+work_steps n work = map (note_step n) work
 
 -- the steps that a turn stands for
 abbrev pub steps_of : Kind → List Step
 steps_of kind.Opened = opens ∷ []
-steps_of (kind.Asked n line) = asks n line ∷ []
+steps_of (kind.Asked n work line) = work_steps n work ++ asks n line ∷ []
 steps_of (kind.Refused n line) = refused n ∷ []
-steps_of (kind.Left n) = leaves n ∷ []
+steps_of (kind.Left n work) = work_steps n work ++ leaves n ∷ []
 
 -- the steps of a history, in their order
 abbrev pub flat : List Entry → List Step
@@ -43,9 +53,9 @@ IsShut st n = WasOpened st n × ((session_of st n).is_open ≡ false)
 -- the place of a turn, if it opened a session
 abbrev pub root_of : ℕ → Kind → List ℕ
 root_of place kind.Opened = place ∷ []
-root_of place (kind.Asked n line) = []
+root_of place (kind.Asked n work line) = []
 root_of place (kind.Refused n line) = []
-root_of place (kind.Left n) = []
+root_of place (kind.Left n work) = []
 
 -- the places of the turns that opened sessions, of a history that begins at a place
 abbrev pub roots_from : ℕ → List Entry → List ℕ
@@ -56,13 +66,24 @@ roots_from place (e ∷ h) = root_of place e.kind ++ roots_from (place + 1) h
 abbrev pub HasRoot : List Entry → ℕ → ℕ → Type 0
 HasRoot h n place = get_elem? (roots_from 0 h) (n - 1) ≡ some place
 
--- a turn may come right after the history: it opens a session, which is its own root, or it is of an open session and names
--- the place where that was opened
+-- the session has an open transaction before each of these lines and after it
+abbrev pub IsWork : Reader → State → ℕ → List Note → Type 0
+IsWork read st n [] = Unit {0}
+IsWork read st n (w ∷ work) =
+    (in_txn (session_of st n).txn ≡ true) × (in_txn (session_of (next read st (note_step n w)) n).txn ≡ true)
+    × IsWork read (next read st (note_step n w)) n work
+
+-- the session is open and was opened at this place
+abbrev pub IsAt : Reader → List Entry → ℕ → ℕ → Type 0
+IsAt read h n root = IsOpen (after read h) n × HasRoot h n root
+
+-- A turn may come right after the history: it opens a session, which is its own root, or it is of an open session and names
+-- the place where that was opened. The lines that it brings along are of that session's open transaction.
 abbrev pub IsRightKind : Reader → List Entry → ℕ → Kind → Type 0
 IsRightKind read h root kind.Opened = root ≡ length h
-IsRightKind read h root (kind.Asked n line) = IsOpen (after read h) n × HasRoot h n root
-IsRightKind read h root (kind.Refused n line) = IsOpen (after read h) n × HasRoot h n root
-IsRightKind read h root (kind.Left n) = IsOpen (after read h) n × HasRoot h n root
+IsRightKind read h root (kind.Asked n work line) = IsAt read h n root × IsWork read (after read h) n work
+IsRightKind read h root (kind.Refused n line) = IsAt read h n root
+IsRightKind read h root (kind.Left n work) = IsAt read h n root × IsWork read (after read h) n work
 
 abbrev pub IsRight : Reader → List Entry → Entry → Type 0
 IsRight read h e = IsRightKind read h e.root e.kind
@@ -95,9 +116,9 @@ entry_of h n x = record { root = root_in h n; kind = x }
 -- the turn at this place is of the session, or opened it
 abbrev pub IsKindOf : ℕ → List Entry → ℕ → Kind → Type 0
 IsKindOf n h place kind.Opened = HasRoot h n place
-IsKindOf n h place (kind.Asked m line) = m ≡ n
+IsKindOf n h place (kind.Asked m work line) = m ≡ n
 IsKindOf n h place (kind.Refused m line) = m ≡ n
-IsKindOf n h place (kind.Left m) = m ≡ n
+IsKindOf n h place (kind.Left m work) = m ≡ n
 
 -- so is the entry at this place of the history
 abbrev pub IsEntryOf : ℕ → List Entry → ℕ → Type 0

@@ -1,35 +1,44 @@
 -- What a session asked in a history, and what it was told.
-use Rattle.std.specs.Prelude.{ℕ, ◌==◌, List, [], ◌∷◌, ◌++◌, flat_map, None, if◌then◌else◌}
+use Rattle.std.specs.Prelude.{ℕ, ◌==◌, List, [], ◌∷◌, ◌++◌, flat_map, map, None, if◌then◌else◌}
 use Rattle.ifdb_wire.specs.Text.{reply_text}
 use Rattle.ifdb_model.specs.Step.{Reader}
-use Rattle.ifdb_model.specs.Run.{State, Told, opening, run, replies}
+use Rattle.ifdb_model.specs.Run.{State, Step, Told, opening, run, replies}
 use Rattle.ifdb_history.specs.declared.entry.Entry.{Entry}
 use Rattle.ifdb_history.specs.declared.entry.Kind.{Kind}
 use Rattle.ifdb_history.specs.declared.entry.Kind.TheVariants as kind
-use Rattle.ifdb_history.specs.History.{steps_of}
+use Rattle.ifdb_history.specs.declared.entry.Note.{Note}
+use Rattle.ifdb_history.specs.History.{work_steps, steps_of, after}
 
--- the line that a turn asked, if it was of the session
-abbrev pub line_of : ℕ → Kind → List (List ℕ)
-line_of n kind.Opened = []
-line_of n (kind.Asked m line) = if m == n then line ∷ [] else []
-line_of n (kind.Refused m line) = if m == n then line ∷ [] else []
-line_of n (kind.Left m) = []
+-- the lines of the work of a transaction
+abbrev pub work_lines : List Note → List (List ℕ)
+work_lines work = map (λ (w : Note). w.line) work
+
+-- the lines that a turn asked, if it was of the session
+abbrev pub lines_at : ℕ → Kind → List (List ℕ)
+lines_at n kind.Opened = []
+lines_at n (kind.Asked m work line) = if m == n then work_lines work ++ line ∷ [] else []
+lines_at n (kind.Refused m line) = if m == n then line ∷ [] else []
+lines_at n (kind.Left m work) = if m == n then work_lines work else []
 
 -- the lines that the session asked
 abbrev pub lines_of : ℕ → List Entry → List (List ℕ)
 lines_of n [] = []
-lines_of n (e ∷ h) = line_of n e.kind ++ lines_of n h
+lines_of n (e ∷ h) = lines_at n e.kind ++ lines_of n h
 
 -- the text of a reply, if it is told to the session; on a connection it has no number
 abbrev pub text_to : ℕ → Told → List ℕ
 text_to n t = if t.number == n then reply_text None t.reply else []
 
+-- what some steps tell the session
+abbrev pub told_in : Reader → ℕ → State → List Step → List ℕ
+told_in read n st steps = flat_map (text_to n) (replies read st steps)
+
 -- what a turn tells the session; a connection isn't told that its session was opened
 abbrev pub text_of : Reader → ℕ → State → Kind → List ℕ
 text_of read n st kind.Opened = []
-text_of read n st (kind.Asked m line) = flat_map (text_to n) (replies read st (steps_of (kind.Asked m line)))
-text_of read n st (kind.Refused m line) = flat_map (text_to n) (replies read st (steps_of (kind.Refused m line)))
-text_of read n st (kind.Left m) = flat_map (text_to n) (replies read st (steps_of (kind.Left m)))
+text_of read n st (kind.Asked m work line) = told_in read n st (steps_of (kind.Asked m work line))
+text_of read n st (kind.Refused m line) = told_in read n st (steps_of (kind.Refused m line))
+text_of read n st (kind.Left m work) = told_in read n st (steps_of (kind.Left m work))
 
 -- what the session is told in turns from a state on
 abbrev pub texts_from : Reader → ℕ → State → List Entry → List ℕ
@@ -39,3 +48,13 @@ texts_from read n st (e ∷ h) = text_of read n st e.kind ++ texts_from read n (
 -- and in a history
 abbrev pub texts_of : Reader → ℕ → List Entry → List ℕ
 texts_of read n h = texts_from read n opening h
+
+-- ---- with lines that no turn has brought along yet
+
+-- the lines that the session asked in the history, and those of this work behind them
+abbrev pub lines_with : ℕ → List Entry → List Note → List (List ℕ)
+lines_with n h work = lines_of n h ++ work_lines work
+
+-- and what it was told
+abbrev pub texts_with : Reader → ℕ → List Entry → List Note → List ℕ
+texts_with read n h work = texts_of read n h ++ told_in read n (after read h) (work_steps n work)

@@ -1,9 +1,9 @@
 -- What a turn adds to the counts of a history, and that the room's tests tell it.
 use Rattle.std.proofs.Common.{◌≡◌, ℕ, ◌+◌, ◌-◌, ◌<◌, Bool, true, false, List, [], ◌∷◌, ◌++◌, ◌∙◌, length, refl, sym, ap, subst, arith, cond, Option, Some, None, Result}
-use Rattle.std.specs.Prelude.{not, ◌&&◌, ◌||◌, nat_lt, option_to_list, slice_index_or, slice_set}
+use Rattle.std.specs.Prelude.{not, ◌&&◌, ◌||◌, nat_lt, option_to_list, slice_index_or, slice_set, IfSome, IsSome}
 use Rattle.std.specs.Option.{is_some}
 use Rattle.std.proofs.lemmas.Bool.Decides.{nat_tests}
-use Rattle.std.proofs.lemmas.List.{append-nil, length-append, get_or-set_same}
+use Rattle.std.proofs.lemmas.List.{length-append, get_or-set_same}
 use Rattle.ifdb_syntax.specs.declared.request.Request.{Request}
 use Rattle.ifdb_wire.specs.declared.fault.Fault.{Fault}
 use Rattle.ifdb_wire.specs.declared.fault.Fault.TheVariants as fault
@@ -15,7 +15,8 @@ use Rattle.ifdb_model.specs.Step.{Reader, Outcome, refuses, ask}
 use Rattle.ifdb_model.specs.Run.{State, session_of, outcome_of, with_outcome, asks, leaves, opening, next, run}
 use Rattle.ifdb_model.proofs.Runs.{run-append}
 use Rattle.ifdb_laws.proofs.Shapes.{Shape, stayed, greeted_as, relabelled_to, begun, ended, published, joined, wrote, done, shape}
-use Rattle.ifdb_db.specs.Client.{Open, txn_at}
+use Rattle.ifdb_db.specs.Client.{Open, Client, txn_at}
+use Rattle.ifdb_db.specs.Lent.{IsLent}
 use Rattle.ifdb_db.specs.Reading.{read_line}
 use Rattle.ifdb_db.specs.Room.{Hall, StandsFor, client_in}
 use Rattle.ifdb_db.specs.RoomSteps.{GoesBy, IsReplyTo, IsReplyText}
@@ -25,14 +26,15 @@ use Rattle.ifdb_history.specs.declared.entry.Kind.{Kind}
 use Rattle.ifdb_history.specs.declared.entry.Kind.TheVariants as kind
 use Rattle.ifdb_history.specs.Counts.{is_refusal, refusal_of, refusals_from, refusals_in, commits_in}
 use Rattle.ifdb_history.specs.History.{steps_of, flat, after}
-use Rattle.ifdb_history.proofs.Flat.{after-append}
 use Rattle.ifdb_history.proofs.Sessions.{open_was}
 use Rattle.ifdb_session.specs.declared.counts.Glance.{Glance}
 use Rattle.ifdb_session.specs.declared.shared.SharedRoom.{SharedRoom}
 use Rattle.ifdb_session.specs.Counts.{counted, is_commit, commits_at, refuses_at, is_count, IsGlance, has_committed, has_refused}
 use Rattle.ifdb_session.specs.Endings.{capped}
 use Rattle.ifdb_session.specs.Standing.{StandsForHistory}
-use Rattle.ifdb_session.specs.Turns.{IsAnswered, IsLeftOpen, HasCounted, CountsTurn}
+use Rattle.ifdb_session.specs.declared.shared.Asked.{Asked}
+use Rattle.ifdb_session.specs.declared.shared.Asked.TheVariants as asked
+use Rattle.ifdb_session.specs.Turns.{IsAnswered, IsAsked, IsLentBy, IsLeftOpen, HasCounted, CountsTurn, memory_text}
 
 -- ---- a history and one more entry
 
@@ -48,8 +50,8 @@ one_commit (Some (changes c)) = refl
 one_commit (Some (commits ws)) = refl
 
 module _ (read : Reader) where
-  line_commits : (st : State) (n : ℕ) (line : List ℕ)
-      → length (commits_of (next read st (asks n line)).log) ≡ length (commits_of st.log) + cond (commits_at read st (kind.Asked n line)) 1 0
+  pub line_commits : (st : State) (n : ℕ) (line : List ℕ)
+      → length (commits_of (next read st (asks n line)).log) ≡ length (commits_of st.log) + cond (commits_at read st (kind.Asked n [] line)) 1 0
   line_commits st n line = by (session_of st n).is_open where
     by : (b : Bool) → length (commits_of (cond b (with_outcome st n (ask read st.log (session_of st n) line)) st).log)
         ≡ length (commits_of st.log) + cond (is_commit (cond b (ask read st.log (session_of st n) line) (refuses (session_of st n) fault.NoSession)).added) 1 0
@@ -58,22 +60,16 @@ module _ (read : Reader) where
         commits_of-append st.log (option_to_list o.added) ∙ ap (λ k. length (commits_of st.log) + k) (one_commit o.added)
     by false = omega arith
 
-  leaving_commits : (st : State) (n : ℕ) → length (commits_of (next read st (leaves n)).log) ≡ length (commits_of st.log) + 0
+  pub leaving_commits : (st : State) (n : ℕ) → length (commits_of (next read st (leaves n)).log) ≡ length (commits_of st.log) + 0
   leaving_commits st n = by (session_of st n).is_open where
     by : (b : Bool) → length (commits_of (cond b (Rattle.ifdb_model.specs.Run.with_session st n (Rattle.ifdb_model.specs.Session.closed (session_of st n))) st).log) ≡ length (commits_of st.log) + 0
     by true = omega arith
     by false = omega arith
 
-  turn_commits : (st : State) (x : Kind) → length (commits_of (run read st (steps_of x)).log) ≡ length (commits_of st.log) + cond (commits_at read st x) 1 0
-  turn_commits st kind.Opened = omega arith
-  turn_commits st (kind.Asked n line) = line_commits st n line
-  turn_commits st (kind.Refused n line) = omega arith
-  turn_commits st (kind.Left n) = leaving_commits st n
-
-  pub commits_more : (h : List Entry) (e : Entry) → commits_in read (h ++ e ∷ []) ≡ commits_in read h + cond (commits_at read (after read h) e.kind) 1 0
-  commits_more h e =
-      ap (λ (st : State). length (commits_of st.log)) (after-append read h (e ∷ []) ∙ ap (run read (after read h)) (append-nil (steps_of e.kind)))
-      ∙ turn_commits (after read h) e.kind
+  -- the log after a history, and after one entry more, which leads to a state
+  pub commits_more : (h : List Entry) (e : Entry) (st : State) (is_commit : Bool) → after read (h ++ e ∷ []) ≡ st
+      → length (commits_of st.log) ≡ length (commits_of (after read h).log) + cond is_commit 1 0 → commits_in read (h ++ e ∷ []) ≡ commits_in read h + cond is_commit 1 0
+  commits_more h e st is_commit is more = ap (λ (z : State). length (commits_of z.log)) is ∙ more
 
   refusals_from-append : (st : State) (h k : List Entry) → refusals_from read st (h ++ k) ≡ refusals_from read st h + refusals_from read (run read st (flat h)) k
   refusals_from-append st [] k = omega arith
@@ -84,9 +80,9 @@ module _ (read : Reader) where
 
   one_refusal : (st : State) (x : Kind) → refusal_of read st x ≡ cond (refuses_at read st x) 1 0
   one_refusal st kind.Opened = refl
-  one_refusal st (kind.Asked n line) = refl
+  one_refusal st (kind.Asked n work line) = refl
   one_refusal st (kind.Refused n line) = refl
-  one_refusal st (kind.Left n) = refl
+  one_refusal st (kind.Left n work) = refl
 
   pub refusals_more : (h : List Entry) (e : Entry) → refusals_in read (h ++ e ∷ []) ≡ refusals_in read h + cond (refuses_at read (after read h) e.kind) 1 0
   refusals_more h e =
@@ -101,16 +97,15 @@ capped_more n m k true e f = omega (arith, e, f)
 capped_more n m k false e f = omega (arith, e, f)
 
 -- the room stands for one entry more, where the turn was counted as what it is
-pub stands_more : (old new : SharedRoom) (h : List Entry) (e : Entry) → StandsForHistory old h → StandsFor new.room (after read_line (h ++ e ∷ [])) → CountsTurn e.kind old new
-    → StandsForHistory new (h ++ e ∷ [])
-stands_more old new h e stands room counts = record {
+pub stands_more : (old new : SharedRoom) (h : List Entry) (e : Entry) (is_commit is_refused : Bool) → StandsForHistory old h → StandsFor new.room (after read_line (h ++ e ∷ []))
+    → commits_in read_line (h ++ e ∷ []) ≡ commits_in read_line h + cond is_commit 1 0 → refuses_at read_line (after read_line h) e.kind ≡ is_refused
+    → HasCounted old new is_commit is_refused → StandsForHistory new (h ++ e ∷ [])
+stands_more old new h e is_commit is_refused stands room more refuses told = record {
   room = room;
   entries = told.entries ∙ capped_more old.entries (length h) (length (h ++ e ∷ [])) true stands.entries (length-append h (e ∷ []));
-  commits = told.commits ∙ capped_more old.commits _ _ (commits_at read_line (after read_line h) e.kind) stands.commits (commits_more read_line h e);
-  refused = told.refused ∙ capped_more old.refused _ _ (refuses_at read_line (after read_line h) e.kind) stands.refused (refusals_more read_line h e);
-} where
-  told : HasCounted old new (commits_at read_line (after read_line h) e.kind) (refuses_at read_line (after read_line h) e.kind)
-  told = counts (after read_line h) stands.room
+  commits = told.commits ∙ capped_more old.commits _ _ is_commit stands.commits more;
+  refused = told.refused ∙ capped_more old.refused _ _ is_refused stands.refused (refusals_more read_line h e ∙ ap (λ b. refusals_in read_line h + cond b 1 0) refuses);
+}
 
 -- ---- how the room tells what a line did
 
@@ -136,7 +131,7 @@ commit_told log s line _ (done x t j) = ap (λ b. b && (in_txn s.txn || false)) 
 module _ (read : Reader) (st : State) (n : ℕ) (line : List ℕ) where
   -- by the log before and after, the session's transaction and the reply
   pub line_committed : (nat_lt (length st.log) (length (next read st (asks n line)).log) && (in_txn (session_of st n).txn || is_count (outcome_of read st n line).reply))
-      ≡ commits_at read st (kind.Asked n line)
+      ≡ commits_at read st (kind.Asked n [] line)
   line_committed = by (session_of st n).is_open where
     by : (b : Bool) → (nat_lt (length st.log) (length (cond b (with_outcome st n (ask read st.log (session_of st n) line)) st).log)
         && (in_txn (session_of st n).txn || is_count (cond b (ask read st.log (session_of st n) line) (refuses (session_of st n) fault.NoSession)).reply))
@@ -183,25 +178,39 @@ module _ (h g : Hall) (n : ℕ) (line : List ℕ) (r : Reply) (before now : Glan
   txn_now : now.in_transaction ≡ in_txn (outcome_of read_line st n line).session.txn
   txn_now = is.1 ∙ glance_told g (next read_line st (asks n line)) n (goes st w) ∙ ap (λ (s : Session). in_txn s.txn) (session_after read_line st n line)
 
-  pub committed_so : has_committed before now r ≡ commits_at read_line st (kind.Asked n line)
+  pub committed_so : has_committed before now r ≡ commits_at read_line st (kind.Asked n [] line)
   committed_so = seen ∙ line_committed read_line st n line where
     seen : has_committed before now r ≡ (nat_lt (length st.log) (length (next read_line st (asks n line)).log) && (in_txn (session_of st n).txn || is_count (outcome_of read_line st n line).reply))
     seen = λ i. nat_lt (log_before i) (log_now i) && (txn_before i || is_count (told st w i))
 
-  pub refused_so : has_refused before now r ≡ refuses_at read_line st (kind.Asked n line)
+  pub refused_so : has_refused before now r ≡ refuses_at read_line st (kind.Asked n [] line)
   refused_so = λ i. txn_before i && not (txn_now i) && is_refusal (told st w i)
 
--- a line that was answered so, and counted by these tests
-pub answered_and_counted : (old new : SharedRoom) (n : ℕ) (line text : List ℕ) (r : Reply) (before now : Glance) (is_open : Bool) → IsGlance old.room n before → IsGlance new.room n now
-    → GoesBy old.room new.room (asks n line) → IsReplyTo old.room n line r → text ≡ reply_text None r → (client_in new.room n).is_open ≡ is_open
-    → HasCounted old new (has_committed before now r) (has_refused before now r) → IsAnswered n line old.room new.room text is_open × CountsTurn (kind.Asked n line) old new
-answered_and_counted old new n line text r before now is_open was is goes told says left counts = ((goes, said, shown), counted_so) where
-  said : IsReplyText old.room n line None text
+-- a line that was answered so, of a hall, and counted by these tests
+pub answered_and_counted : (h : Hall) (old new : SharedRoom) (n : ℕ) (line text : List ℕ) (r : Reply) (before now : Glance) (is_open : Bool) → IsGlance h n before → IsGlance new.room n now
+    → GoesBy h new.room (asks n line) → IsReplyTo h n line r → text ≡ reply_text None r → (client_in new.room n).is_open ≡ is_open
+    → HasCounted old new (has_committed before now r) (has_refused before now r) → IsAnswered n line h new.room text is_open × CountsTurn h (kind.Asked n [] line) old new
+answered_and_counted h old new n line text r before now is_open was is goes told says left counts = ((goes, said, shown), counted_so) where
+  said : IsReplyText h n line None text
   said st w = says ∙ ap (reply_text None) (told st w)
 
   shown : IsLeftOpen new.room n is_open
   shown st w = ap (λ (s : Session). s.is_open) (same_session new.room st w n) ∙ left
 
-  counted_so : CountsTurn (kind.Asked n line) old new
+  counted_so : CountsTurn h (kind.Asked n [] line) old new
   counted_so st w = subst (λ (z : Bool × Bool). HasCounted old new z.0 z.1)
-      (λ i. (committed_so old.room new.room n line r before now was is goes told st w i, refused_so old.room new.room n line r before now was is goes told st w i)) counts
+      (λ i. (committed_so h new.room n line r before now was is goes told st w i, refused_so h new.room n line r before now was is goes told st w i)) counts
+
+-- a line for which there was no memory
+pub not_asked : (n : ℕ) (line : List ℕ) (lent now : Option Client) (old new : SharedRoom) (text : List ℕ) (result : Asked) → new.room ≡ old.room → text ≡ memory_text → now ≡ lent
+    → (lent ≡ None → result ≡ asked.Refused) → (lent ≡ None → HasCounted old new false false) → (IsSome lent → result ≡ asked.Kept) → (IsSome lent → new ≡ old)
+    → IsAsked n line lent now old new text result
+not_asked n line None now old new text result room told same refused counted kept still =
+    subst (IsAsked n line None now old new text) (sym (refused refl)) (room, told, λ st w. counted refl, refl, same)
+not_asked n line (Some c) now old new text result room told same refused counted kept still =
+    subst (IsAsked n line (Some c) now old new text) (sym (kept refl)) (still refl, told, same, (c, refl))
+
+-- what the room lends
+pub lent_by : (h : Hall) (n : ℕ) (lent : Option Client) → IfSome lent (λ c. c ≡ client_in h n) → IfSome lent IsLent → IsLentBy h n lent
+lent_by h n None copy lent = tt
+lent_by h n (Some c) copy lent = (copy, lent)

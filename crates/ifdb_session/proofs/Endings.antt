@@ -4,36 +4,33 @@ use Rattle.std.proofs.Common.{◌≡◌, ℕ, false, List, [], ◌∷◌, ◌++�
 use Rattle.std.specs.Io.KnownBytes.{Appends, IsAtEnd}
 use Rattle.ifdb_io.specs.Causes.{WritesShort}
 use Rattle.ifdb_io.specs.Lines.{Reading, Gives, Ends as Stops, Exceeds, IsLong}
-use Rattle.ifdb_history.specs.declared.entry.Entry.{Entry}
-use Rattle.ifdb_history.specs.Lines.{lines_of, texts_of}
-use Rattle.ifdb_db.specs.Reading.{read_line}
 use Rattle.ifdb_session.specs.declared.ending.Ending.TheVariants as ends
 use Rattle.ifdb_session.specs.Links.{Ends, long_text}
 use Rattle.ifdb_session.specs.Talk.{Talks}
 use Rattle.ifdb_session.proofs.Talking.{talks_on, line_took, wrote_short, long_took, wrote_long, wrote_front, rest_took, past_took, past_limit}
 
 -- the connection before all, before the call of the reader, after it, and after the writing
-module _ (n limit : ℕ) (h : List Entry) (old new : Reading) (a b c w v u : Option (List ℕ))
-    (so : Talks n h old (record { left = a; left_now = b; written = w; written_now = v })) (written : u ≡ v) where
+module _ (limit : ℕ) (lines : List (List ℕ)) (texts : List ℕ) (old new : Reading) (a b c w v u : Option (List ℕ))
+    (so : Talks lines texts old (record { left = a; left_now = b; written = w; written_now = v })) (written : u ≡ v) where
   -- ---- a line that was asked
 
-  module _ (h' : List Entry) (text : List ℕ) (d t : Option (List ℕ)) (left : d ≡ c) (g : Gives old new b c (new.text ++ 10 ∷ []))
-      (asked : lines_of n h' ≡ lines_of n h ++ new.text ∷ []) (told : texts_of read_line n h' ≡ texts_of read_line n h ++ text) where
+  module _ (more : List (List ℕ)) (all : List ℕ) (text : List ℕ) (d t : Option (List ℕ)) (left : d ≡ c) (g : Gives old new b c (new.text ++ 10 ∷ []))
+      (asked : more ≡ lines ++ new.text ∷ []) (told : all ≡ texts ++ text) where
     here : Gives old new b d (new.text ++ 10 ∷ [])
     here = subst (λ z. Gives old new b z (new.text ++ 10 ∷ [])) (sym left) g
 
-    pub goes_on : Appends u t text → new.over ≡ false → new.skipping ≡ false → Talks n h' new (record { left = a; left_now = d; written = w; written_now = t })
-    goes_on wrote over still = talks_on n h old new a b w v so h' d text here asked told t (subst (λ z. Appends z t text) written wrote) over still
+    pub goes_on : Appends u t text → new.over ≡ false → new.skipping ≡ false → Talks more all new (record { left = a; left_now = d; written = w; written_now = t })
+    goes_on wrote over still = talks_on lines texts old new a b w v so more all d text here asked told t (subst (λ z. Appends z t text) written wrote) over still
 
     pub ends_by_bye : Appends u t text → new.over ≡ false → new.skipping ≡ false
-        → Ends ends.Bye limit (lines_of n h') (texts_of read_line n h') (record { left = a; left_now = d; written = w; written_now = t })
+        → Ends ends.Bye limit more all (record { left = a; left_now = d; written = w; written_now = t })
     ends_by_bye wrote over still = let k = goes_on wrote over still in ((new.held, k.took), k.wrote)
 
     pub ends_unwritten : WritesShort u t text
-        → Ends ends.LinkWrite limit (lines_of n h') (texts_of read_line n h') (record { left = a; left_now = d; written = w; written_now = t })
+        → Ends ends.LinkWrite limit more all (record { left = a; left_now = d; written = w; written_now = t })
     ends_unwritten short = inl (
-      (new.held, line_took n h old new a b w v so h' d text here asked told),
-      wrote_short n h old new a b w v so h' d text here asked told t (subst (λ z. WritesShort z t text) written short),
+      (new.held, line_took lines texts old new a b w v so more all d text here asked told),
+      wrote_short lines texts old new a b w v so more all d text here asked told t (subst (λ z. WritesShort z t text) written short),
     )
 
   -- ---- a line that is too long
@@ -42,23 +39,23 @@ module _ (n limit : ℕ) (h : List Entry) (old new : Reading) (a b c w v u : Opt
     too_long : Gives old new b d new.text
     too_long = subst (λ z. Gives old new b z new.text) (sym left) g
 
-    pub ends_too_long : Appends u t long_text → Ends ends.TooLong limit (lines_of n h) (texts_of read_line n h) (record { left = a; left_now = d; written = w; written_now = t })
-    ends_too_long wrote = ((new.text, new.held, long_took n h old new a b w v so d too_long, long), wrote_long n h old new a b w v so t (subst (λ z. Appends z t long_text) written wrote))
+    pub ends_too_long : Appends u t long_text → Ends ends.TooLong limit lines texts (record { left = a; left_now = d; written = w; written_now = t })
+    ends_too_long wrote = ((new.text, new.held, long_took lines texts old new a b w v so d too_long, long), wrote_long lines texts old new a b w v so t (subst (λ z. Appends z t long_text) written wrote))
 
-    pub ends_too_long_unwritten : WritesShort u t long_text → Ends ends.LinkWrite limit (lines_of n h) (texts_of read_line n h) (record { left = a; left_now = d; written = w; written_now = t })
+    pub ends_too_long_unwritten : WritesShort u t long_text → Ends ends.LinkWrite limit lines texts (record { left = a; left_now = d; written = w; written_now = t })
     ends_too_long_unwritten short =
         let s = subst (λ z. WritesShort z t long_text) written short in
-        inr ((new.text, new.held, long_took n h old new a b w v so d too_long, long), (s.n, s.short, wrote_front n h old new a b w v so t s))
+        inr ((new.text, new.held, long_took lines texts old new a b w v so d too_long, long), (s.n, s.short, wrote_front lines texts old new a b w v so t s))
 
   -- ---- no line any more
 
   module _ (g : Stops old new b c) where
-    pub ends_at_end : IsAtEnd c → Ends ends.End limit (lines_of n h) (texts_of read_line n h) (record { left = a; left_now = c; written = w; written_now = u })
-    ends_at_end at = ((new.text, rest_took n h old new a b w v so c g, g.line, at), subst (λ z. Appends w z (texts_of read_line n h)) (sym written) so.wrote)
+    pub ends_at_end : IsAtEnd c → Ends ends.End limit lines texts (record { left = a; left_now = c; written = w; written_now = u })
+    ends_at_end at = ((new.text, rest_took lines texts old new a b w v so c g, g.line, at), subst (λ z. Appends w z texts) (sym written) so.wrote)
 
-    pub ends_unread : Ends ends.LinkRead limit (lines_of n h) (texts_of read_line n h) (record { left = a; left_now = c; written = w; written_now = u })
-    ends_unread = ((new.text, rest_took n h old new a b w v so c g, g.line), subst (λ z. Appends w z (texts_of read_line n h)) (sym written) so.wrote)
+    pub ends_unread : Ends ends.LinkRead limit lines texts (record { left = a; left_now = c; written = w; written_now = u })
+    ends_unread = ((new.text, rest_took lines texts old new a b w v so c g, g.line), subst (λ z. Appends w z texts) (sym written) so.wrote)
 
-  pub ends_past_limit : (g : Exceeds old new b c) → new.limit ≡ limit → Ends ends.TooMuch limit (lines_of n h) (texts_of read_line n h) (record { left = a; left_now = c; written = w; written_now = u })
+  pub ends_past_limit : (g : Exceeds old new b c) → new.limit ≡ limit → Ends ends.TooMuch limit lines texts (record { left = a; left_now = c; written = w; written_now = u })
   ends_past_limit g is =
-      ((new.text, g.last, past_took n h old new a b w v so c g, g.line, past_limit n h old new a b w v so c g ∙ is), subst (λ z. Appends w z (texts_of read_line n h)) (sym written) so.wrote)
+      ((new.text, g.last, past_took lines texts old new a b w v so c g, g.line, past_limit lines texts old new a b w v so c g ∙ is), subst (λ z. Appends w z texts) (sym written) so.wrote)

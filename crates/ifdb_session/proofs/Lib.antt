@@ -4,4 +4,5 @@ pub mod Endings
 pub mod Serving
 pub mod Hosting
 pub mod Counting
+pub mod Working
 pub mod Turned

@@ -6,10 +6,12 @@ use Rattle.ifdb_turn.specs.declared.turnstile.Turnstile.{Turnstile}
 use Rattle.ifdb_turn.specs.declared.turnstile.Pass.{Pass}
 use Rattle.ifdb_turn.specs.Passes.{history, places, BelongsTo, IsOrderly}
 use Rattle.ifdb_history.specs.declared.entry.Entry.{Entry}
-use Rattle.ifdb_history.specs.History.{after, Holds, IsRight, IsShut}
+use Rattle.ifdb_history.specs.History.{IsRight}
 use Rattle.ifdb_history.proofs.Entries.{entries_later, entries-append}
 use Rattle.ifdb_db.specs.Reading.{read_line}
+use Rattle.ifdb_session.specs.declared.seat.Seat.{Seat}
 use Rattle.ifdb_session.specs.Passes.{Sees, Adds}
+use Rattle.ifdb_session.specs.Seats.{IsSeated, IsGone}
 use Rattle.ifdb_session.specs.Talk.{IsLeftSo}
 
 pub prefix_itself : {A : Type 0} (xs : List A) → IsPrefix xs xs
@@ -42,7 +44,6 @@ module _ {X : Type 0} (n : ℕ) where
   }
 
 -- a session that is open or over, by what a turn said
-pub left_so : (n : ℕ) (h : List Entry) (own : List ℕ) (is_open : Bool) → (is_open ≡ true → Holds read_line h own n)
-    → (is_open ≡ false → IsShut (after read_line h) n) → IsLeftSo n h own is_open
-left_so n h own true goes over = goes refl
-left_so n h own false goes over = over refl
+pub left_so : (h : List Entry) (own : List ℕ) (seat : Seat) (is_open : Bool) → (is_open ≡ true → IsSeated h own seat) → (is_open ≡ false → IsGone h seat) → IsLeftSo h own seat is_open
+left_so h own seat true goes over = goes refl
+left_so h own seat false goes over = over refl

@@ -6,9 +6,6 @@ use Rattle.std.specs.Io.KnownBytes.{Appends, Consumes}
 use Rattle.std.proofs.KnownBytes.{Appends-trans, Appends-nil, Consumes-trans, Consumes-nil}
 use Rattle.ifdb_io.specs.Causes.{WritesShort}
 use Rattle.ifdb_io.specs.Lines.{Reading, Gives, Ends as Stops, Exceeds, unskipped}
-use Rattle.ifdb_history.specs.declared.entry.Entry.{Entry}
-use Rattle.ifdb_history.specs.Lines.{lines_of, texts_of}
-use Rattle.ifdb_db.specs.Reading.{read_line}
 use Rattle.ifdb_session.specs.Links.{Took, with_newline, bytes_of, long_text}
 use Rattle.ifdb_session.specs.Talk.{Talks}
 
@@ -51,58 +48,55 @@ short_on a b c texts text all first then is = subst (WritesShort a c) (sym is) (
   written = subst (Appends a c) (take-more texts text then.n) (Appends-trans a b c texts (take then.n text) first then.written);
 })
 
-module _ (n : ℕ) (h : List Entry) (old new : Reading) (a b w v : Option (List ℕ))
-    (so : Talks n h old (record { left = a; left_now = b; written = w; written_now = v })) where
-  abbrev pub lines : List (List ℕ)
-  lines = lines_of n h
-
+module _ (lines : List (List ℕ)) (texts : List ℕ) (old new : Reading) (a b w v : Option (List ℕ))
+    (so : Talks lines texts old (record { left = a; left_now = b; written = w; written_now = v })) where
   -- ---- one line more
 
-  module _ (h' : List Entry) (c : Option (List ℕ)) (text : List ℕ) (g : Gives old new b c (new.text ++ 10 ∷ []))
-      (asked : lines_of n h' ≡ lines_of n h ++ new.text ∷ []) (told : texts_of read_line n h' ≡ texts_of read_line n h ++ text) where
-    pub line_bytes : bytes_of lines ++ ((new.text ++ 10 ∷ []) ++ new.held) ≡ bytes_of (lines_of n h') ++ new.held
+  module _ (more : List (List ℕ)) (all : List ℕ) (c : Option (List ℕ)) (text : List ℕ) (g : Gives old new b c (new.text ++ 10 ∷ []))
+      (asked : more ≡ lines ++ new.text ∷ []) (told : all ≡ texts ++ text) where
+    pub line_bytes : bytes_of lines ++ ((new.text ++ 10 ∷ []) ++ new.held) ≡ bytes_of more ++ new.held
     line_bytes =
         sym (append_assoc (bytes_of lines) (new.text ++ 10 ∷ []) new.held)
         ∙ ap (λ l. l ++ new.held) (sym (bytes-snoc lines new.text) ∙ ap bytes_of (sym asked))
 
-    pub line_took : Took (lines_of n h') new.held (record { left = a; left_now = c; written = w; written_now = v })
+    pub line_took : Took more new.held (record { left = a; left_now = c; written = w; written_now = v })
     line_took = subst (Consumes a c) line_bytes
         (consumes_on a b c (bytes_of lines) old.held g.got ((new.text ++ 10 ∷ []) ++ new.held) so.took g.consumed (gives_bytes old new b c _ g so.still))
 
-    line_count : new.taken ≡ length (bytes_of (lines_of n h') ++ new.held)
+    line_count : new.taken ≡ length (bytes_of more ++ new.held)
     line_count =
         let bytes = ap length (gives_bytes old new b c _ g so.still) in
-        let all = ap length line_bytes in
+        let joined = ap length line_bytes in
         let one = length-append (bytes_of lines) old.held in
         let two = length-append old.held g.got in
         let three = length-append (bytes_of lines) ((new.text ++ 10 ∷ []) ++ new.held) in
         let before = so.count in
         let now = g.count in
-        omega (arith, bytes, all, one, two, three, before, now)
+        omega (arith, bytes, joined, one, two, three, before, now)
 
     pub talks_on : (u : Option (List ℕ)) → Appends v u text → new.over ≡ false → new.skipping ≡ false
-        → Talks n h' new (record { left = a; left_now = c; written = w; written_now = u })
+        → Talks more all new (record { left = a; left_now = c; written = w; written_now = u })
     talks_on u wrote over still = record {
       took = line_took;
       count = line_count;
-      wrote = subst (Appends w u) (sym told) (Appends-trans w v u (texts_of read_line n h) text so.wrote wrote);
+      wrote = subst (Appends w u) (sym told) (Appends-trans w v u texts text so.wrote wrote);
       over = over;
       still = still;
     }
 
-    pub wrote_short : (u : Option (List ℕ)) → WritesShort v u text → WritesShort w u (texts_of read_line n h')
-    wrote_short u short = short_on w v u (texts_of read_line n h) text (texts_of read_line n h') so.wrote short told
+    pub wrote_short : (u : Option (List ℕ)) → WritesShort v u text → WritesShort w u all
+    wrote_short u short = short_on w v u texts text all so.wrote short told
 
   -- ---- a line that is too long
 
   pub long_took : (c : Option (List ℕ)) → (g : Gives old new b c new.text) → Took lines (new.text ++ new.held) (record { left = a; left_now = c; written = w; written_now = v })
   long_took c g = consumes_on a b c (bytes_of lines) old.held g.got (new.text ++ new.held) so.took g.consumed (gives_bytes old new b c _ g so.still)
 
-  pub wrote_long : (u : Option (List ℕ)) → Appends v u long_text → Appends w u (texts_of read_line n h ++ long_text)
-  wrote_long u wrote = Appends-trans w v u (texts_of read_line n h) long_text so.wrote wrote
+  pub wrote_long : (u : Option (List ℕ)) → Appends v u long_text → Appends w u (texts ++ long_text)
+  wrote_long u wrote = Appends-trans w v u texts long_text so.wrote wrote
 
-  pub wrote_front : (u : Option (List ℕ)) → (s : WritesShort v u long_text) → Appends w u (texts_of read_line n h ++ take s.n long_text)
-  wrote_front u s = Appends-trans w v u (texts_of read_line n h) (take s.n long_text) so.wrote s.written
+  pub wrote_front : (u : Option (List ℕ)) → (s : WritesShort v u long_text) → Appends w u (texts ++ take s.n long_text)
+  wrote_front u s = Appends-trans w v u texts (take s.n long_text) so.wrote s.written
 
   -- ---- no line any more
 
@@ -126,15 +120,15 @@ module _ (n : ℕ) (h : List Entry) (old new : Reading) (a b w v : Option (List 
 
 -- ---- the beginning
 
-pub talks_first : (n : ℕ) (h : List Entry) (reader : Reading) (l w : Option (List ℕ)) → lines_of n h ≡ [] → texts_of read_line n h ≡ []
+pub talks_first : (lines : List (List ℕ)) (texts : List ℕ) (reader : Reading) (l w : Option (List ℕ)) → lines ≡ [] → texts ≡ []
     → reader ≡ record { text = []; held = []; skipping = false; taken = 0; limit = reader.limit; over = false }
-    → Talks n h reader (record { left = l; left_now = l; written = w; written_now = w })
-talks_first n h reader l w none silent is = record {
+    → Talks lines texts reader (record { left = l; left_now = l; written = w; written_now = w })
+talks_first lines texts reader l w none silent is = record {
   took = subst (Consumes l l) (sym bytes) (Consumes-nil l);
   count = let k = ap length bytes in let t = ap (λ (r : Reading). r.taken) is in omega (arith, k, t);
   wrote = subst (Appends w w) (sym silent) (Appends-nil w);
   over = ap (λ (r : Reading). r.over) is;
   still = ap (λ (r : Reading). r.skipping) is;
 } where
-  bytes : bytes_of (lines_of n h) ++ reader.held ≡ []
+  bytes : bytes_of lines ++ reader.held ≡ []
   bytes = ap (λ (ls : List (List ℕ)). bytes_of ls ++ reader.held) none ∙ ap (λ (r : Reading). r.held) is

@@ -1,6 +1,6 @@
 -- One turn of a session.
-use Rattle.std.proofs.Common.{◌≡◌, ℕ, ◌<◌, Bool, true, false, List, [], ◌∷◌, ◌++◌, ◌∙◌, length, refl, sym, ap, subst, arith}
-use Rattle.std.specs.Prelude.{None}
+use Rattle.std.proofs.Common.{◌≡◌, ℕ, ◌+◌, ◌<◌, Bool, true, false, List, [], ◌∷◌, ◌++◌, ◌∙◌, length, refl, sym, ap, subst, arith, cond, Option, Some, None}
+use Rattle.std.proofs.lemmas.List.{append-nil}
 use mathlib.Core.List.{IsPrefix}
 use Rattle.ifdb_turn.specs.declared.turnstile.Turnstile.{Turnstile}
 use Rattle.ifdb_turn.specs.declared.turnstile.Pass.{Pass}
@@ -10,139 +10,250 @@ use Rattle.ifdb_turn.specs.Places.{times}
 use Rattle.ifdb_turn.specs.Seats.{IsPassSeat}
 use Rattle.ifdb_turn.specs.Turns.{turnstile_of, pass_of}
 use Rattle.ifdb_turn.specs.declared.turn.Turn.{Turn}
-use Rattle.ifdb_wire.specs.Text.{reply_text}
-use Rattle.ifdb_wire.specs.declared.fault.Fault.TheVariants as fault
-use Rattle.ifdb_wire.specs.declared.reply.Reply.TheVariants as reply
-use Rattle.ifdb_model.specs.Run.{State, opens, asks, leaves, next, outcome_of}
+use Rattle.ifdb_model.specs.Log.{commits_of}
+use Rattle.ifdb_model.specs.Session.{Session}
+use Rattle.ifdb_model.specs.Run.{State, opens, asks, leaves, next, run}
+use Rattle.ifdb_model.proofs.Runs.{run-append}
+use Rattle.ifdb_db.specs.Client.{Client}
 use Rattle.ifdb_db.specs.Reading.{read_line}
 use Rattle.ifdb_db.specs.Room.{Hall, StandsFor}
-use Rattle.ifdb_db.specs.RoomSteps.{GoesBy, IsReplyText}
+use Rattle.ifdb_db.specs.RoomSteps.{GoesBy}
 use Rattle.ifdb_history.specs.declared.entry.Entry.{Entry}
 use Rattle.ifdb_history.specs.declared.entry.Kind.TheVariants as kind
-use Rattle.ifdb_history.specs.History.{after, WasOpened, IsOpen, IsShut, HasRoot, IsRight, Holds, root_in, opening_entry, entry_of, IsEntryOf, AreEntriesOf}
-use Rattle.ifdb_history.specs.Lines.{lines_of, texts_of}
-use Rattle.ifdb_history.proofs.Sessions.{open_was, shut_by_leaving, as_many_at_line}
+use Rattle.ifdb_history.specs.declared.entry.Note.{Note}
+use Rattle.ifdb_history.specs.History.{work_steps, after, WasOpened, IsOpen, IsShut, IsAt, HasRoot, IsKindOf, IsRight, Holds, root_in, opening_entry, entry_of, IsEntryOf}
+use Rattle.ifdb_history.specs.Counts.{commits_in}
+use Rattle.ifdb_history.specs.Lines.{work_lines, lines_of, texts_of, lines_with, texts_with}
+use Rattle.ifdb_history.proofs.Sessions.{open_was, shut_by_leaving, as_many_at_line, was_at_work}
 use Rattle.ifdb_history.proofs.Flat.{after-append}
 use Rattle.ifdb_history.proofs.Others.{kept_among_others}
 use Rattle.ifdb_history.proofs.Own.{own_is_right, asked_adds, refused_adds, left_adds, holds_on}
 use Rattle.ifdb_history.proofs.Over.{opened_new}
 use Rattle.ifdb_history.proofs.Entries.{last_entry}
+use Rattle.ifdb_history.proofs.Logs.{log_on}
+use Rattle.ifdb_session.specs.Counts.{commits_at, refuses_at}
 use Rattle.ifdb_session.specs.Ends.{EndsBare, EndsWith}
-use Rattle.ifdb_session.specs.Passes.{Sees, Adds, IsNew}
+use Rattle.ifdb_session.specs.Passes.{Sees, Adds, Asks, IsNew}
+use Rattle.ifdb_session.specs.Seats.{work_of, lines_in, texts_in, asked_entry, left_entry, Works, WorksIf, IsSeated, IsGone, Notes}
+use Rattle.ifdb_session.specs.declared.seat.Seat.{Seat}
 use Rattle.ifdb_session.specs.declared.shared.SharedRoom.{SharedRoom}
 use Rattle.ifdb_session.specs.Standing.{StandsForHistory}
-use Rattle.ifdb_session.specs.Turns.{IsNextNumber, IsLeftOpen, IsAnswered, CountsTurn}
-use Rattle.ifdb_session.proofs.Counting.{stands_more}
-use Rattle.ifdb_session.proofs.Passes.{prefix-trans}
+use Rattle.ifdb_session.specs.Turns.{with_lent, MayBeBack, IsLentBy, IsNextNumber, IsAnswered, CountsTurn, memory_text}
+use Rattle.ifdb_session.proofs.Counting.{stands_more, commits_more, line_commits, leaving_commits}
+use Rattle.ifdb_session.proofs.Passes.{prefix-trans, sees_itself, adds_none}
+use Rattle.ifdb_session.proofs.Working.{work_here, works_here, if_later, if_told, if_work, if_log, if_stands, if_back, lent_works, works_more, lines_more, texts_more}
 
--- the state after a line more
-goes_asked : (log : List Entry) (n : ℕ) (old new : Hall) (line : List ℕ) → StandsFor old (after read_line log) → GoesBy old new (asks n line)
-    → StandsFor new (after read_line (log ++ entry_of log n (kind.Asked n line) ∷ []))
-goes_asked log n old new line stands goes =
-    subst (StandsFor new) (sym (after-append read_line log (entry_of log n (kind.Asked n line) ∷ []))) (goes (after read_line log) stands)
+-- ---- the state after an entry
 
--- what a turn found: the history has grown by entries of others alone
-module _ (h log : List Entry) (own : List ℕ) (n : ℕ) (holds : Holds read_line h own n) (front : IsPrefix h log)
-    (right : AllRight (IsRight read_line) log) (away : NoRootsFrom (λ (e : Entry). e.root) log (length h) own) where
-  kept : Holds read_line log own n × (lines_of n log ≡ lines_of n h) × (texts_of read_line n log ≡ texts_of read_line n h)
-  kept = kept_among_others read_line h log own n holds front right away
+asked_state : (log : List Entry) (n : ℕ) (work : List Note) (line : List ℕ)
+    → after read_line (log ++ entry_of log n (kind.Asked n work line) ∷ []) ≡ next read_line (run read_line (after read_line log) (work_steps n work)) (asks n line)
+asked_state log n work line =
+    after-append read_line log (entry_of log n (kind.Asked n work line) ∷ [])
+    ∙ ap (run read_line (after read_line log)) (append-nil (work_steps n work ++ asks n line ∷ []))
+    ∙ run-append read_line (after read_line log) (work_steps n work) (asks n line ∷ [])
 
-  -- ---- the entry that it may add
+left_state : (log : List Entry) (n : ℕ) (work : List Note)
+    → after read_line (log ++ entry_of log n (kind.Left n work) ∷ []) ≡ next read_line (run read_line (after read_line log) (work_steps n work)) (leaves n)
+left_state log n work =
+    after-append read_line log (entry_of log n (kind.Left n work) ∷ [])
+    ∙ ap (run read_line (after read_line log)) (append-nil (work_steps n work ++ leaves n ∷ []))
+    ∙ run-append read_line (after read_line log) (work_steps n work) (leaves n ∷ [])
 
-  pub may_ask : (old new : SharedRoom) (line : List ℕ) → StandsForHistory old log → GoesBy old.room new.room (asks n line) → CountsTurn (kind.Asked n line) old new
-      → StandsForHistory new (log ++ entry_of log n (kind.Asked n line) ∷ [])
-      × IsRight read_line log (entry_of log n (kind.Asked n line)) × (0 < times (root_in log n) own)
-  may_ask old new line stands goes counts =
-      let is = own_is_right read_line log own n kept.0 in
-      (stands_more old new log (entry_of log n (kind.Asked n line)) stands (goes_asked log n old.room new.room line stands.room goes) counts, is.0, is.1)
+-- ---- what a turn finds: the history has grown by entries of others alone, and the seat is as it was
 
-  pub may_refuse : (old new : SharedRoom) (line : List ℕ) → StandsForHistory old log → new.room ≡ old.room → CountsTurn (kind.Refused n line) old new
-      → StandsForHistory new (log ++ entry_of log n (kind.Refused n line) ∷ [])
-      × IsRight read_line log (entry_of log n (kind.Refused n line)) × (0 < times (root_in log n) own)
-  may_refuse old new line stands same counts =
-      let is = own_is_right read_line log own n kept.0 in
-      let room : StandsFor new.room (after read_line (log ++ entry_of log n (kind.Refused n line) ∷ [])) =
-      subst (λ (h : Hall). StandsFor h (after read_line (log ++ entry_of log n (kind.Refused n line) ∷ []))) (sym same)
-      (subst (StandsFor old.room) (sym (after-append read_line log (entry_of log n (kind.Refused n line) ∷ []))) stands.room) in
-      (stands_more old new log (entry_of log n (kind.Refused n line)) stands room counts, is.0, is.1)
+pub seat_found : (h log : List Entry) (own : List ℕ) (s : Seat) → IsSeated h own s → IsPrefix h log → AllRight (IsRight read_line) log
+    → NoRootsFrom (λ (e : Entry). e.root) log (length h) own → IsSeated log own s × (lines_in log s ≡ lines_in h s) × (texts_in log s ≡ texts_in h s)
+seat_found h log own s seated front right away =
+    let kept = kept_among_others read_line h log own s.number seated.holds front right away in
+    let more = log_on read_line h log front in (
+      record { holds = kept.0; works = if_later h log s.number (work_of s) kept.3 more s.lent seated.works },
+      ap (λ l. l ++ work_lines (work_of s)) kept.1,
+      (λ i. kept.2 i ++ (if_told h log s.number (work_of s) kept.3 more s.lent seated.works) i),
+    )
 
-  pub may_leave : (old new : SharedRoom) → StandsForHistory old log → GoesBy old.room new.room (leaves n) → CountsTurn (kind.Left n) old new
-      → StandsForHistory new (log ++ entry_of log n (kind.Left n) ∷ [])
-      × IsRight read_line log (entry_of log n (kind.Left n)) × (0 < times (root_in log n) own)
-  may_leave old new stands goes counts =
-      let is = own_is_right read_line log own n kept.0 in
-      let room : StandsFor new.room (after read_line (log ++ entry_of log n (kind.Left n) ∷ [])) =
-      subst (StandsFor new.room) (sym (after-append read_line log (entry_of log n (kind.Left n) ∷ []))) (goes (after read_line log) stands.room) in
-      (stands_more old new log (entry_of log n (kind.Left n)) stands room counts, is.0, is.1)
+-- ---- the entries that it may add
 
-  -- ---- and what it says then
+module _ (log : List Entry) (own : List ℕ) (s : Seat) (seated : IsSeated log own s) (old new : SharedRoom) (stands : StandsForHistory old log) where
+  mine : IsAt read_line log s.number (root_in log s.number) × (0 < times (root_in log s.number) own)
+  mine = own_is_right read_line log own s.number seated.holds
 
-  module _ (later : List Entry) (e : Entry) (is : later ≡ log ++ e ∷ []) where
-    pub asked_lines : (line : List ℕ) → e ≡ entry_of log n (kind.Asked n line) → lines_of n later ≡ lines_of n h ++ line ∷ []
-    asked_lines line this = ap (lines_of n) is ∙ (asked_adds read_line log n line e this).0 ∙ ap (λ l. l ++ line ∷ []) kept.1
+  -- the state before the last step, in which the session has done its work
+  abbrev worked : State
+  worked = run read_line (after read_line log) (work_steps s.number (work_of s))
 
-    pub asked_texts : (room : Hall) (line text : List ℕ) → e ≡ entry_of log n (kind.Asked n line) → StandsFor room (after read_line log)
-        → IsReplyText room n line None text → texts_of read_line n later ≡ texts_of read_line n h ++ text
-    asked_texts room line text this stands told =
-        ap (texts_of read_line n) is ∙ (asked_adds read_line log n line e this).1
-        ∙ ap (λ l. l ++ reply_text None (outcome_of read_line (after read_line log) n line).reply) kept.2
-        ∙ ap (λ l. texts_of read_line n h ++ l) (sym (told (after read_line log) stands))
+  then : StandsFor (with_lent old.room s.number s.lent) worked
+  then = if_stands log s.number (work_of s) old.room stands.room s.lent seated.works
 
-    pub refused_lines : (line : List ℕ) → e ≡ entry_of log n (kind.Refused n line) → lines_of n later ≡ lines_of n h ++ line ∷ []
-    refused_lines line this = ap (lines_of n) is ∙ (refused_adds read_line log n line e this).0 ∙ ap (λ l. l ++ line ∷ []) kept.1
+  pub may_be_back : MayBeBack old.room s.number s.lent
+  may_be_back = if_back log s.number (work_of s) old.room stands.room s.lent seated.works
 
-    pub refused_texts : (line text : List ℕ) → e ≡ entry_of log n (kind.Refused n line) → text ≡ reply_text None (reply.Refused fault.OutOfMemory)
-        → texts_of read_line n later ≡ texts_of read_line n h ++ text
-    refused_texts line text this told =
-        ap (texts_of read_line n) is ∙ (refused_adds read_line log n line e this).1
-        ∙ ap (λ l. l ++ reply_text None (reply.Refused fault.OutOfMemory)) kept.2
-        ∙ ap (λ l. texts_of read_line n h ++ l) (sym told)
+  pub may_ask : (line : List ℕ) → GoesBy (with_lent old.room s.number s.lent) new.room (asks s.number line)
+      → CountsTurn (with_lent old.room s.number s.lent) (kind.Asked s.number [] line) old new
+      → StandsForHistory new (log ++ asked_entry log s.number s.work.items line ∷ [])
+      × IsRight read_line log (asked_entry log s.number s.work.items line) × (0 < times (root_in log s.number) own)
+  may_ask line goes counts = (
+    stands_more old new log e (commits_at read_line worked (kind.Asked s.number [] line)) (refuses_at read_line worked (kind.Asked s.number [] line)) stands room commits refl (counts worked then),
+    (mine.0, if_work log s.number (work_of s) s.lent seated.works),
+    mine.1,
+  ) where
+    e : Entry
+    e = asked_entry log s.number s.work.items line
 
-    pub left_lines : e ≡ entry_of log n (kind.Left n) → lines_of n later ≡ lines_of n h
-    left_lines this = ap (lines_of n) is ∙ (left_adds read_line log n e this).0 ∙ kept.1
+    room : StandsFor new.room (after read_line (log ++ e ∷ []))
+    room = subst (StandsFor new.room) (sym (asked_state log s.number (work_of s) line)) (goes worked then)
 
-    pub left_texts : e ≡ entry_of log n (kind.Left n) → texts_of read_line n later ≡ texts_of read_line n h
-    left_texts this = ap (texts_of read_line n) is ∙ (left_adds read_line log n e this).1 ∙ kept.2
+    commits : commits_in read_line (log ++ e ∷ []) ≡ commits_in read_line log + cond (commits_at read_line worked (kind.Asked s.number [] line)) 1 0
+    commits = commits_more read_line log e (next read_line worked (asks s.number line)) _ (asked_state log s.number (work_of s) line)
+        (line_commits read_line worked s.number line
+        ∙ ap (λ l. length (commits_of l) + cond (commits_at read_line worked (kind.Asked s.number [] line)) 1 0) (if_log log s.number (work_of s) s.lent seated.works))
 
-    -- the session is open still
-    pub goes_on : (room : Hall) (places : List ℕ) → places ≡ own ++ length log ∷ [] → StandsFor room (after read_line later) → IsLeftOpen room n true
-        → Holds read_line later places n
-    goes_on room places more stands opened =
-        let o : IsOpen (after read_line (log ++ e ∷ [])) n = subst (λ l. IsOpen (after read_line l) n) is (opened (after read_line later) stands) in
-        subst (λ (z : List Entry × List ℕ). Holds read_line z.0 z.1 n) (λ i. (sym is i, sym more i)) (holds_on read_line log own n e (length log) kept.0 o)
+  pub may_leave : GoesBy (with_lent old.room s.number s.lent) new.room (leaves s.number)
+      → CountsTurn (with_lent old.room s.number s.lent) (kind.Left s.number []) old new
+      → StandsForHistory new (log ++ left_entry log s.number s.work.items ∷ [])
+      × IsRight read_line log (left_entry log s.number s.work.items) × (0 < times (root_in log s.number) own)
+  may_leave goes counts = (
+    stands_more old new log e false false stands room commits refl (counts worked then),
+    (mine.0, if_work log s.number (work_of s) s.lent seated.works),
+    mine.1,
+  ) where
+    e : Entry
+    e = left_entry log s.number s.work.items
 
-    -- a refused line leaves it so
-    pub goes_on_refused : (line places : List ℕ) → e ≡ entry_of log n (kind.Refused n line) → places ≡ own ++ length log ∷ [] → Holds read_line later places n
-    goes_on_refused line places this more =
-        let o : IsOpen (after read_line (log ++ e ∷ [])) n =
-        subst (λ x. IsOpen (after read_line (log ++ x ∷ [])) n) (sym this)
-        (subst (λ (st : State). IsOpen st n) (sym (after-append read_line log (entry_of log n (kind.Refused n line) ∷ []))) kept.0.0) in
-        subst (λ (z : List Entry × List ℕ). Holds read_line z.0 z.1 n) (λ i. (sym is i, sym more i)) (holds_on read_line log own n e (length log) kept.0 o)
+    room : StandsFor new.room (after read_line (log ++ e ∷ []))
+    room = subst (StandsFor new.room) (sym (left_state log s.number (work_of s))) (goes worked then)
 
-    -- it is over
-    pub is_over : (room : Hall) (line : List ℕ) → e ≡ entry_of log n (kind.Asked n line) → StandsFor room (after read_line later) → IsLeftOpen room n false
-        → IsShut (after read_line later) n
-    is_over room line this stands over = (was, over (after read_line later) stands) where
-      then : after read_line later ≡ next read_line (after read_line log) (asks n line)
-      then = ap (after read_line) is ∙ ap (λ x. after read_line (log ++ x ∷ [])) this ∙ after-append read_line log (entry_of log n (kind.Asked n line) ∷ [])
+    commits : commits_in read_line (log ++ e ∷ []) ≡ commits_in read_line log + 0
+    commits = commits_more read_line log e (next read_line worked (leaves s.number)) false (left_state log s.number (work_of s))
+        (leaving_commits read_line worked s.number ∙ ap (λ l. length (commits_of l) + 0) (if_log log s.number (work_of s) s.lent seated.works))
 
-      was : WasOpened (after read_line later) n
+  pub may_refuse : (line : List ℕ) → new.room ≡ old.room → CountsTurn old.room (kind.Refused s.number line) old new
+      → StandsForHistory new (log ++ entry_of log s.number (kind.Refused s.number line) ∷ [])
+      × IsRight read_line log (entry_of log s.number (kind.Refused s.number line)) × (0 < times (root_in log s.number) own)
+  may_refuse line same counts = (
+    stands_more old new log e false false stands room (commits_more read_line log e (after read_line log) false state (omega arith)) refl (counts (after read_line log) stands.room),
+    mine.0,
+    mine.1,
+  ) where
+    e : Entry
+    e = entry_of log s.number (kind.Refused s.number line)
+
+    state : after read_line (log ++ e ∷ []) ≡ after read_line log
+    state = after-append read_line log (e ∷ [])
+
+    room : StandsFor new.room (after read_line (log ++ e ∷ []))
+    room = subst (λ (h : Hall). StandsFor h (after read_line (log ++ e ∷ []))) (sym same) (subst (StandsFor old.room) (sym state) stands.room)
+
+-- ---- what it says then
+
+module _ (log : List Entry) (own : List ℕ) (s : Seat) (seated : IsSeated log own s) where
+  -- the session is open still
+  holds_then : (e : Entry) (later : List Entry) (places : List ℕ) → later ≡ log ++ e ∷ [] → places ≡ own ++ length log ∷ [] → IsOpen (after read_line later) s.number → Holds read_line later places s.number
+  holds_then e later places is more o =
+      let opened : IsOpen (after read_line (log ++ e ∷ [])) s.number = subst (λ l. IsOpen (after read_line l) s.number) is o in
+      subst (λ (z : List Entry × List ℕ). Holds read_line z.0 z.1 s.number) (λ i. (sym is i, sym more i)) (holds_on read_line log own s.number e (length log) seated.holds opened)
+
+  module _ (line : List ℕ) (later : List Entry) (is : later ≡ log ++ asked_entry log s.number s.work.items line ∷ []) (room next_room : Hall) (text : List ℕ) (is_open : Bool)
+      (stands : StandsFor room (after read_line log)) (answered : IsAnswered s.number line (with_lent room s.number s.lent) next_room text is_open)
+      (now : Option Client) (t : Seat) (number : t.number ≡ s.number) (lent : t.lent ≡ now) (none : work_of t ≡ []) where
+    abbrev before : State
+    before = run read_line (after read_line log) (work_steps s.number (work_of s))
+
+    then_stands : StandsFor next_room (after read_line later)
+    then_stands = subst (StandsFor next_room) (sym (ap (after read_line) is ∙ asked_state log s.number (work_of s) line))
+        (answered.0 before (if_stands log s.number (work_of s) room stands s.lent seated.works))
+
+    pub asked_lines : lines_in later t ≡ lines_in log s ++ line ∷ []
+    asked_lines =
+        (λ i. lines_with (number i) later (none i)) ∙ append-nil (lines_of s.number later)
+        ∙ ap (lines_of s.number) is ∙ (asked_adds read_line log s.number (work_of s) line _ refl).0
+
+    pub asked_texts : texts_in later t ≡ texts_in log s ++ text
+    asked_texts =
+        (λ i. texts_with read_line (number i) later (none i)) ∙ append-nil (texts_of read_line s.number later)
+        ∙ ap (texts_of read_line s.number) is ∙ (asked_adds read_line log s.number (work_of s) line _ refl).1
+        ∙ ap (λ l. texts_in log s ++ l) (sym (answered.1 before (if_stands log s.number (work_of s) room stands s.lent seated.works)))
+
+    pub asked_open : is_open ≡ true → IsLentBy next_room s.number now → (places : List ℕ) → places ≡ own ++ length log ∷ [] → IsSeated later places t
+    asked_open o by_room places more = record {
+      holds = subst (Holds read_line later places) (sym number) (holds_then _ later places is more (answered.2 (after read_line later) then_stands ∙ o));
+      works = subst (λ (z : ℕ × List Note × Option Client). WorksIf later z.0 z.1 z.2) (λ i. (sym number i, sym none i, sym lent i)) (lent_works later s.number next_room now then_stands by_room);
+    }
+
+    pub asked_over : is_open ≡ false → IsGone later t
+    asked_over o = record { shut = subst (IsShut (after read_line later)) (sym number) (was, answered.2 (after read_line later) then_stands ∙ o); none = none } where
+      was : WasOpened (after read_line later) s.number
       was =
-          let before = open_was (after read_line log) n kept.0.0 in
-          let same = as_many_at_line read_line (after read_line log) n line in
-          let le = before.1 in
-          subst (λ (st : State). WasOpened st n) (sym then) (before.0, omega (arith, same, le))
+          let first = was_at_work read_line (after read_line log) s.number s.number (work_of s) (open_was (after read_line log) s.number seated.holds.0) in
+          let same = as_many_at_line read_line before s.number line in
+          let le = first.1 in
+          subst (λ (st : State). WasOpened st s.number) (sym (ap (after read_line) is ∙ asked_state log s.number (work_of s) line)) (first.0, omega (arith, same, le))
 
-    pub has_left : e ≡ entry_of log n (kind.Left n) → IsShut (after read_line later) n
-    has_left this =
-        let then : after read_line later ≡ next read_line (after read_line log) (leaves n) =
-        ap (after read_line) is ∙ ap (λ x. after read_line (log ++ x ∷ [])) this ∙ after-append read_line log (entry_of log n (kind.Left n) ∷ []) in
-        subst (λ (st : State). IsShut st n) (sym then) (shut_by_leaving read_line (after read_line log) n kept.0.0)
+  module _ (line : List ℕ) (later : List Entry) (is : later ≡ log ++ entry_of log s.number (kind.Refused s.number line) ∷ []) (text : List ℕ) (told : text ≡ memory_text)
+      (in_room : s.lent ≡ None) (t : Seat) (number : t.number ≡ s.number) (lent : t.lent ≡ None) (work : work_of t ≡ work_of s) where
+    no_work : work_of s ≡ []
+    no_work = subst (WorksIf log s.number (work_of s)) in_room seated.works
+
+    pub refused_lines : lines_in later t ≡ lines_in log s ++ line ∷ []
+    refused_lines =
+        (λ i. lines_with (number i) later ((work ∙ no_work) i)) ∙ append-nil (lines_of s.number later)
+        ∙ ap (lines_of s.number) is ∙ (refused_adds read_line log s.number line _ refl).0
+        ∙ ap (λ l. l ++ line ∷ []) (sym (ap (lines_with s.number log) no_work ∙ append-nil (lines_of s.number log)))
+
+    pub refused_texts : texts_in later t ≡ texts_in log s ++ text
+    refused_texts =
+        (λ i. texts_with read_line (number i) later ((work ∙ no_work) i)) ∙ append-nil (texts_of read_line s.number later)
+        ∙ ap (texts_of read_line s.number) is ∙ (refused_adds read_line log s.number line _ refl).1
+        ∙ (λ i. (sym (ap (texts_with read_line s.number log) no_work ∙ append-nil (texts_of read_line s.number log)) i) ++ sym told i)
+
+    pub refused_open : (places : List ℕ) → places ≡ own ++ length log ∷ [] → IsSeated later places t
+    refused_open places more = record {
+      holds = subst (Holds read_line later places) (sym number) (holds_then _ later places is more
+          (subst (λ (st : State). IsOpen st s.number) (sym (ap (after read_line) is ∙ after-append read_line log (entry_of log s.number (kind.Refused s.number line) ∷ []))) seated.holds.0));
+      works = subst (λ (z : List Note × Option Client). WorksIf later t.number z.0 z.1) (λ i. (sym (work ∙ no_work) i, sym lent i)) refl;
+    }
+
+  module _ (later : List Entry) (is : later ≡ log ++ left_entry log s.number s.work.items ∷ []) where
+    pub left_lines : lines_of s.number later ≡ lines_in log s
+    left_lines = ap (lines_of s.number) is ∙ (left_adds read_line log s.number (work_of s) _ refl).0
+
+    pub left_texts : texts_of read_line s.number later ≡ texts_in log s
+    left_texts = ap (texts_of read_line s.number) is ∙ (left_adds read_line log s.number (work_of s) _ refl).1
+
+    pub left_over : IsShut (after read_line later) s.number
+    left_over = subst (λ (st : State). IsShut st s.number) (sym (ap (after read_line) is ∙ left_state log s.number (work_of s)))
+        (shut_by_leaving read_line (run read_line (after read_line log) (work_steps s.number (work_of s))) s.number (open_still s.lent seated.works)) where
+          open_still : (lent : Option Client) → WorksIf log s.number (work_of s) lent → IsOpen (run read_line (after read_line log) (work_steps s.number (work_of s))) s.number
+          open_still None w = subst (λ ws. IsOpen (run read_line (after read_line log) (work_steps s.number ws)) s.number) (sym w) seated.holds.0
+          open_still (Some c) w =
+              let at = work_here s.number (after read_line log) (work_of s) w.begun c (works_here log s.number (work_of s) c w) w.worked in
+              ap (λ (z : Session). z.is_open) at.session ∙ at.lent.is_open
+
+  -- ---- a line that a lent session answered
+
+  module _ (line text : List ℕ) (t : Seat) (m : Notes line s t text) where
+    abbrev noted : Note
+    noted = record { line = line; is_refused = m.is_refused }
+
+    there : Works log s.number (work_of s) m.before
+    there = subst (WorksIf log s.number (work_of s)) m.was seated.works
+
+    pub noted_seat : IsSeated log own t
+    noted_seat = record {
+      holds = subst (Holds read_line log own) (sym m.number) seated.holds;
+      works = subst (λ (z : ℕ × List Note × Option Client). WorksIf log z.0 z.1 z.2) (λ i. (sym m.number i, sym m.work i, sym m.is i))
+          (works_more log s.number (work_of s) noted m.before m.now text there m.told);
+    }
+
+    pub noted_lines : lines_in log t ≡ lines_in log s ++ line ∷ []
+    noted_lines = (λ i. lines_with (m.number i) log (m.work i)) ∙ lines_more log s.number (work_of s) noted m.before m.now text there m.told
+
+    pub noted_texts : texts_in log t ≡ texts_in log s ++ text
+    noted_texts = (λ i. texts_with read_line (m.number i) log (m.work i)) ∙ texts_more log s.number (work_of s) noted m.before m.now text there m.told
 
 -- ---- passes
 
 module _ {X : Type 0} (hall : Turnstile X Entry) (old new : Pass X Entry) (log : List Entry) (e : Entry) (is : history new ≡ log ++ e ∷ []) where
-  pub sees_one_more : BelongsTo hall new → IsOrderly (IsRight read_line) new → IsPrefix (history old) log → shares new ≡ shares old → Sees hall old new
+  sees_one_more : BelongsTo hall new → IsOrderly (IsRight read_line) new → IsPrefix (history old) log → shares new ≡ shares old → Sees hall old new
   sees_one_more belongs orderly front same = record {
     belongs = belongs;
     orderly = orderly;
@@ -150,27 +261,18 @@ module _ {X : Type 0} (hall : Turnstile X Entry) (old new : Pass X Entry) (log :
     shares = same;
   }
 
-  pub adds_one_more : (n : ℕ) → IsEntryOf n (log ++ e ∷ []) (length log) → places new ≡ places old ++ length log ∷ [] → Adds n old new
+  adds_one_more : (n : ℕ) → IsEntryOf n (log ++ e ∷ []) (length log) → places new ≡ places old ++ length log ∷ [] → Adds n old new
   adds_one_more n of own = record { added = length log ∷ []; own = own; of = (subst (λ l. IsEntryOf n l (length log)) (sym is) of, tt) }
-
--- an entry of a session's own is one of its
-pub asked_of : (log : List Entry) (n : ℕ) (line : List ℕ) (e : Entry) → e ≡ entry_of log n (kind.Asked n line) → IsEntryOf n (log ++ e ∷ []) (length log)
-asked_of log n line e this = last_entry n log e (subst (λ (x : Entry). Rattle.ifdb_history.specs.History.IsKindOf n (log ++ e ∷ []) (length log) x.kind) (sym this) refl)
-
-pub refused_of : (log : List Entry) (n : ℕ) (line : List ℕ) (e : Entry) → e ≡ entry_of log n (kind.Refused n line) → IsEntryOf n (log ++ e ∷ []) (length log)
-refused_of log n line e this = last_entry n log e (subst (λ (x : Entry). Rattle.ifdb_history.specs.History.IsKindOf n (log ++ e ∷ []) (length log) x.kind) (sym this) refl)
-
-pub left_of : (log : List Entry) (n : ℕ) (e : Entry) → e ≡ entry_of log n (kind.Left n) → IsEntryOf n (log ++ e ∷ []) (length log)
-left_of log n e this = last_entry n log e (subst (λ (x : Entry). Rattle.ifdb_history.specs.History.IsKindOf n (log ++ e ∷ []) (length log) x.kind) (sym this) refl)
 
 -- ---- a session that was opened
 
-pub may_open : (old new : SharedRoom) (log : List Entry) → StandsForHistory old log → GoesBy old.room new.room opens → CountsTurn kind.Opened old new
+pub may_open : (old new : SharedRoom) (log : List Entry) → StandsForHistory old log → GoesBy old.room new.room opens → CountsTurn old.room kind.Opened old new
     → StandsForHistory new (log ++ opening_entry log ∷ []) × IsRight read_line log (opening_entry log)
 may_open old new log stands goes counts =
-    let room : StandsFor new.room (after read_line (log ++ opening_entry log ∷ [])) =
-    subst (StandsFor new.room) (sym (after-append read_line log (opening_entry log ∷ []))) (goes (after read_line log) stands.room) in
-    (stands_more old new log (opening_entry log) stands room counts, refl)
+    let state = after-append read_line log (opening_entry log ∷ []) in
+    let room : StandsFor new.room (after read_line (log ++ opening_entry log ∷ [])) = subst (StandsFor new.room) (sym state) (goes (after read_line log) stands.room) in
+    let commits = commits_more read_line log (opening_entry log) (next read_line (after read_line log) opens) false state (omega arith) in
+    (stands_more old new log (opening_entry log) false false stands room commits refl (counts (after read_line log) stands.room), refl)
 
 pub is_new : {X : Type 0} (old new : Pass X Entry) (room : Hall) (log : List Entry) (n : ℕ) → AllRight (IsRight read_line) log → StandsFor room (after read_line log)
     → IsNextNumber room n → history new ≡ log ++ opening_entry log ∷ [] → places new ≡ places old ++ length log ∷ [] → IsNew n old new
@@ -202,76 +304,108 @@ module _ {X : Type 0} (hall : Turnstile X Entry) (old : Pass X Entry) (turn : Tu
   abbrev pub log_of : List Entry
   log_of = history (pass_of turn)
 
-  pub own_more : places new ≡ places old ++ length log_of ∷ []
+  own_more : places new ≡ places old ++ length log_of ∷ []
   own_more = ended.own ∙ ap (λ l. l ++ length log_of ∷ []) same
 
   pub ended_sees : Sees hall old new
   ended_sees = sees_one_more hall old new log_of e ended.seen (subst (λ id. IsPassSeat id new.seat) at ended.belongs) ended.orderly front (ended.same ∙ kept_shares)
 
-  pub ended_adds : (n : ℕ) → IsEntryOf n (log_of ++ e ∷ []) (length log_of) → Adds n old new
-  ended_adds n of = adds_one_more hall old new log_of e ended.seen n of own_more
+  ended_adds : (n : ℕ) → IsKindOf n (log_of ++ e ∷ []) (length log_of) e.kind → Adds n old new
+  ended_adds n of = adds_one_more hall old new log_of e ended.seen n (last_entry n log_of e of) own_more
 
   pub ended_new : (room : Hall) (n : ℕ) → AllRight (IsRight read_line) log_of → StandsFor room (after read_line log_of) → IsNextNumber room n → e ≡ opening_entry log_of → IsNew n old new
   ended_new room n right stands numbered this = is_new old new room log_of n right stands numbered (ended.seen ∙ ap (λ x. log_of ++ x ∷ []) this) own_more
 
-  module _ (n : ℕ) (holds : Holds read_line (history old) (places old) n) (right : AllRight (IsRight read_line) log_of)
+  module _ (s : Seat) (seated : IsSeated (history old) (places old) s) (right : AllRight (IsRight read_line) log_of)
       (away : NoRootsFrom (λ (x : Entry). x.root) log_of (length (history old)) (places old)) where
-    module _ (line : List ℕ) (this : e ≡ entry_of log_of n (kind.Asked n line)) (room next_room : Hall) (text : List ℕ) (is_open : Bool)
-        (stands : StandsFor room (after read_line log_of)) (answered : IsAnswered n line room next_room text is_open) where
-      pub ended_asked_adds : Adds n old new
-      ended_asked_adds = ended_adds n (asked_of log_of n line e this)
+    found : IsSeated log_of (places old) s × (lines_in log_of s ≡ lines_in (history old) s) × (texts_in log_of s ≡ texts_in (history old) s)
+    found = seat_found (history old) log_of (places old) s seated front right away
 
-      pub ended_asked_lines : lines_of n (history new) ≡ lines_of n (history old) ++ line ∷ []
-      ended_asked_lines = asked_lines (history old) log_of (places old) n holds front right away (history new) e ended.seen line this
+    pub ended_asked : (line text : List ℕ) (room next_room : Hall) (is_open : Bool) (now : Option Client) (t : Seat) → e ≡ asked_entry log_of s.number s.work.items line
+        → StandsFor room (after read_line log_of) → IsAnswered s.number line (with_lent room s.number s.lent) next_room text is_open → (is_open ≡ true → IsLentBy next_room s.number now)
+        → t.number ≡ s.number → t.lent ≡ now → work_of t ≡ [] → Asks hall line text old new s t is_open
+    ended_asked line text room next_room is_open now t this stands answered by_room number lent none =
+        let is = ended.seen ∙ ap (λ x. log_of ++ x ∷ []) this in
+        record {
+          sees = ended_sees;
+          adds = ended_adds s.number (subst (λ (x : Entry). IsKindOf s.number (log_of ++ e ∷ []) (length log_of) x.kind) (sym this) refl);
+          number = number;
+          seated = λ o. asked_open log_of (places old) s found.0 line (history new) is room next_room text is_open stands answered now t number lent none o (by_room o) (places new) own_more;
+          over = λ o. asked_over log_of (places old) s found.0 line (history new) is room next_room text is_open stands answered now t number lent none o;
+          lines = asked_lines log_of (places old) s found.0 line (history new) is room next_room text is_open stands answered now t number lent none ∙ ap (λ l. l ++ line ∷ []) found.1;
+          texts = asked_texts log_of (places old) s found.0 line (history new) is room next_room text is_open stands answered now t number lent none ∙ ap (λ l. l ++ text) found.2;
+        }
 
-      pub ended_asked_texts : texts_of read_line n (history new) ≡ texts_of read_line n (history old) ++ text
-      ended_asked_texts = asked_texts (history old) log_of (places old) n holds front right away (history new) e ended.seen room line text this stands answered.1
+    pub ended_refused : (line text : List ℕ) (t : Seat) → e ≡ entry_of log_of s.number (kind.Refused s.number line) → text ≡ memory_text → s.lent ≡ None
+        → t.number ≡ s.number → t.lent ≡ None → work_of t ≡ work_of s → Asks hall line text old new s t true
+    ended_refused line text t this told in_room number lent work =
+        let is = ended.seen ∙ ap (λ x. log_of ++ x ∷ []) this in
+        record {
+          sees = ended_sees;
+          adds = ended_adds s.number (subst (λ (x : Entry). IsKindOf s.number (log_of ++ e ∷ []) (length log_of) x.kind) (sym this) refl);
+          number = number;
+          seated = λ o. refused_open log_of (places old) s found.0 line (history new) is text told in_room t number lent work (places new) own_more;
+          over = λ o. cc;
+          lines = refused_lines log_of (places old) s found.0 line (history new) is text told in_room t number lent work ∙ ap (λ l. l ++ line ∷ []) found.1;
+          texts = refused_texts log_of (places old) s found.0 line (history new) is text told in_room t number lent work ∙ ap (λ l. l ++ text) found.2;
+        }
 
-      stands_then : StandsFor next_room (after read_line (history new))
-      stands_then = subst (λ l. StandsFor next_room (after read_line l)) (sym (ended.seen ∙ ap (λ x. log_of ++ x ∷ []) this))
-          (goes_asked log_of n room next_room line stands answered.0)
+    module _ (this : e ≡ left_entry log_of s.number s.work.items) where
+      left_is : history new ≡ log_of ++ left_entry log_of s.number s.work.items ∷ []
+      left_is = ended.seen ∙ ap (λ x. log_of ++ x ∷ []) this
 
-      pub ended_asked_open : is_open ≡ true → Holds read_line (history new) (places new) n
-      ended_asked_open o = goes_on (history old) log_of (places old) n holds front right away (history new) e ended.seen next_room (places new) own_more stands_then
-          (subst (IsLeftOpen next_room n) o answered.2)
+      pub ended_left_adds : Adds s.number old new
+      ended_left_adds = ended_adds s.number (subst (λ (x : Entry). IsKindOf s.number (log_of ++ e ∷ []) (length log_of) x.kind) (sym this) refl)
 
-      pub ended_asked_over : is_open ≡ false → IsShut (after read_line (history new)) n
-      ended_asked_over o = is_over (history old) log_of (places old) n holds front right away (history new) e ended.seen next_room line this stands_then
-          (subst (IsLeftOpen next_room n) o answered.2)
+      pub ended_left_lines : lines_of s.number (history new) ≡ lines_in (history old) s
+      ended_left_lines = left_lines log_of (places old) s found.0 (history new) left_is ∙ found.1
 
-    module _ (line : List ℕ) (this : e ≡ entry_of log_of n (kind.Refused n line)) (text : List ℕ) (told : text ≡ reply_text None (reply.Refused fault.OutOfMemory)) where
-      pub ended_refused_adds : Adds n old new
-      ended_refused_adds = ended_adds n (refused_of log_of n line e this)
+      pub ended_left_texts : texts_of read_line s.number (history new) ≡ texts_in (history old) s
+      ended_left_texts = left_texts log_of (places old) s found.0 (history new) left_is ∙ found.2
 
-      pub ended_refused_lines : lines_of n (history new) ≡ lines_of n (history old) ++ line ∷ []
-      ended_refused_lines = refused_lines (history old) log_of (places old) n holds front right away (history new) e ended.seen line this
+      pub ended_left_over : IsShut (after read_line (history new)) s.number
+      ended_left_over = left_over log_of (places old) s found.0 (history new) left_is
 
-      pub ended_refused_texts : texts_of read_line n (history new) ≡ texts_of read_line n (history old) ++ text
-      ended_refused_texts = refused_texts (history old) log_of (places old) n holds front right away (history new) e ended.seen line text this told
+-- ---- a turn that added nothing
 
-      pub ended_refused_open : Holds read_line (history new) (places new) n
-      ended_refused_open = goes_on_refused (history old) log_of (places old) n holds front right away (history new) e ended.seen line (places new) this own_more
+module _ {X : Type 0} (hall : Turnstile X Entry) (old : Pass X Entry) (turn : Turn X Entry) (new : Pass X Entry) (ended : EndsBare turn new)
+    (at : (turnstile_of turn).table.shared.table_id ≡ hall.table.shared.table_id) (front : IsPrefix (history old) (history (pass_of turn)))
+    (kept : shares (pass_of turn) ≡ shares old) where
+  pub bare_sees : Sees hall old new
+  bare_sees = record {
+    belongs = subst (λ id. IsPassSeat id new.seat) at ended.belongs;
+    orderly = ended.orderly;
+    begins = subst (IsPrefix (history old)) (sym ended.seen) front;
+    shares = ended.same ∙ kept;
+  }
 
-    module _ (this : e ≡ entry_of log_of n (kind.Left n)) where
-      pub ended_left_adds : Adds n old new
-      ended_left_adds = ended_adds n (left_of log_of n e this)
+  -- in which a lent session was refused a line
+  pub bare_asked : (s t : Seat) (line text : List ℕ) → IsSeated (history old) (places old) s → AllRight (IsRight read_line) (history (pass_of turn))
+      → NoRootsFrom (λ (x : Entry). x.root) (history (pass_of turn)) (length (history old)) (places old) → places (pass_of turn) ≡ places old
+      → Notes line s t text → Asks hall line text old new s t true
+  bare_asked s t line text seated right away same m =
+      let found = seat_found (history old) (history (pass_of turn)) (places old) s seated front right away in
+      let own : places new ≡ places old = ended.own ∙ same in
+      record {
+        sees = bare_sees;
+        adds = record { added = []; own = own ∙ sym (append-nil (places old)); of = tt };
+        number = m.number;
+        seated = λ o. subst (λ (z : List Entry × List ℕ). IsSeated z.0 z.1 t) (λ i. (sym ended.seen i, sym own i)) (noted_seat (history (pass_of turn)) (places old) s found.0 line text t m);
+        over = λ o. cc;
+        lines = ap (λ l. lines_in l t) ended.seen ∙ noted_lines (history (pass_of turn)) (places old) s found.0 line text t m ∙ ap (λ l. l ++ line ∷ []) found.1;
+        texts = ap (λ l. texts_in l t) ended.seen ∙ noted_texts (history (pass_of turn)) (places old) s found.0 line text t m ∙ ap (λ l. l ++ text) found.2;
+      }
 
-      pub ended_left_lines : lines_of n (history new) ≡ lines_of n (history old)
-      ended_left_lines = left_lines (history old) log_of (places old) n holds front right away (history new) e ended.seen this
+-- ---- a line that took no turn
 
-      pub ended_left_texts : texts_of read_line n (history new) ≡ texts_of read_line n (history old)
-      ended_left_texts = left_texts (history old) log_of (places old) n holds front right away (history new) e ended.seen this
-
-      pub ended_left_over : IsShut (after read_line (history new)) n
-      ended_left_over = has_left (history old) log_of (places old) n holds front right away (history new) e ended.seen this
-
--- a turn that added nothing
-pub bare_sees : {X : Type 0} (hall : Turnstile X Entry) (old : Pass X Entry) (turn : Turn X Entry) (new : Pass X Entry) → EndsBare turn new
-    → (turnstile_of turn).table.shared.table_id ≡ hall.table.shared.table_id → IsPrefix (history old) (history (pass_of turn)) → shares (pass_of turn) ≡ shares old
-    → Sees hall old new
-bare_sees hall old turn new ended at front kept = record {
-  belongs = subst (λ id. IsPassSeat id new.seat) at ended.belongs;
-  orderly = ended.orderly;
-  begins = subst (IsPrefix (history old)) (sym ended.seen) front;
-  shares = ended.same ∙ kept;
+pub alone_asked : {X : Type 0} (hall : Turnstile X Entry) (pass : Pass X Entry) (s t : Seat) (line text : List ℕ) → BelongsTo hall pass → IsOrderly (IsRight read_line) pass
+    → IsSeated (history pass) (places pass) s → Notes line s t text → Asks hall line text pass pass s t true
+alone_asked hall pass s t line text belongs orderly seated m = record {
+  sees = sees_itself hall pass belongs orderly;
+  adds = adds_none s.number pass;
+  number = m.number;
+  seated = λ o. noted_seat (history pass) (places pass) s seated line text t m;
+  over = λ o. cc;
+  lines = noted_lines (history pass) (places pass) s seated line text t m;
+  texts = noted_texts (history pass) (places pass) s seated line text t m;
 }

@@ -5,12 +5,13 @@ use Rattle.ifdb_wire.specs.declared.reply.Reply.{Reply}
 use Rattle.ifdb_wire.specs.declared.reply.Reply.TheVariants as reply
 use Rattle.ifdb_model.specs.Log.{Entry as LogEntry, changes, commits}
 use Rattle.ifdb_model.specs.Step.{Reader}
-use Rattle.ifdb_model.specs.Run.{State, outcome_of}
+use Rattle.ifdb_model.specs.Run.{State, run, outcome_of}
 use Rattle.ifdb_db.specs.Reading.{read_line}
 use Rattle.ifdb_db.specs.Room.{Hall, client_in}
 use Rattle.ifdb_history.specs.declared.entry.Entry.{Entry}
 use Rattle.ifdb_history.specs.declared.entry.Kind.{Kind}
 use Rattle.ifdb_history.specs.declared.entry.Kind.TheVariants as kind
+use Rattle.ifdb_history.specs.History.{work_steps}
 use Rattle.ifdb_history.specs.Counts.{is_refusal, refuses_commit, sessions_in, commits_in, refusals_in, rows_in}
 use Rattle.ifdb_session.specs.declared.counts.Counts.{Counts}
 use Rattle.ifdb_session.specs.declared.counts.Glance.{Glance}
@@ -40,12 +41,12 @@ is_commit (Some (commits ws)) = true
 
 -- the turn commits
 abbrev pub commits_at : Reader → State → Kind → Bool
-commits_at read st (kind.Asked n line) = is_commit (outcome_of read st n line).added
+commits_at read st (kind.Asked n work line) = is_commit (outcome_of read (run read st (work_steps n work)) n line).added
 commits_at read st _ = false
 
 -- the turn is a COMMIT that is refused
 abbrev pub refuses_at : Reader → State → Kind → Bool
-refuses_at read st (kind.Asked n line) = refuses_commit read st n line
+refuses_at read st (kind.Asked n work line) = refuses_commit read (run read st (work_steps n work)) n line
 refuses_at read st _ = false
 
 -- ---- how the room tells

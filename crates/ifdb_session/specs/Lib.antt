@@ -1,6 +1,7 @@
 pub mod Counts
 pub mod Standing
 pub mod Turns
+pub mod Seats
 pub mod Ends
 pub mod Passes
 pub mod Links

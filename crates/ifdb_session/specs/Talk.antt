@@ -2,26 +2,25 @@
 use Rattle.std.specs.Prelude.{◌≡◌, ℕ, Bool, true, false, List, ◌++◌, length}
 use Rattle.ifdb_io.specs.Lines.{Reading}
 use Rattle.ifdb_history.specs.declared.entry.Entry.{Entry}
-use Rattle.ifdb_history.specs.History.{after, Holds, IsShut}
-use Rattle.ifdb_history.specs.Lines.{lines_of, texts_of}
-use Rattle.ifdb_db.specs.Reading.{read_line}
 use Rattle.ifdb_session.specs.Links.{Span, Took, Wrote, bytes_of, Ends}
+use Rattle.ifdb_session.specs.Seats.{lines_in, texts_in, IsSeated, IsGone}
 use Rattle.ifdb_session.specs.declared.link.Talked.{Talked}
+use Rattle.ifdb_session.specs.declared.seat.Seat.{Seat}
 
--- each line that was taken was asked, each of its texts was written, and the reader holds the bytes behind them
-pub record Talks (n : ℕ) (h : List Entry) (reader : Reading) (s : Span) : Type 0 where
-  pub took : Took (lines_of n h) reader.held s
-  pub count : reader.taken ≡ length (bytes_of (lines_of n h) ++ reader.held)
-  pub wrote : Wrote (texts_of read_line n h) s
+-- these lines were taken, these texts were written, and the reader holds the bytes behind the lines
+pub record Talks (lines : List (List ℕ)) (texts : List ℕ) (reader : Reading) (s : Span) : Type 0 where
+  pub took : Took lines reader.held s
+  pub count : reader.taken ≡ length (bytes_of lines ++ reader.held)
+  pub wrote : Wrote texts s
   pub over : reader.over ≡ false
   pub still : reader.skipping ≡ false
 
--- the session is open still, and has a root among the own places, or it is over
-abbrev pub IsLeftSo : ℕ → List Entry → List ℕ → Bool → Type 0
-IsLeftSo n h own true = Holds read_line h own n
-IsLeftSo n h own false = IsShut (after read_line h) n
+-- the session of a seat is open still, or it is over
+abbrev pub IsLeftSo : List Entry → List ℕ → Seat → Bool → Type 0
+IsLeftSo h own seat true = IsSeated h own seat
+IsLeftSo h own seat false = IsGone h seat
 
--- the lines of session n ended so
-abbrev pub IsTalked : ℕ → List Entry → List ℕ → ℕ → Span → Talked → Type 0
-IsTalked n h own limit s talked =
-    Ends talked.ending limit (lines_of n h) (texts_of read_line n h) s × IsLeftSo n h own talked.is_open
+-- the lines of a seat's session ended so
+abbrev pub IsTalked : List Entry → List ℕ → Seat → ℕ → Span → Talked → Type 0
+IsTalked h own seat limit s talked =
+    Ends talked.ending limit (lines_in h seat) (texts_in h seat) s × IsLeftSo h own seat talked.is_open

@@ -1,11 +1,13 @@
 -- What the room does in a turn, whatever state it stands for.
-use Rattle.std.specs.Prelude.{◌≡◌, ℕ, ◌+◌, Bool, true, false, List, length, None}
+use Rattle.std.specs.Prelude.{◌≡◌, ℕ, ◌+◌, Bool, true, false, List, [], length, Option, Some, None}
 use Rattle.ifdb_wire.specs.declared.fault.Fault.TheVariants as fault
 use Rattle.ifdb_wire.specs.declared.reply.Reply.TheVariants as reply
 use Rattle.ifdb_wire.specs.Text.{reply_text}
 use Rattle.ifdb_model.specs.Run.{State, session_of, asks}
 use Rattle.ifdb_db.specs.Reading.{read_line}
-use Rattle.ifdb_db.specs.Room.{Hall, StandsFor}
+use Rattle.ifdb_db.specs.Client.{Client}
+use Rattle.ifdb_db.specs.Lent.{IsLent, MayComeBack, with_client}
+use Rattle.ifdb_db.specs.Room.{Hall, StandsFor, client_in}
 use Rattle.ifdb_db.specs.RoomSteps.{GoesBy, IsReplyText}
 use Rattle.ifdb_history.specs.declared.entry.Kind.{Kind}
 use Rattle.ifdb_history.specs.declared.entry.Kind.TheVariants as kind
@@ -23,6 +25,23 @@ IsNextNumber h n = (st : State) → StandsFor h st → n ≡ length st.sessions 
 abbrev pub IsLeftOpen : Hall → ℕ → Bool → Type 0
 IsLeftOpen h n is_open = (st : State) → StandsFor h st → (session_of st n).is_open ≡ is_open
 
+-- ---- a session that may be lent
+
+-- the hall with a session in its place, if it was lent
+abbrev pub with_lent : Hall → ℕ → Option Client → Hall
+with_lent h n None = h
+with_lent h n (Some c) = with_client h n c
+
+-- it may come back, if it was lent
+abbrev pub MayBeBack : Hall → ℕ → Option Client → Type 0
+MayBeBack h n None = Unit {0}
+MayBeBack h n (Some c) = MayComeBack h n c
+
+-- the room has lent the session as it stands, or it hasn't
+abbrev pub IsLentBy : Hall → ℕ → Option Client → Type 0
+IsLentBy h n None = Unit {0}
+IsLentBy h n (Some c) = (c ≡ client_in h n) × IsLent c
+
 -- ---- what is counted
 
 -- one entry more is counted, and a commit or a refused COMMIT if it is so
@@ -31,23 +50,29 @@ pub record HasCounted (old new : SharedRoom) (is_commit is_refused : Bool) : Typ
   pub commits : new.commits ≡ counted old.commits is_commit
   pub refused : new.refused ≡ counted old.refused is_refused
 
--- a turn was counted as what it is
-abbrev pub CountsTurn : Kind → SharedRoom → SharedRoom → Type 0
-CountsTurn x old new =
-    (st : State) → StandsFor old.room st → HasCounted old new (commits_at read_line st x) (refuses_at read_line st x)
+-- a turn was counted as what it is, whatever state the hall stands for at which it was taken
+abbrev pub CountsTurn : Hall → Kind → SharedRoom → SharedRoom → Type 0
+CountsTurn h x old new = (st : State) → StandsFor h st → HasCounted old new (commits_at read_line st x) (refuses_at read_line st x)
 
 -- ---- a line
+
+-- what refuses a line for which there is no memory
+abbrev pub memory_text : List ℕ
+memory_text = reply_text None (reply.Refused fault.OutOfMemory)
 
 -- a line was answered with this text
 abbrev pub IsAnswered : ℕ → List ℕ → Hall → Hall → List ℕ → Bool → Type 0
 IsAnswered n line h g text is_open = GoesBy h g (asks n line) × IsReplyText h n line None text × IsLeftOpen g n is_open
 
--- so, or there was no memory for it; it is counted in each case
-abbrev pub IsAsked : ℕ → List ℕ → SharedRoom → SharedRoom → List ℕ → Asked → Type 0
-IsAsked n line old new text asked.Open =
-    IsAnswered n line old.room new.room text true × CountsTurn (kind.Asked n line) old new
-IsAsked n line old new text asked.Over =
-    IsAnswered n line old.room new.room text false × CountsTurn (kind.Asked n line) old new
-IsAsked n line old new text asked.Refused =
-    (new.room ≡ old.room) × (text ≡ reply_text None (reply.Refused fault.OutOfMemory))
-    × CountsTurn (kind.Refused n line) old new
+-- So it was, by a session that was lent or not; the room has lent it again, if it could be. Or there was no memory for the
+-- line: in the room it is counted, and a lent session stays as it is.
+abbrev pub IsAsked : ℕ → List ℕ → Option Client → Option Client → SharedRoom → SharedRoom → List ℕ → Asked → Type 0
+IsAsked n line lent now old new text asked.Open =
+    IsAnswered n line (with_lent old.room n lent) new.room text true
+    × CountsTurn (with_lent old.room n lent) (kind.Asked n [] line) old new × IsLentBy new.room n now
+IsAsked n line lent now old new text asked.Over =
+    IsAnswered n line (with_lent old.room n lent) new.room text false
+    × CountsTurn (with_lent old.room n lent) (kind.Asked n [] line) old new × (now ≡ None)
+IsAsked n line lent now old new text asked.Refused =
+    (new.room ≡ old.room) × (text ≡ memory_text) × CountsTurn old.room (kind.Refused n line) old new × (lent ≡ None) × (now ≡ None)
+IsAsked n line lent now old new text asked.Kept = (new ≡ old) × (text ≡ memory_text) × (now ≡ lent) × ((c : Client) × (lent ≡ Some c))

@@ -5,6 +5,7 @@ mod counts;
 mod ending;
 mod host;
 mod link;
+mod seat;
 mod shared;
 #[cfg(test)]
 mod tests;

@@ -4,14 +4,15 @@ ghost use Rattle.std.specs.Io.KnownBytes.{Appends};
 ghost use Rattle.ifdb_io.specs.Causes.{HasCause, Rose, WritesShort};
 ghost use Rattle.ifdb_turn.specs.Passes.{history, places, BelongsTo, IsOrderly};
 ghost use Rattle.ifdb_wire.specs.Text.{reply_text};
-ghost use Rattle.ifdb_history.specs.History.{after, Holds, IsRight, IsShut};
-ghost use Rattle.ifdb_history.specs.Lines.{lines_of, texts_of};
+ghost use Rattle.ifdb_history.specs.History.{IsRight};
 ghost use Rattle.ifdb_db.specs.Reading.{read_line};
-ghost use Rattle.ifdb_session.specs.Passes.{Sees, Adds};
+ghost use Rattle.ifdb_session.specs.Passes.{Sees, Adds, Asks};
+ghost use Rattle.ifdb_session.specs.Seats.{lines_in, texts_in, IsSeated};
 ghost use Rattle.ifdb_session.specs.Links.{Served, Span};
 ghost use Rattle.ifdb_session.specs.Talk.{IsTalked};
 
-use crate::turns::{ask, leave, open};
+use crate::seat::Seat;
+use crate::turns::{ask_in_turn, leave, open};
 use crate::{Ending, SharedRoom};
 use ifdb_io::{Failed, Line, LineFault, LineReader, Link, write_all};
 use ifdb_turn::{Pass, Turnstile};
@@ -34,8 +35,9 @@ struct Talked {
 }
 
 /// Serves a connection: opens a session, asks each line that comes and writes its reply, up to BYE, the end of the input, a
-/// failure, a line that is too long, or one byte more than the limit. A session that is open then leaves, and its
-/// transaction is dropped. A reader of 128 KiB and a buffer are taken before anything is read, and each line takes what its
+/// failure, a line that is too long, or one byte more than the limit. Between BEGIN and the line that ends the transaction
+/// its session is lent, and a line takes no turn, where there is memory for that. A session that is open at the end leaves,
+/// and its transaction is dropped. A reader of 128 KiB and a buffer are taken before anything is read, and each line takes what its
 /// request does.
 ///
 /// `LinkRead` and `LinkWrite` come only where the link's own count of such failures rose.
@@ -71,11 +73,12 @@ pub fn serve_link<R: Wait, K: Link>(
     let Ok(n) = open(rt, hall, pass) else {
         return Ending::OutOfMemory;
     };
-    let talked = talk(rt, hall, pass, n, &mut reader, &mut out, link);
+    let mut seat = Seat::new(alloc, n);
+    let talked = talk(rt, hall, pass, &mut seat, &mut reader, &mut out, link);
     if !talked.is_open {
         return talked.ending;
     }
-    leave(rt, hall, pass, n);
+    leave(rt, hall, pass, seat);
     talked.ending
 }
 
@@ -84,16 +87,16 @@ fn talk<R: Wait, K: Link>(
     rt: &R,
     hall: &Turnstile<SharedRoom>,
     pass: &mut Pass<SharedRoom>,
-    n: u64,
+    seat: &mut Seat,
     reader: &mut LineReader,
     out: &mut Out,
     link: &mut K,
 ) -> Talked
     requires pass { BelongsTo hall.now pass.old }
     requires orderly { IsOrderly (IsRight read_line) pass.old }
-    requires session { Holds read_line (history pass.old) (places pass.old) n }
-    requires no_lines { lines_of n (history pass.old) ≡ [] }
-    requires no_texts { texts_of read_line n (history pass.old) ≡ [] }
+    requires seated { IsSeated (history pass.old) (places pass.old) seat.old }
+    requires no_lines { lines_in (history pass.old) seat.old ≡ [] }
+    requires no_texts { texts_in (history pass.old) seat.old ≡ [] }
     requires reader { reader.old ≡ record {
       text = [];
       held = [];
@@ -103,8 +106,9 @@ fn talk<R: Wait, K: Link>(
       over = false;
     } }
     ensures sees { Sees hall.now pass.old pass.new }
-    ensures adds { Adds n pass.old pass.new }
-    ensures talked { IsTalked n (history pass.new) (places pass.new) reader.old.limit (record {
+    ensures adds { Adds seat.old.number pass.old pass.new }
+    ensures number { seat.new.number ≡ seat.old.number }
+    ensures talked { IsTalked (history pass.new) (places pass.new) seat.new reader.old.limit (record {
       left = K.left link.old;
       left_now = K.left link.new;
       written = K.written link.old;
@@ -118,7 +122,7 @@ fn talk<R: Wait, K: Link>(
     loop {
         match reader.next(link) {
             Ok(Line::Whole) => {
-                let answered = answer(rt, hall, pass, n, reader.text(), out, link);
+                let answered = answer(rt, hall, pass, seat, reader, out, link);
                 let is_open = answered.is_open;
                 if !answered.is_written {
                     return Talked {
@@ -165,24 +169,20 @@ fn talk<R: Wait, K: Link>(
     }
 }
 
-// Asks a line in a turn of its own, and writes the reply after it.
+// Asks the line that was read, and writes the reply.
 fn answer<R: Wait, K: Link>(
     rt: &R,
     hall: &Turnstile<SharedRoom>,
     pass: &mut Pass<SharedRoom>,
-    n: u64,
-    line: &[u8],
+    seat: &mut Seat,
+    reader: &LineReader,
     out: &mut Out,
     link: &mut K,
 ) -> Answered
     requires pass { BelongsTo hall.now pass.old }
-    requires session { Holds read_line (history pass.old) (places pass.old) n }
-    ensures sees { Sees hall.now pass.old pass.new }
-    ensures adds { Adds n pass.old pass.new }
-    ensures session { result.is_open ≡ true → Holds read_line (history pass.new) (places pass.new) n }
-    ensures over { result.is_open ≡ false → IsShut (after read_line (history pass.new)) n }
-    ensures lines { lines_of n (history pass.new) ≡ lines_of n (history pass.old) ++ line.now ∷ [] }
-    ensures texts { texts_of read_line n (history pass.new) ≡ texts_of read_line n (history pass.old) ++ out.new.text }
+    requires orderly { IsOrderly (IsRight read_line) pass.old }
+    requires seated { IsSeated (history pass.old) (places pass.old) seat.old }
+    ensures asks { Asks hall.now reader.now.text out.new.text pass.old pass.new seat.old seat.new result.is_open }
     ensures written { result.is_written ≡ true → Appends (K.written link.old) (K.written link.new) out.new.text }
     ensures unwritten { result.is_written ≡ false → WritesShort (K.written link.old) (K.written link.new) out.new.text }
     ensures cause { result.is_written ≡ false → Rose (K.Sink.faults link.old) (K.Sink.faults link.new) }
@@ -190,12 +190,32 @@ fn answer<R: Wait, K: Link>(
     ensures left { K.left link.new ≡ K.left link.old }
     ensures reads { K.Source.faults link.new ≡ K.Source.faults link.old }
 {
-    let is_open = ask(rt, hall, pass, n, line, out);
+    let is_open = ask(rt, hall, pass, seat, reader, out);
     let is_written = write_all(link, out.bytes()).is_ok();
     Answered {
         is_open,
         is_written,
     }
+}
+
+// Asks the line that was read: of a lent session without a turn, where that can answer it, else in a turn of its own.
+fn ask<R: Wait>(
+    rt: &R,
+    hall: &Turnstile<SharedRoom>,
+    pass: &mut Pass<SharedRoom>,
+    seat: &mut Seat,
+    reader: &LineReader,
+    out: &mut Out,
+) -> bool
+    requires pass { BelongsTo hall.now pass.old }
+    requires orderly { IsOrderly (IsRight read_line) pass.old }
+    requires seated { IsSeated (history pass.old) (places pass.old) seat.old }
+    ensures { Asks hall.now reader.now.text out.new.text pass.old pass.new seat.old seat.new result }
+{
+    if seat.ask(reader, out) {
+        return true;
+    }
+    ask_in_turn(rt, hall, pass, seat, reader, out)
 }
 
 // Tells a connection that its line is too long.

@@ -1,5 +1,5 @@
 // The room that connections share.
-ghost use Rattle.std.specs.Prelude.{◌≡◌, [], false, List, None, IfOk, OnErr, OnOk, length};
+ghost use Rattle.std.specs.Prelude.{◌≡◌, [], false, List, None, IfOk, IsSome, OnErr, OnOk, length};
 ghost use Rattle.ifdb_wire.specs.Text.{reply_text};
 ghost use Rattle.ifdb_model.specs.Run.{asks, leaves, opens};
 ghost use Rattle.ifdb_db.specs.RoomSteps.{GoesBy, IsReplyTo};
@@ -7,11 +7,11 @@ ghost use Rattle.ifdb_history.specs.declared.entry.Kind.TheVariants.{Opened as O
 ghost use Rattle.ifdb_session.specs.Counts.{counts_of, IsGlance};
 ghost use Rattle.ifdb_session.specs.Endings.{capped};
 ghost use Rattle.ifdb_session.specs.Standing.{StandsForHistory};
-ghost use Rattle.ifdb_session.specs.Turns.{CountsTurn, HasCounted, IsAsked, IsNextNumber};
+ghost use Rattle.ifdb_session.specs.Turns.{CountsTurn, HasCounted, IsAsked, IsNextNumber, MayBeBack, memory_text, with_lent};
 
 use crate::OutOfMemory;
 use crate::counts::{Counts, Glance, counted};
-use ifdb_db::Room;
+use ifdb_db::{ReadLine, Room, Session};
 use ifdb_history::Entry;
 use ifdb_turn::Object;
 use ifdb_wire::{Fault, Out, Reply};
@@ -39,6 +39,8 @@ pub(crate) enum Asked {
     Over,
     /// There was no memory for it.
     Refused,
+    /// There was no memory for it, and its session is lent as before: nothing is counted.
+    Kept,
 }
 
 impl Object for SharedRoom {
@@ -85,7 +87,7 @@ impl SharedRoom {
     pub(crate) fn open(&mut self) -> Result<u64, OutOfMemory>
         ensures opened { IfOk result (λ _. GoesBy self.old.room self.new.room opens) }
         ensures number { IfOk result (IsNextNumber self.old.room) }
-        ensures counted { IfOk result (λ _. CountsTurn OpenedKind self.old self.new) }
+        ensures counted { IfOk result (λ _. CountsTurn self.old.room OpenedKind self.old self.new) }
         ensures err { OnErr result (self.new ≡ self.old) }
     {
         self.room.open_next()?;
@@ -93,67 +95,124 @@ impl SharedRoom {
         Ok(self.room.sessions())
     }
 
-    /// Asks a line for a session; the reply stands in `out`. `Refused` changes only that an entry more is counted, and the
-    /// reply is error 20.
-    pub(crate) fn ask(&mut self, n: u64, line: &[u8], out: &mut Out) -> Asked
-        ensures { IsAsked n line.now self.old self.new out.new.text result }
+    /// Asks a line for a session, which comes back if it was lent; the reply stands in `out`. Then the session is lent, if it is
+    /// in a transaction that has written nothing, and there is memory.
+    ///
+    /// `Refused` and `Kept` change nothing but that `Refused` is counted; the reply is error 20.
+    pub(crate) fn ask(
+        &mut self,
+        n: u64,
+        lent: &mut Option<Session>,
+        line: ReadLine<'_>,
+        out: &mut Out,
+    ) -> Asked
+        requires { MayBeBack self.old.room n lent.old }
+        ensures { IsAsked n line.entry lent.old lent.new self.old self.new out.new.text result }
     {
-        let before = self.glance(n);
-        let Ok(reply) = tell(&mut self.room, n, line, out) else {
-            return self.refuse();
+        let before = self.glance(n, lent);
+        let Ok(reply) = tell(&mut self.room, n, lent, line, out) else {
+            return self.refuse(lent);
         };
-        let after = self.glance(n);
+        let after = self.glance(n, lent);
         self.entries = counted(self.entries, true);
         self.commits = counted(self.commits, before.has_committed(after, &reply));
         self.refused = counted(self.refused, before.has_refused(after, &reply));
-        if self.room.is_open(n) {
-            Asked::Open
-        } else {
-            Asked::Over
+        if !self.room.is_open(n) {
+            return Asked::Over;
         }
+        *lent = self.room.lend(n);
+        Asked::Open
     }
 
-    /// Drops a session without BYE.
-    pub(crate) fn leave(&mut self, n: u64)
-        ensures left { GoesBy self.old.room self.new.room (leaves n) }
-        ensures counted { CountsTurn (LeftKind n) self.old self.new }
+    /// Drops a session without BYE, which comes back if it was lent.
+    pub(crate) fn leave(&mut self, n: u64, lent: Option<Session>)
+        requires { MayBeBack self.old.room n lent }
+        ensures left { GoesBy (with_lent self.old.room n lent) self.new.room (leaves n) }
+        ensures counted { CountsTurn (with_lent self.old.room n lent) (LeftKind n []) self.old self.new }
     {
-        self.room.leave(n);
+        match lent {
+            None => self.room.leave(n),
+            Some(session) => self.room.leave_with(n, session),
+        }
         self.entries = counted(self.entries, true);
     }
 
-    // Counts a line for which there was no memory.
-    fn refuse(&mut self) -> Asked
-        ensures refused { result ≡ Asked.Refused }
+    // There was no memory for a line, which is counted unless the session is lent.
+    fn refuse(&mut self, lent: &Option<Session>) -> Asked
         ensures room { self.new.room ≡ self.old.room }
-        ensures counted { HasCounted self.old self.new false false }
+        ensures refused { lent.now ≡ None → result ≡ Asked.Refused }
+        ensures counted { lent.now ≡ None → HasCounted self.old self.new false false }
+        ensures kept { IsSome lent.now → result ≡ Asked.Kept }
+        ensures same { IsSome lent.now → self.new ≡ self.old }
     {
+        if lent.is_some() {
+            return Asked::Kept;
+        }
         self.entries = counted(self.entries, true);
         Asked::Refused
     }
 
-    // Looks at the log and at a session.
-    fn glance(&self, n: u64) -> Glance
-        ensures { IsGlance self.now.room n result }
+    // Looks at the log, and at a session, which may be lent.
+    fn glance(&self, n: u64, lent: &Option<Session>) -> Glance
+        requires { MayBeBack self.now.room n lent.now }
+        ensures { IsGlance (with_lent self.now.room n lent.now) n result }
     {
+        let in_transaction = match lent {
+            None => self.room.in_transaction(n),
+            Some(session) => session.in_transaction(),
+        };
         Glance {
             entries: self.room.count_entries(),
-            in_transaction: self.room.in_transaction(n),
+            in_transaction,
         }
     }
 }
 
-// Asks a line, and tells the reply on a connection, which is given. Where there is no memory nothing changes, and error 20 is
-// told.
-fn tell(room: &mut Room, n: u64, line: &[u8], out: &mut Out) -> Result<Reply, OutOfMemory>
-    ensures asked { OnOk result (GoesBy room.old room.new (asks n line.now)) }
-    ensures told { IfOk result (IsReplyTo room.old n line.now) }
+// Asks a line, and tells the reply on a connection, which is given. A lent session comes back. Where there is no memory nothing
+// changes, and error 20 is told.
+fn tell(
+    room: &mut Room,
+    n: u64,
+    lent: &mut Option<Session>,
+    line: ReadLine<'_>,
+    out: &mut Out,
+) -> Result<Reply, OutOfMemory>
+    requires { MayBeBack room.old n lent.old }
+    ensures asked { OnOk result (GoesBy (with_lent room.old n lent.old) room.new (asks n line.entry)) }
+    ensures told { IfOk result (IsReplyTo (with_lent room.old n lent.old) n line.entry) }
+    ensures text { IfOk result (λ r. out.new.text ≡ reply_text None r) }
+    ensures back { OnOk result (lent.new ≡ None) }
+    ensures err { OnErr result (room.new ≡ room.old) }
+    ensures kept { OnErr result (lent.new ≡ lent.old) }
+    ensures memory { OnErr result (out.new.text ≡ memory_text) }
+{
+    let Some(session) = lent.take() else {
+        return tell_there(room, n, line, out);
+    };
+    match room.resume(n, session, line, out) {
+        Ok(reply) => Ok(reply),
+        Err(session) => {
+            *lent = Some(session);
+            Err(OutOfMemory)
+        }
+    }
+}
+
+// The same of a session that is in the room.
+fn tell_there(
+    room: &mut Room,
+    n: u64,
+    line: ReadLine<'_>,
+    out: &mut Out,
+) -> Result<Reply, OutOfMemory>
+    ensures asked { OnOk result (GoesBy room.old room.new (asks n line.entry)) }
+    ensures told { IfOk result (IsReplyTo room.old n line.entry) }
     ensures text { IfOk result (λ r. out.new.text ≡ reply_text None r) }
     ensures err { OnErr result (room.new ≡ room.old) }
-    ensures memory { OnErr result (out.new.text ≡ reply_text None (Reply.Refused Fault.OutOfMemory)) }
+    ensures memory { OnErr result (out.new.text ≡ memory_text) }
 {
     out.speak_for(None);
-    let Ok(reply) = room.reply(n, line) else {
+    let Ok(reply) = room.reply_read(n, line) else {
         out.put(&Reply::Refused(Fault::OutOfMemory));
         return Err(OutOfMemory);
     };

@@ -156,7 +156,7 @@ fn counts(of: [u64; 5]) -> Counts {
     }
 }
 
-// Each opening, line and leaving is an entry; a public change is no commit, and a write is one.
+// Each opening, line and leaving outside a transaction is an entry; a public change is no commit, and a write is one.
 #[test]
 fn turns_are_counted(rt: HostRuntime) -> Result<(), Fail> {
     let rows: [(&[&str], [u64; 5]); 7] = [
@@ -188,7 +188,8 @@ fn turns_are_counted(rt: HostRuntime) -> Result<(), Fail> {
 }
 
 // A COMMIT that goes through is a commit, also of no writes, and one that isn't in a transaction isn't a refused COMMIT: that
-// is one whose label doesn't flow to what was written. ROLLBACK and a session that leaves drop what was written.
+// is one whose label doesn't flow to what was written. ROLLBACK and a session that leaves drop what was written. BEGIN is an
+// entry, and the end of a transaction is one with all its lines.
 #[test]
 fn transactions_are_counted(rt: HostRuntime) -> Result<(), Fail> {
     let rows: [(&[&str], [u64; 5]); 5] = [
@@ -196,7 +197,7 @@ fn transactions_are_counted(rt: HostRuntime) -> Result<(), Fail> {
             &[
                 "HELLO admin KEY 'admin'\nCREATE TABLE note (id INT, PRIMARY KEY (id))\nBEGIN\nINSERT INTO note VALUES (7)\nCOMMIT\nBYE\n",
             ],
-            [1, 7, 1, 0, 1],
+            [1, 6, 1, 0, 1],
         ),
         (
             &["HELLO admin KEY 'admin'\nBEGIN\nCOMMIT\nCOMMIT\nBYE\n"],
@@ -206,20 +207,20 @@ fn transactions_are_counted(rt: HostRuntime) -> Result<(), Fail> {
             &[
                 "HELLO admin KEY 'admin'\nCREATE TAG a\nCREATE TABLE note (id INT, PRIMARY KEY (id))\nBEGIN\nINSERT INTO note VALUES (7)\nSET LABEL (a)\nCOMMIT\n",
             ],
-            [1, 9, 0, 1, 0],
+            [1, 7, 0, 1, 0],
         ),
         (
             &[
                 "HELLO admin KEY 'admin'\nCREATE TABLE note (id INT, PRIMARY KEY (id))\nBEGIN\nINSERT INTO note VALUES (7)\nROLLBACK\nBYE\n",
             ],
-            [1, 7, 0, 0, 0],
+            [1, 6, 0, 0, 0],
         ),
         (
             &[
                 "HELLO admin KEY 'admin'\nCREATE TABLE note (id INT, PRIMARY KEY (id))\nINSERT INTO note VALUES (7)\n",
                 "HELLO admin KEY 'admin'\nBEGIN\nDELETE FROM note\n",
             ],
-            [2, 10, 1, 0, 1],
+            [2, 9, 1, 0, 1],
         ),
     ];
     for (inputs, want) in rows {

@@ -3,16 +3,20 @@ ghost use Rattle.std.specs.Prelude.{◌≡◌, ◌++◌, ◌∷◌, [], true, fa
 ghost use Rattle.ifdb_turn.specs.Passes.{history, places, BelongsTo};
 ghost use Rattle.ifdb_turn.specs.Turns.{object_of, pass_of, IsTurn, Adds as AddsEntry};
 ghost use Rattle.ifdb_db.specs.Reading.{read_line};
-ghost use Rattle.ifdb_history.specs.History.{after, entry_of, opening_entry, Holds, IsRight, IsShut};
+ghost use Rattle.ifdb_history.specs.History.{after, entry_of, opening_entry, IsRight, IsShut};
 ghost use Rattle.ifdb_history.specs.Lines.{lines_of, texts_of};
-ghost use Rattle.ifdb_history.specs.declared.entry.Kind.TheVariants.{Asked as AskedKind, Refused as RefusedKind, Left as LeftKind};
+ghost use Rattle.ifdb_history.specs.declared.entry.Kind.TheVariants.{Refused as RefusedKind};
 ghost use Rattle.ifdb_session.specs.Standing.{StandsForHistory, root_of};
 ghost use Rattle.ifdb_session.specs.Ends.{EndsBare, EndsWith};
-ghost use Rattle.ifdb_session.specs.Passes.{Sees, Adds, IsNew};
+ghost use Rattle.ifdb_session.specs.Passes.{Sees, Adds, Asks, IsNew};
+ghost use Rattle.ifdb_session.specs.Seats.{asked_entry, left_entry, lines_in, texts_in, IsSeated};
 
+use crate::seat::Seat;
 use crate::shared::Asked;
 use crate::{OutOfMemory, SharedRoom};
-use ifdb_history::Entry;
+use ifdb_db::ReadLine;
+use ifdb_history::{Entry, GhostList};
+use ifdb_io::LineReader;
 use ifdb_turn::{NamedEntry, Object, Pass, Turn, Turnstile};
 use ifdb_wire::Out;
 use std::marker::Brand;
@@ -38,60 +42,71 @@ pub(crate) fn open<R: Wait>(
     Ok(n)
 }
 
-/// Asks a line of an open session, and says whether it is open still. The reply stands in `out`: where there was no memory
-/// it is error 20, and the history says that the line was refused.
-pub(crate) fn ask<R: Wait>(
+/// Asks the line that a reader has taken, of a session that is open, and says whether it is open still. The line is read
+/// before the turn. A lent session comes back, and its work with it. The reply stands in `out`: where there was no memory it is error 20.
+pub(crate) fn ask_in_turn<R: Wait>(
     rt: &R,
     hall: &Turnstile<SharedRoom>,
     pass: &mut Pass<SharedRoom>,
-    n: u64,
-    line: &[u8],
+    seat: &mut Seat,
+    reader: &LineReader,
     out: &mut Out,
 ) -> bool
     requires pass { BelongsTo hall.now pass.old }
-    requires session { Holds read_line (history pass.old) (places pass.old) n }
-    ensures sees { Sees hall.now pass.old pass.new }
-    ensures adds { Adds n pass.old pass.new }
-    ensures session { result ≡ true → Holds read_line (history pass.new) (places pass.new) n }
-    ensures over { result ≡ false → IsShut (after read_line (history pass.new)) n }
-    ensures lines { lines_of n (history pass.new) ≡ lines_of n (history pass.old) ++ line.now ∷ [] }
-    ensures texts { texts_of read_line n (history pass.new) ≡ texts_of read_line n (history pass.old) ++ out.new.text }
+    requires seated { IsSeated (history pass.old) (places pass.old) seat.old }
+    ensures { Asks hall.now reader.now.text out.new.text pass.old pass.new seat.old seat.new result }
 {
+    let n = seat.number;
+    let line = ReadLine::new(seat.alloc, reader.text());
     let mut turn = hall.enter(rt, pass);
-    match turn.object().ask(n, line, out) {
+    match turn.object().ask(n, &mut seat.lent, line, out) {
         Asked::Open => {
-            done_asked::<Brand>(turn, n, line);
+            done_asked::<Brand>(turn, n, &seat.work, reader.text());
+            seat.work = GhostList::new();
             true
         }
         Asked::Over => {
-            done_asked::<Brand>(turn, n, line);
+            done_asked::<Brand>(turn, n, &seat.work, reader.text());
+            seat.work = GhostList::new();
             false
         }
         Asked::Refused => {
-            done_refused::<Brand>(turn, n, line);
+            done_refused::<Brand>(turn, n, reader.text());
+            true
+        }
+        Asked::Kept => {
+            done_bare(turn);
+            seat.work = seat.work.and(reader, &true);
             true
         }
     }
 }
 
-/// An open session leaves without BYE; its transaction, if one is open, is over. Takes no memory.
+/// The session of a seat leaves without BYE; a lent one comes back, and its transaction, if one is open, is over. Takes no
+/// memory.
 pub(crate) fn leave<R: Wait>(
     rt: &R,
     hall: &Turnstile<SharedRoom>,
     pass: &mut Pass<SharedRoom>,
-    n: u64,
+    seat: Seat,
 )
     requires pass { BelongsTo hall.now pass.old }
-    requires session { Holds read_line (history pass.old) (places pass.old) n }
+    requires seated { IsSeated (history pass.old) (places pass.old) seat }
     ensures sees { Sees hall.now pass.old pass.new }
-    ensures adds { Adds n pass.old pass.new }
-    ensures over { IsShut (after read_line (history pass.new)) n }
-    ensures lines { lines_of n (history pass.new) ≡ lines_of n (history pass.old) }
-    ensures texts { texts_of read_line n (history pass.new) ≡ texts_of read_line n (history pass.old) }
+    ensures adds { Adds seat.number pass.old pass.new }
+    ensures over { IsShut (after read_line (history pass.new)) seat.number }
+    ensures lines { lines_of seat.number (history pass.new) ≡ lines_in (history pass.old) seat }
+    ensures texts { texts_of read_line seat.number (history pass.new) ≡ texts_in (history pass.old) seat }
 {
+    let Seat {
+        number,
+        lent,
+        work,
+        ..
+    } = seat;
     let mut turn = hall.enter(rt, pass);
-    turn.object().leave(n);
-    done_left::<Brand>(turn, n);
+    turn.object().leave(number, lent);
+    done_left::<Brand>(turn, number, &work);
 }
 
 // Ends a turn that adds nothing.
@@ -113,12 +128,17 @@ fn done_opened<N: NamedEntry<Entry>>(turn: Turn<'_, SharedRoom>)
     turn.done::<N>();
 }
 
-// Ends a turn in which a session asked a line.
-fn done_asked<N: NamedEntry<Entry>>(turn: Turn<'_, SharedRoom>, n: u64, line: &[u8])
+// Ends a turn in which a session asked a line, and brought its work along.
+fn done_asked<N: NamedEntry<Entry>>(
+    turn: Turn<'_, SharedRoom>,
+    n: u64,
+    work: &GhostList<LineReader, bool>,
+    line: &[u8],
+)
     requires turn { IsTurn turn }
-    requires entry { let e = entry_of (history (pass_of turn)) n (AskedKind n line.now) in
+    requires entry { let e = asked_entry (history (pass_of turn)) n work.now.items line.now in
         (N.entry ≡ Some e) × AddsEntry StandsForHistory (IsRight read_line) root_of turn e }
-    ensures { EndsWith turn.entry turn.exit.0.now (entry_of (history (pass_of turn.entry)) n (AskedKind n line.now)) }
+    ensures { EndsWith turn.entry turn.exit.0.now (asked_entry (history (pass_of turn.entry)) n work.now.items line.now) }
 {
     turn.done::<N>();
 }
@@ -133,12 +153,16 @@ fn done_refused<N: NamedEntry<Entry>>(turn: Turn<'_, SharedRoom>, n: u64, line: 
     turn.done::<N>();
 }
 
-// Ends a turn in which a session left.
-fn done_left<N: NamedEntry<Entry>>(turn: Turn<'_, SharedRoom>, n: u64)
+// Ends a turn in which a session left, and brought its work along.
+fn done_left<N: NamedEntry<Entry>>(
+    turn: Turn<'_, SharedRoom>,
+    n: u64,
+    work: &GhostList<LineReader, bool>,
+)
     requires turn { IsTurn turn }
-    requires entry { let e = entry_of (history (pass_of turn)) n (LeftKind n) in
+    requires entry { let e = left_entry (history (pass_of turn)) n work.now.items in
         (N.entry ≡ Some e) × AddsEntry StandsForHistory (IsRight read_line) root_of turn e }
-    ensures { EndsWith turn.entry turn.exit.0.now (entry_of (history (pass_of turn.entry)) n (LeftKind n)) }
+    ensures { EndsWith turn.entry turn.exit.0.now (left_entry (history (pass_of turn.entry)) n work.now.items) }
 {
     turn.done::<N>();
 }

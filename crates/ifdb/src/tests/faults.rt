@@ -39,7 +39,7 @@ const CASES: [Case; 5] = [
         write: None,
         door: None,
         replies: [FIRST_REPLIES, SECOND_REPLIES, THIRD_REPLIES],
-        summary: "sessions 3\nentries 15\ncommits 1\nrefused 0\nrows 1\nfaults 1\n",
+        summary: "sessions 3\nentries 14\ncommits 1\nrefused 0\nrows 1\nfaults 1\n",
     },
     // Writing fails within the second reply.
     Case {
@@ -78,7 +78,7 @@ const CASES: [Case; 5] = [
         write: None,
         door: Some(3),
         replies: [FIRST_REPLIES, SECOND_REPLIES, THIRD_REPLIES],
-        summary: "sessions 3\nentries 15\ncommits 1\nrefused 0\nrows 1\nfaults 1\n",
+        summary: "sessions 3\nentries 14\ncommits 1\nrefused 0\nrows 1\nfaults 1\n",
     },
 ];
 

@@ -28,7 +28,7 @@ fn three_links_of_one_door(rt: HostRuntime) -> Result<(), Fail> {
     let mut site = site_of(rt.alloc(), &inputs)?;
     let mut output = output_of(rt.alloc(), &[])?;
     assert_eq!(rt; serve_at(&rt, &mut output, &mut site, 1), ServiceEnd::Done);
-    let want = "LISTENING 7070\nsessions 3\nentries 15\ncommits 1\nrefused 0\nrows 1\nfaults 0\n";
+    let want = "LISTENING 7070\nsessions 3\nentries 14\ncommits 1\nrefused 0\nrows 1\nfaults 0\n";
     assert_eq!(rt; output.bytes(), want.as_bytes());
     for door in site.back() {
         assert_eq!(rt; door.left(), 0);

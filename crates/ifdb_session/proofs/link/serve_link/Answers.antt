@@ -1,4 +1,5 @@
-use Rattle.std.proofs.Common.{rules}
+use Rattle.std.proofs.Common.{rules, ◌∙◌, subst}
+use Rattle.ifdb_session.specs.Passes.{Adds}
 use Rattle.ifdb_session.proofs.Passes.{sees_on, adds_on}
 use Rattle.ifdb_session.proofs.Serving.{served_over, served_left}
 use Rattle.ifdb_session.proofs.link.serve_link.Goals as goal
@@ -9,8 +10,10 @@ returns-then-not-talked-clause-sees g c = sees_on c.args.hall.now _ _ _ c.open.e
 pub returns-then-not-talked-clause-served : goal.returns-then-not-talked-clause-served
 returns-then-not-talked-clause-served g c = λ _.
     let t = c.talk-talked.ensures in
-    served_over c.args.hall.now c.in-Ok-open.n c.args.limit (record { left = g.K.Source.left c.args.link.now; left_now = g.K.Source.left c.talk-talked.new.link; written = g.K.Sink.written c.args.link.now; written_now = g.K.Sink.written c.talk-talked.new.link })
-    c.args.pass.now c.open.new.pass (search rules) c.talk-talked.new.pass c.talk-talked.result t.sees t.adds (search rules) (search rules)
+    let n = c.in-Ok-open.n in
+    let adds = subst (λ m. Adds m c.open.new.pass c.talk-talked.new.pass) c.new-seat.ensures.number t.adds in
+    served_over c.args.hall.now n c.args.limit (record { left = g.K.Source.left c.args.link.now; left_now = g.K.Source.left c.talk-talked.new.link; written = g.K.Sink.written c.args.link.now; written_now = g.K.Sink.written c.talk-talked.new.link })
+    c.args.pass.now c.open.new.pass (search rules) c.talk-talked.new.pass c.talk-talked.new.seat c.talk-talked.result (t.number ∙ c.new-seat.ensures.number) t.sees adds (search rules) (search rules)
 
 pub returns-clause-sees : goal.returns-clause-sees
 returns-clause-sees g c =
@@ -21,6 +24,10 @@ pub returns-clause-served : goal.returns-clause-served
 returns-clause-served g c = λ _.
     let t = c.talk-talked.ensures in
     let l = c.leave.ensures in
-    served_left c.args.hall.now c.in-Ok-open.n c.args.limit (record { left = g.K.Source.left c.args.link.now; left_now = g.K.Source.left c.talk-talked.new.link; written = g.K.Sink.written c.args.link.now; written_now = g.K.Sink.written c.talk-talked.new.link })
-    c.args.pass.now c.open.new.pass (search rules) c.talk-talked.new.pass c.leave.new.pass c.talk-talked.result (search rules)
-    (sees_on c.args.hall.now _ _ _ t.sees l.sees) (adds_on c.in-Ok-open.n _ _ _ t.adds l.adds l.sees.begins) l.over l.lines l.texts
+    let n = c.in-Ok-open.n in
+    let here = t.number ∙ c.new-seat.ensures.number in
+    let first = subst (λ m. Adds m c.open.new.pass c.talk-talked.new.pass) c.new-seat.ensures.number t.adds in
+    let more = subst (λ m. Adds m c.talk-talked.new.pass c.leave.new.pass) here l.adds in
+    served_left c.args.hall.now n c.args.limit (record { left = g.K.Source.left c.args.link.now; left_now = g.K.Source.left c.talk-talked.new.link; written = g.K.Sink.written c.args.link.now; written_now = g.K.Sink.written c.talk-talked.new.link })
+    c.args.pass.now c.open.new.pass (search rules) c.talk-talked.new.pass c.leave.new.pass c.talk-talked.new.seat c.talk-talked.result here (search rules)
+    (sees_on c.args.hall.now _ _ _ t.sees l.sees) (adds_on n _ _ _ first more l.sees.begins) l.over l.lines l.texts

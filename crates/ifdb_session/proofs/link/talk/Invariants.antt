@@ -1,9 +1,8 @@
 use Rattle.std.proofs.Common.{◌≡◌, ◌≤◌}
 use Rattle.ifdb_io.specs.Lines.{budget}
 use Rattle.ifdb_turn.specs.Passes.{history, places}
-use Rattle.ifdb_history.specs.History.{Holds}
-use Rattle.ifdb_db.specs.Reading.{read_line}
 use Rattle.ifdb_session.specs.Passes.{Sees, Adds}
+use Rattle.ifdb_session.specs.Seats.{lines_in, texts_in, IsSeated}
 use Rattle.ifdb_session.specs.Talk.{Talks}
 use Rattle.ifdb_session.proofs.link.talk.Given as goal
 
@@ -11,10 +10,11 @@ use Rattle.ifdb_session.proofs.link.talk.Given as goal
 abbrev pub invariant-loop-pass : goal.invariant-loop-pass
 invariant-loop-pass g l = record {
   sees : Sees l.hall l.fn.pass l.pass;
-  adds : Adds l.n l.fn.pass l.pass;
-  holds : Holds read_line (history l.pass) (places l.pass) l.n;
+  adds : Adds l.fn.seat.number l.fn.pass l.pass;
+  number : l.seat.number ≡ l.fn.seat.number;
+  seated : IsSeated (history l.pass) (places l.pass) l.seat;
   limit : l.reader.limit ≡ l.fn.reader.limit;
-  talks : Talks l.n (history l.pass) l.reader (record {
+  talks : Talks (lines_in (history l.pass) l.seat) (texts_in (history l.pass) l.seat) l.reader (record {
     left = g.K.Source.left l.fn.link;
     left_now = g.K.Source.left l.link;
     written = g.K.Sink.written l.fn.link;

@@ -5,16 +5,25 @@ use Rattle.ifdb_turn.specs.Turns.{pass_of}
 use Rattle.ifdb_history.specs.History.{root_in}
 use Rattle.ifdb_session.specs.declared.shared.SharedRoom.{SharedRoom}
 use Rattle.ifdb_session.specs.Standing.{StandsForHistory}
-use Rattle.ifdb_session.proofs.Turned.{may_leave, ended_sees, ended_left_adds, ended_left_lines, ended_left_texts, ended_left_over}
+use Rattle.ifdb_session.proofs.Turned.{seat_found, may_be_back, may_leave, ended_sees, ended_left_adds, ended_left_lines, ended_left_texts, ended_left_over}
 use Rattle.ifdb_session.proofs.turns.leave.Goals as goal
+
+pub leave-requires : goal.leave-requires
+leave-requires g c =
+    let e = c.enter-turn.ensures in
+    let log = history (pass_of c.enter-turn.result) in
+    let stands = subst (λ (s : SharedRoom). StandsForHistory s log) (sym c.object.ensures.value) e.stands in
+    let found = seat_found (history c.args.pass.now) log (places c.args.pass.now) c.args.seat c.requires.seated e.begins e.orderly.0 e.own in
+    may_be_back log (places c.args.pass.now) c.args.seat found.0 c.object.result.now c.object.result.now stands
 
 pub done_left-requires-clause-entry : goal.done_left-requires-clause-entry
 done_left-requires-clause-entry g c =
     let e = c.enter-turn.ensures in
     let log = history (pass_of c.enter-turn.result) in
     let stands = subst (λ (s : SharedRoom). StandsForHistory s log) (sym c.object.ensures.value) e.stands in
-    let m = may_leave (history c.args.pass.now) log (places c.args.pass.now) c.args.n c.requires.session e.begins e.orderly.0 e.own c.object.result.now c.leave.new.self stands c.leave.ensures.left c.leave.ensures.counted in
-    (refl, (m.0, (m.1, inr (subst (λ l. 0 < times (root_in log c.args.n) l) (sym e.places) m.2))))
+    let found = seat_found (history c.args.pass.now) log (places c.args.pass.now) c.args.seat c.requires.seated e.begins e.orderly.0 e.own in
+    let m = may_leave log (places c.args.pass.now) c.args.seat found.0 c.object.result.now c.leave.new.self stands c.leave.ensures.left c.leave.ensures.counted in
+    (refl, (m.0, (m.1, inr (subst (λ l. 0 < times (root_in log c.args.seat.number) l) (sym e.places) m.2))))
 
 pub returns-clause-sees : goal.returns-clause-sees
 returns-clause-sees g c =
@@ -24,19 +33,19 @@ returns-clause-sees g c =
 pub returns-clause-adds : goal.returns-clause-adds
 returns-clause-adds g c =
     let e = c.enter-turn.ensures in
-    let x = ended_left_adds c.args.hall.now c.args.pass.now _ _ _ c.done_left.ensures e.turnstile e.begins e.places e.shares c.args.n c.requires.session e.orderly.0 e.own refl in search rules
+    let x = ended_left_adds c.args.hall.now c.args.pass.now _ _ _ c.done_left.ensures e.turnstile e.begins e.places e.shares c.args.seat c.requires.seated e.orderly.0 e.own refl in search rules
 
 pub returns-clause-over : goal.returns-clause-over
 returns-clause-over g c =
     let e = c.enter-turn.ensures in
-    let x = ended_left_over c.args.hall.now c.args.pass.now _ _ _ c.done_left.ensures e.turnstile e.begins e.places e.shares c.args.n c.requires.session e.orderly.0 e.own refl in search rules
+    let x = ended_left_over c.args.hall.now c.args.pass.now _ _ _ c.done_left.ensures e.turnstile e.begins e.places e.shares c.args.seat c.requires.seated e.orderly.0 e.own refl in search rules
 
 pub returns-clause-lines : goal.returns-clause-lines
 returns-clause-lines g c =
     let e = c.enter-turn.ensures in
-    let x = ended_left_lines c.args.hall.now c.args.pass.now _ _ _ c.done_left.ensures e.turnstile e.begins e.places e.shares c.args.n c.requires.session e.orderly.0 e.own refl in search rules
+    let x = ended_left_lines c.args.hall.now c.args.pass.now _ _ _ c.done_left.ensures e.turnstile e.begins e.places e.shares c.args.seat c.requires.seated e.orderly.0 e.own refl in search rules
 
 pub returns-clause-texts : goal.returns-clause-texts
 returns-clause-texts g c =
     let e = c.enter-turn.ensures in
-    let x = ended_left_texts c.args.hall.now c.args.pass.now _ _ _ c.done_left.ensures e.turnstile e.begins e.places e.shares c.args.n c.requires.session e.orderly.0 e.own refl in search rules
+    let x = ended_left_texts c.args.hall.now c.args.pass.now _ _ _ c.done_left.ensures e.turnstile e.begins e.places e.shares c.args.seat c.requires.seated e.orderly.0 e.own refl in search rules

@@ -14,7 +14,7 @@ use Rattle.ifdb_db.proofs.room.Room.answer_open.Goals as goal
 pub invariant_of-self-2 : goal.invariant_of-self-2
 invariant_of-self-2 c =
     let client = c.index_mut.result.now in
-    let others = all_kept_moved c.self.inside.db c.ask.new.self (session_at client) (answered c.self.inside.db client (read_line c.args.line.now)) c.self.inside.sessions.items
+    let others = all_kept_moved c.self.inside.db c.ask.new.self (session_at client) (answered c.self.inside.db client (read_line c.args.line)) c.self.inside.sessions.items
     c.in_ok-reply.ensures.answered.desk c.self.invariant in
     all_set (IsKept c.ask.new.self.seen.public) c.self.inside.sessions.items (c.args.n - 1) c.ask.new.session c.ask.ensures.kept others
 
@@ -27,5 +27,5 @@ returns c =
     let at = there.at in
     let within = there.there in
     let is : c.index_mut.result.now ≡ client_in h c.args.n = grind (arith, common_steps) in
-    subst (λ (z : Hall). IsAsked c.args.n c.args.line.now z g c.in_ok-reply.reply) c.self.view_is
-    (asked_open h g c.args.n c.args.line.now c.index_mut.result.now c.ask.new.session c.in_ok-reply.reply is_open is c.in_ok-reply.ensures.answered c.in_ok-reply.ensures.still refl)
+    subst (λ (z : Hall). IsAsked c.args.n c.args.line z g c.in_ok-reply.reply) c.self.view_is
+    (asked_open h g c.args.n c.args.line c.index_mut.result.now c.ask.new.session c.in_ok-reply.reply is_open is c.in_ok-reply.ensures.answered c.in_ok-reply.ensures.still refl)

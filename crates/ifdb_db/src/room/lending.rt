@@ -1,0 +1,78 @@
+// Sessions that a room lends, and takes back.
+ghost use Rattle.std.specs.Prelude.{◌≡◌, None, IfErr, IfOk, IfSome, IsTrue, OnErr, OnOk};
+ghost use Rattle.ifdb_wire.specs.Text.{reply_text};
+ghost use Rattle.ifdb_model.specs.Run.{asks, leaves};
+ghost use Rattle.ifdb_db.specs.Kept.{IsKept};
+ghost use Rattle.ifdb_db.specs.Lent.{IsLent, MayComeBack, with_client};
+ghost use Rattle.ifdb_db.specs.Room.{client_in};
+ghost use Rattle.ifdb_db.specs.RoomSteps.{GoesBy, IsReplyTo};
+
+use super::{Room, say};
+use crate::reading::ReadLine;
+use crate::session::Session;
+use ifdb_wire::{Fault, Out, Reply};
+use std::mem;
+
+impl Room {
+    /// Lends an open session whose transaction has written nothing: a copy, which shares what all saw at the BEGIN, answers
+    /// its lines by itself. `None` where there is no such transaction, or no memory for the copy.
+    pub fn lend(&self, n: u64) -> Option<Session>
+        ensures copy { IfSome result (λ session. session ≡ client_in self.now n) }
+        ensures lent { IfSome result (λ session. IsLent session) }
+    {
+        self.is_sound();
+        if !self.is_open(n) {
+            return None;
+        }
+        self.sessions[(n - 1) as usize].lend()
+    }
+
+    /// Takes a lent session back, asks a line for it, and tells the reply on a connection. `Err` is want of memory, which
+    /// changes nothing and gives the session back.
+    pub fn resume(
+        &mut self,
+        n: u64,
+        session: Session,
+        line: ReadLine<'_>,
+        out: &mut Out,
+    ) -> Result<Reply, Session>
+        requires { MayComeBack self.old n session }
+        ensures asked { OnOk result (GoesBy (with_client self.old n session) self.new (asks n line.entry)) }
+        ensures told { IfOk result (IsReplyTo (with_client self.old n session) n line.entry) }
+        ensures text { IfOk result (λ r. out.new.text ≡ reply_text None r) }
+        ensures err { OnErr result (self.new ≡ self.old) }
+        ensures back { IfErr result (λ back. back ≡ session) }
+        ensures memory { OnErr result (out.new.text ≡ reply_text None (Reply.Refused Fault.OutOfMemory)) }
+    {
+        self.is_sound();
+        let begun = self.put(n, session);
+        let Ok(reply) = self.reply_read(n, line) else {
+            say(out, None, &Reply::Refused(Fault::OutOfMemory));
+            return Err(self.put(n, begun));
+        };
+        if !say(out, None, &reply) {
+            return Err(self.put(n, begun));
+        }
+        Ok(reply)
+    }
+
+    /// Takes a lent session back, which leaves without BYE. Takes no memory.
+    pub fn leave_with(&mut self, n: u64, session: Session)
+        requires { MayComeBack self.old n session }
+        ensures { GoesBy (with_client self.old n session) self.new (leaves n) }
+    {
+        self.is_sound();
+        self.put(n, session);
+        self.leave(n);
+    }
+
+    /// Puts a session in the place of an open one, which is given.
+    fn put(&mut self, n: u64, session: Session) -> Session
+        requires open { IsTrue (client_in self.old n).is_open }
+        requires kept { IsKept self.old.desk.seen.public session }
+        ensures put { self.new ≡ with_client self.old n session }
+        ensures before { result ≡ client_in self.old n }
+    {
+        mem::replace(&mut self.sessions[(n - 1) as usize], session)
+    }
+}

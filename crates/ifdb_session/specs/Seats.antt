@@ -1,0 +1,110 @@
+-- A session as its connection has it: in the room, or lent; then with the work of its transaction, which no turn has brought
+-- along yet.
+use Rattle.std.specs.Prelude.{◌≡◌, ℕ, Bool, true, false, List, [], ◌∷◌, ◌++◌, map, Option, Some, None}
+use Rattle.ifdb_io.specs.Lines.{Reading}
+use Rattle.ifdb_wire.specs.declared.reply.Reply.{Reply}
+use Rattle.ifdb_wire.specs.Text.{reply_text}
+use Rattle.ifdb_model.specs.Run.{session_of}
+use Rattle.ifdb_history.specs.declared.entry.Entry.{Entry}
+use Rattle.ifdb_history.specs.declared.entry.Kind.TheVariants as kind
+use Rattle.ifdb_history.specs.declared.entry.Note.{Note}
+use Rattle.ifdb_history.specs.History.{after, entry_of, Holds, IsShut}
+use Rattle.ifdb_history.specs.Lines.{lines_with, texts_with}
+use Rattle.ifdb_db.specs.Client.{Client, session_at}
+use Rattle.ifdb_db.specs.Lent.{IsLent, Answers}
+use Rattle.ifdb_db.specs.Reading.{read_line}
+use Rattle.ifdb_db.specs.Room.{IsOver}
+use Rattle.ifdb_session.specs.Turns.{memory_text}
+use Rattle.ifdb_session.specs.declared.seat.Seat.{Seat}
+
+-- what a reader had read, and whether it was refused
+abbrev pub note_of : Reading × Bool → Note
+note_of x = record { line = x.0.text; is_refused = x.1 }
+
+abbrev pub notes : List (Reading × Bool) → List Note
+notes items = map note_of items
+
+-- the work of a seat
+abbrev pub work_of : Seat → List Note
+work_of s = notes s.work.items
+
+-- the lines that its session asked, in a history and since then
+abbrev pub lines_in : List Entry → Seat → List (List ℕ)
+lines_in h s = lines_with s.number h (work_of s)
+
+-- and the bytes that it was told
+abbrev pub texts_in : List Entry → Seat → List ℕ
+texts_in h s = texts_with read_line s.number h (work_of s)
+
+-- ---- the entries of a turn that brings work along
+
+-- a line is asked behind it
+abbrev pub asked_entry : List Entry → ℕ → List (Reading × Bool) → List ℕ → Entry
+asked_entry h n items line = entry_of h n (kind.Asked n (notes items) line)
+
+-- the session leaves behind it
+abbrev pub left_entry : List Entry → ℕ → List (Reading × Bool) → Entry
+left_entry h n items = entry_of h n (kind.Left n (notes items))
+
+-- ---- what a lent session did
+
+-- by a line it came from c to e, and was told this text; there was no memory, or it answered from itself alone
+abbrev pub IsToldAs : Bool → List ℕ → Client → Client → List ℕ → Type 0
+IsToldAs true line c e text = (e ≡ c) × (text ≡ memory_text)
+IsToldAs false line c e text = (r : Reply) × Answers line c e r × (text ≡ reply_text None r)
+
+-- by this work it came from c to e
+abbrev pub IsWorked : List Note → Client → Client → Type 0
+IsWorked [] c e = e ≡ c
+IsWorked (w ∷ work) c e = (d : Client) × (text : List ℕ) × IsToldAs w.is_refused w.line c d text × IsWorked work d e
+
+-- a session was lent as the history leaves it, and came to c by this work
+pub record Works (h : List Entry) (n : ℕ) (work : List Note) (c : Client) : Type 0 where
+  pub begun : Client
+  pub session : session_of (after read_line h) n ≡ session_at begun
+  pub over : IsOver (after read_line h).log begun.txn
+  pub lent : IsLent begun
+  pub worked : IsWorked work begun c
+
+-- so it is with a session that is lent; one in the room has no work
+abbrev pub WorksIf : List Entry → ℕ → List Note → Option Client → Type 0
+WorksIf h n work None = work ≡ []
+WorksIf h n work (Some c) = Works h n work c
+
+-- the session of a seat is open, and its seat is as the history and its work say
+pub record IsSeated (h : List Entry) (own : List ℕ) (s : Seat) : Type 0 where
+  pub holds : Holds read_line h own s.number
+  pub works : WorksIf h s.number (work_of s) s.lent
+
+-- it is over, and no work is left
+pub record IsGone (h : List Entry) (s : Seat) : Type 0 where
+  pub shut : IsShut (after read_line h) s.number
+  pub none : work_of s ≡ []
+
+-- ---- a line that is asked of a seat alone
+
+-- a session that is lent is open and in its transaction
+abbrev pub IsLentIf : Option Client → Type 0
+IsLentIf None = Unit {0}
+IsLentIf (Some c) = IsLent c
+
+-- it was asked a line so, if it can answer it alone
+abbrev pub IsAskedOf : List ℕ → Client → Client → List ℕ → Option Bool → Type 0
+IsAskedOf line c e text None = e ≡ c
+IsAskedOf line c e text (Some is_refused) = IsToldAs is_refused line c e text
+
+-- the lent session was asked the line, and was told this
+pub record Notes (line : List ℕ) (old new : Seat) (text : List ℕ) : Type 0 where
+  pub before : Client
+  pub now : Client
+  pub is_refused : Bool
+  pub was : old.lent ≡ Some before
+  pub is : new.lent ≡ Some now
+  pub told : IsToldAs is_refused line before now text
+  pub number : new.number ≡ old.number
+  pub work : work_of new ≡ work_of old ++ record { line = line; is_refused = is_refused } ∷ []
+
+-- so it was; or it is for the room, and nothing has changed
+abbrev pub IsAskedAlone : List ℕ → Seat → Seat → List ℕ → Bool → Type 0
+IsAskedAlone line old new text true = Notes line old new text
+IsAskedAlone line old new text false = new ≡ old

@@ -1,0 +1,84 @@
+// A session as its connection has it.
+ghost use Rattle.std.specs.Prelude.{◌≡◌, [], true, false, None};
+ghost use Rattle.ifdb_wire.specs.Text.{reply_text, IsUnbounded};
+ghost use Rattle.ifdb_db.specs.Lent.{IsLent};
+ghost use Rattle.ifdb_session.specs.Seats.{IsAskedAlone, IsAskedOf, IsLentIf};
+ghost use Rattle.ifdb_session.specs.Turns.{memory_text};
+
+use ifdb_db::Session;
+use ifdb_history::GhostList;
+use ifdb_io::LineReader;
+use ifdb_wire::{Fault, Out, Reply};
+use std::alloc::Global;
+
+/// A session as its connection has it: in the room, or lent while its transaction goes on. Then lines take no turn, and contracts
+/// know what was asked since.
+#[derive(Drop)]
+pub(crate) struct Seat {
+    /// What lines are read with.
+    pub(crate) alloc: Global,
+    /// The session's number.
+    pub(crate) number: u64,
+    /// The session, if the room has lent it.
+    pub(crate) lent: Option<Session>,
+    /// The lines that it was asked since, each with the reader that had read it, and whether there was no memory for it.
+    pub(crate) work: GhostList<LineReader, bool>,
+}
+
+impl Seat {
+    /// The seat of a session that is in the room, whose lines take their memory from `alloc`.
+    pub(crate) fn new(alloc: Global, number: u64) -> Seat
+        ensures number { result.number ≡ number }
+        ensures lent { result.lent ≡ None }
+        ensures work { result.work.items ≡ [] }
+    {
+        Seat {
+            alloc,
+            number,
+            lent: None,
+            work: GhostList::new(),
+        }
+    }
+
+    /// Asks a line of a lent session, without the room; the reply stands in `out`. False where the room is to be asked: the
+    /// session isn't lent, or the line ends its transaction.
+    pub(crate) fn ask(&mut self, reader: &LineReader, out: &mut Out) -> bool
+        requires lent { IsLentIf self.old.lent }
+        ensures { IsAskedAlone reader.now.text self.old self.new out.new.text result }
+    {
+        let Some(session) = &mut self.lent else {
+            return false;
+        };
+        let Some(is_refused) = ask_lent(session, reader.text(), out) else {
+            return false;
+        };
+        self.work = self.work.and(reader, &is_refused);
+        true
+    }
+}
+
+// Asks a line of a lent session, and says whether there was no memory for it; `None` where the room is to be asked.
+fn ask_lent(session: &mut Session, line: &[u8], out: &mut Out) -> Option<bool>
+    requires lent { IsLent session.old }
+    ensures { IsAskedOf line.now session.old session.new out.new.text result }
+{
+    let Ok(answer) = session.ask(line) else {
+        tell(out, &Reply::Refused(Fault::OutOfMemory));
+        return Some(true);
+    };
+    let Some(reply) = answer else {
+        return None;
+    };
+    let is_told = tell(out, &reply);
+    Some(!is_told)
+}
+
+// Tells a reply on a connection. False is want of memory, which is told in its place.
+fn tell(out: &mut Out, reply: &Reply) -> bool
+    ensures told { result ≡ true → out.new.text ≡ reply_text None reply.now }
+    ensures memory { result ≡ false → out.new.text ≡ memory_text }
+    ensures unbounded { result ≡ false → IsUnbounded reply.now }
+{
+    out.speak_for(None);
+    out.put(reply)
+}
