@@ -10,3 +10,6 @@ mod writes;
 
 pub use binding::bind;
 pub use ifdb_catalog::OutOfMemory;
+
+#[cfg(test)]
+mod tests;

@@ -1,4 +1,4 @@
-// What a SELECT asks of rows, tested before it is asked.
+//! What a SELECT asks of rows, tested before it is asked.
 ghost use Rattle.std.specs.Prelude.{◌≡◌, length};
 ghost use Rattle.ifdb_label.specs.Tags.{are_made};
 ghost use Rattle.ifdb_row.specs.Seen.{are_rows_made};
@@ -19,12 +19,13 @@ pub(crate) fn are_rows_made(tags: &Tags, rows: &[Shared<Row>]) -> bool
 }
 
 /// Whether tags are made.
-pub(crate) fn are_made(tags: &Tags, list: &[Tag]) -> bool
+fn are_made(tags: &Tags, list: &[Tag]) -> bool
     ensures { result ≡ are_made (length tags.now) list.now }
 {
     list.iter().all(|tag| tag.0 < tags.count())
 }
 
+/// Whether a table has its key where its source says.
 fn is_given_keyed(rows: &[Shared<Row>], given: &Given<'_>) -> bool
     ensures { result ≡ is_given_keyed rows.now given.now }
 {

@@ -1,11 +1,11 @@
 //! What DELETEs write, also of rows that nothing matches.
-use super::At::{High, Low};
-use super::Comes::{Refused, Writes};
-use super::Does::Delete;
-use super::Where::{All, Id, NumberAbove};
-use super::Which::{Note, Visit};
-use super::Wrote::Gone;
-use super::{Case, all_come};
+use super::comparisons::Comes::{Refused, Writes};
+use super::comparisons::Wrote::Gone;
+use super::comparisons::{Case, all_come};
+use super::rows::At::{High, Low};
+use super::rows::Which::{Note, Visit};
+use super::statements::Does::Delete;
+use super::statements::Where::{All, Id, NumberAbove};
 use ifdb_wire::Fault;
 use std::test::Fail;
 

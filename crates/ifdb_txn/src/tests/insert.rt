@@ -1,17 +1,31 @@
 //! What INSERTs write.
-use super::At::{High, Low};
-use super::Comes::{Refused, Writes};
-use super::Does::Insert;
-use super::Which::{Note, Visit};
-use super::Wrote::{Child, Row};
-use super::{Case, all_come, came_of, one_tag};
+use super::comparisons::Comes::{Refused, Writes};
+use super::comparisons::Wrote::Row;
+use super::comparisons::{Case, all_come};
+use super::rows::At::{High, Low};
+use super::rows::Which::{Note, Pair, Visit};
+use super::rows::one_tag;
+use super::statements::Does::Insert;
+use super::statements::came_of;
 use ifdb_wire::Fault;
 use std::test::Fail;
 
-static CASES: [Case; 14] = [
+static CASES: [Case; 17] = [
     // New keys: what a label sees decides, the statement's own rows too.
-    Case(Note, Low, Low, Insert(&[(5, 50)]), Writes(1, &[Row(5, 50)])),
-    Case(Note, Low, Low, Insert(&[(9, 90)]), Writes(1, &[Row(9, 90)])),
+    Case(
+        Note,
+        Low,
+        Low,
+        Insert(&[(5, 50)]),
+        Writes(1, &[Row(5, 50, &[])]),
+    ),
+    Case(
+        Note,
+        Low,
+        Low,
+        Insert(&[(9, 90)]),
+        Writes(1, &[Row(9, 90, &[])]),
+    ),
     Case(
         Note,
         High,
@@ -31,7 +45,7 @@ static CASES: [Case; 14] = [
         Low,
         Low,
         Insert(&[(6, 1), (5, 2)]),
-        Writes(2, &[Row(5, 2), Row(6, 1)]),
+        Writes(2, &[Row(5, 2, &[]), Row(6, 1, &[])]),
     ),
     Case(
         Note,
@@ -47,21 +61,21 @@ static CASES: [Case; 14] = [
         Low,
         Low,
         Insert(&[(20, 2)]),
-        Writes(1, &[Child(20, 2, Low)]),
+        Writes(1, &[Row(20, 2, &[Low])]),
     ),
     Case(
         Visit,
         High,
         Low,
         Insert(&[(20, 1)]),
-        Writes(1, &[Child(20, 1, High)]),
+        Writes(1, &[Row(20, 1, &[High])]),
     ),
     Case(
         Visit,
         High,
         High,
         Insert(&[(20, 1)]),
-        Writes(1, &[Child(20, 1, Low)]),
+        Writes(1, &[Row(20, 1, &[Low])]),
     ),
     Case(
         Visit,
@@ -90,6 +104,28 @@ static CASES: [Case; 14] = [
         Low,
         Insert(&[(10, 6), (20, 6)]),
         Refused(Fault::DuplicateKey),
+    ),
+    // Of two parents each is found by itself, at one label or at two.
+    Case(
+        Pair,
+        Low,
+        Low,
+        Insert(&[(10, 1)]),
+        Writes(1, &[Row(10, 1, &[Low, Low])]),
+    ),
+    Case(
+        Pair,
+        High,
+        High,
+        Insert(&[(11, 1)]),
+        Writes(1, &[Row(11, 1, &[Low, High])]),
+    ),
+    Case(
+        Pair,
+        High,
+        Low,
+        Insert(&[(12, 1)]),
+        Refused(Fault::NoReference),
     ),
 ];
 

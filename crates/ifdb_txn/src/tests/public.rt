@@ -6,7 +6,8 @@ ghost use Rattle.ifdb_catalog.specs.Public.{table_at};
 ghost use Rattle.ifdb_catalog.specs.Scope.{kinds_of};
 ghost use Rattle.ifdb_catalog.specs.Statements.{values_fit};
 
-use super::{are_of_kinds, note_of, values_of};
+use super::rows::values_of;
+use super::tables::{are_of_kinds, note_of};
 use crate::statement::{Writer, writes_of};
 use crate::written::Written;
 use ifdb_bound::{Bound, Change};

@@ -1,5 +1,5 @@
 use Rattle.std.proofs.Common.{length}
-use Rattle.ifdb_txn.proofs.tests.+are_of_kinds.Given as goal
+use Rattle.ifdb_txn.proofs.tests.tables.+are_of_kinds.Given as goal
 
 abbrev pub decreases-are_of_kinds : goal.decreases-are_of_kinds
 decreases-are_of_kinds l = length l.columns.now
