@@ -6,6 +6,7 @@ mod Inside
 mod Keeping
 mod Landing
 pub mod Lending
+pub mod Looking
 mod Narrow
 mod Publishing
 pub mod RoomLaws

@@ -6,7 +6,7 @@ use Rattle.ifdb_parse.specs.declared.fault.ParseFault.TheVariants as read
 use Rattle.ifdb_parse.specs.Parsed.{parsed}
 use Rattle.ifdb_wire.specs.declared.fault.Fault.{Fault}
 use Rattle.ifdb_wire.specs.declared.fault.Fault.TheVariants as fault
-use Rattle.ifdb_model.specs.Step.{Reader}
+use Rattle.ifdb_model.specs.Step.{Reader, form_of, looks}
 use Rattle.ifdb_snapshot.specs.Narrow.{is_narrow}
 
 -- the refusal of a line with a fault
@@ -28,3 +28,7 @@ read_line line = request_or_fault (parsed line)
 abbrev pub IsRead : List ℕ → Result Request Fault → Type 0
 IsRead line (Ok r) = (read_line line ≡ Ok r) × IsTrue (is_narrow r)
 IsRead line (Err f) = (f ≡ fault.OutOfMemory) ⊎ (read_line line ≡ Err f)
+
+-- a line was read as this request, which is a SELECT
+abbrev pub IsReadAsSelect : List ℕ → Request → Type 0
+IsReadAsSelect line r = (read_line line ≡ Ok r) × IsTrue (is_narrow r) × (form_of r ≡ looks)

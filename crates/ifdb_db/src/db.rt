@@ -4,6 +4,7 @@ ghost use Rattle.ifdb_catalog.specs.Public.{opening as first_public, tags_of};
 ghost use Rattle.ifdb_db.specs.Answer.{answered, IsAnswered, IsStill};
 ghost use Rattle.ifdb_db.specs.Desk.{settled};
 ghost use Rattle.ifdb_db.specs.Kept.{IsKept, IsSound};
+ghost use Rattle.ifdb_db.specs.Looks.{client_of_sight};
 ghost use Rattle.ifdb_db.specs.Reading.{read_line};
 
 mod answer;
@@ -13,6 +14,7 @@ mod publish;
 mod write;
 
 use crate::OutOfMemory;
+use crate::look::Sight;
 use crate::reading::ReadLine;
 use crate::session::Session;
 use ifdb_label::Tags;
@@ -92,6 +94,38 @@ impl Db {
     {
         let request = line.into_request()?;
         self.answer(session, request)
+    }
+
+    /// What a session outside a transaction sees, if it said HELLO; `None` too where there is no memory.
+    pub(crate) fn sight(&self, session: &Session) -> Option<Sight>
+        requires open { IsTrue session.now.is_open }
+        requires kept { IsKept self.now.seen.public session.now }
+        ensures client { IfSome result (λ sight. session.now ≡ client_of_sight sight) }
+        ensures seen { IfSome result (λ sight. sight.seen ≡ self.now.seen) }
+    {
+        self.is_sound();
+        let Some(asker) = session.principal else {
+            return None;
+        };
+        if session.in_transaction() {
+            return None;
+        }
+        let Ok(label) = session.label.copy(self.alloc) else {
+            return None;
+        };
+        let Ok(public) = self.public.share() else {
+            return None;
+        };
+        let Ok(rows) = self.store.content().share() else {
+            return None;
+        };
+        Some(Sight {
+            alloc: self.alloc,
+            asker,
+            label,
+            public,
+            rows,
+        })
     }
 
     /// All tags.

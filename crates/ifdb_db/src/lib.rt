@@ -4,13 +4,17 @@
 mod begins;
 mod db;
 mod lent;
+mod look;
 mod looks;
 mod reading;
 mod room;
 mod session;
+#[cfg(test)]
+mod tests;
 mod told;
 mod txn;
 
+pub use look::Look;
 pub use reading::ReadLine;
 pub use room::Room;
 pub use session::Session;

@@ -1,8 +1,10 @@
 // From a line to its request.
-ghost use Rattle.std.specs.Prelude.{◌≡◌, ◌⊎◌, Ok, Err, IfOk, IfErr, IsTrue};
+ghost use Rattle.std.specs.Prelude.{◌≡◌, ◌⊎◌, true, Ok, Err, IfOk, IfErr, IsTrue};
 ghost use Rattle.ifdb_wire.specs.declared.fault.Fault.TheVariants.{OutOfMemory as NoMemory};
 ghost use Rattle.ifdb_snapshot.specs.Narrow.{is_narrow};
-ghost use Rattle.ifdb_db.specs.Reading.{read_line};
+ghost use Rattle.ifdb_model.specs.Step.{form_of, looks};
+ghost use Rattle.ifdb_db.specs.Looks.{IsSelect};
+ghost use Rattle.ifdb_db.specs.Reading.{read_line, IsReadAsSelect};
 
 use ifdb_parse::{ParseFault, parse};
 use ifdb_syntax::Request;
@@ -56,6 +58,27 @@ impl<'a> ReadLine<'a> {
         }
     }
 
+    /// The same line as one that is a SELECT; any other is given back.
+    pub(crate) fn into_select(self) -> Result<SelectLine<'a>, Self>
+        ensures select { IfOk result (λ line. line ≡ self.entry) }
+        ensures other { IfErr result (λ line. line ≡ self.entry) }
+    {
+        let ReadLine { text, found } = self;
+        match found {
+            Ok(request) => match is_select(&request) {
+                true => Ok(SelectLine { text, request }),
+                false => Err(ReadLine {
+                    text,
+                    found: Ok(request),
+                }),
+            },
+            Err(fault) => Err(ReadLine {
+                text,
+                found: Err(fault),
+            }),
+        }
+    }
+
     /// Its request, or the refusal of its fault, or want of memory.
     pub(crate) fn into_request(self) -> Result<Request, Fault>
         ensures request { IfOk result (λ r. read_line self.entry ≡ Ok r) }
@@ -64,5 +87,64 @@ impl<'a> ReadLine<'a> {
     {
         let ReadLine { found, .. } = self;
         found
+    }
+}
+
+// Whether a request is a SELECT.
+fn is_select(request: &Request) -> bool
+    ensures { result ≡ true → form_of request.now ≡ looks }
+{
+    match request {
+        Request::Select(_) => true,
+        _ => false,
+    }
+}
+
+/// A line whose request is a SELECT.
+///
+/// Contracts see the line.
+#[derive(Drop)]
+pub(crate) struct SelectLine<'a> {
+    text: &'a [u8],
+    request: Request,
+}
+
+impl<'a> Model for SelectLine<'a> {
+    ghost use Rattle.std.specs.Prelude.{ℕ, List};
+    ghost use Rattle.ifdb_db.specs.Reading.{IsReadAsSelect};
+
+    ghost Value = { List ℕ };
+
+    ghost view = { λ l. l.text.now };
+
+    ghost invariant = { λ l. IsReadAsSelect l.text.now l.request };
+}
+
+impl<'a> SelectLine<'a> {
+    /// Its request.
+    pub(crate) fn into_request(self) -> Request
+        ensures { IsReadAsSelect self.entry result }
+    {
+        let SelectLine { request, .. } = self;
+        request
+    }
+
+    /// What is true of every such line. Does nothing.
+    pub(crate) fn is_sound(&self)
+        ensures { IsSelect self.now }
+    {
+        let _ = &self.text;
+    }
+}
+
+impl<'a> From<SelectLine<'a>> for ReadLine<'a> {
+    fn from(line: SelectLine<'a>) -> Self
+        ensures { result ≡ line.entry }
+    {
+        let SelectLine { text, request } = line;
+        ReadLine {
+            text,
+            found: Ok(request),
+        }
     }
 }

@@ -11,6 +11,7 @@ use Rattle.ifdb_history.proofs.Flat.{root-append}
 kind_later : (n : ℕ) (h k : List Entry) (place : ℕ) (x : Kind) → IsKindOf n h place x → IsKindOf n (h ++ k) place x
 kind_later n h k place kind.Opened r = root-append h k n place r
 kind_later n h k place (kind.Asked m work line) r = r
+kind_later n h k place (kind.Looked m line) r = r
 kind_later n h k place (kind.Refused m line) r = r
 kind_later n h k place (kind.Left m work) r = r
 

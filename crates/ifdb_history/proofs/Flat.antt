@@ -1,5 +1,5 @@
 -- A history and then more of it.
-use Rattle.std.proofs.Common.{◌≡◌, ℕ, ◌+◌, ◌-◌, List, [], ◌∷◌, ◌++◌, ◌∙◌, length, refl, sym, ap, arith}
+use Rattle.std.proofs.Common.{◌≡◌, ℕ, ◌+◌, ◌-◌, List, [], ◌∷◌, ◌++◌, ◌∙◌, length, refl, sym, ap, subst, arith}
 use Rattle.std.proofs.lemmas.List.{append_assoc, length-append}
 use Rattle.std.proofs.lemmas.List.Concat.{flat_map-append}
 use lib.ListN.{get_elem?}
@@ -11,7 +11,7 @@ use Rattle.ifdb_history.specs.declared.entry.Entry.{Entry}
 use Rattle.ifdb_history.specs.declared.entry.Kind.{Kind}
 use Rattle.ifdb_history.specs.declared.entry.Kind.TheVariants as kind
 use Rattle.ifdb_history.specs.History.{work_steps, steps_of, flat, after, root_of, roots_from, HasRoot}
-use Rattle.ifdb_history.specs.Lines.{lines_at, lines_of, text_to, told_in, text_of, texts_from, texts_of}
+use Rattle.ifdb_history.specs.Lines.{lines_at, lines_of, text_to, told_in, AllTell, IsTold}
 use Rattle.ifdb_history.proofs.Sessions.{one_more, as_many_at_line, as_many_at_leaving, as_many_at_work}
 
 pub flat-append : (h k : List Entry) → flat (h ++ k) ≡ flat h ++ flat k
@@ -25,15 +25,19 @@ pub lines-append : (n : ℕ) (h k : List Entry) → lines_of n (h ++ k) ≡ line
 lines-append n [] k = refl
 lines-append n (e ∷ h) k = ap (λ ls. lines_at n e.kind ++ ls) (lines-append n h k) ∙ sym (append_assoc (lines_at n e.kind) (lines_of n h) (lines_of n k))
 
-texts_from-append : (read : Reader) (n : ℕ) (st : State) (h k : List Entry) → texts_from read n st (h ++ k) ≡ texts_from read n st h ++ texts_from read n (run read st (flat h)) k
-texts_from-append read n st [] k = refl
-texts_from-append read n st (e ∷ h) k =
-    ap (λ bs. text_of read n st e.kind ++ bs) (texts_from-append read n (run read st (steps_of e.kind)) h k
-    ∙ ap (λ (s : State). texts_from read n (run read st (steps_of e.kind)) h ++ texts_from read n s k) (sym (run-append read st (steps_of e.kind) (flat h))))
-    ∙ sym (append_assoc (text_of read n st e.kind) (texts_from read n (run read st (steps_of e.kind)) h) (texts_from read n (run read st (flat (e ∷ h))) k))
+all_tell-append : (read : Reader) (n : ℕ) (st : State) (h k : List Entry) (a b : List ℕ) → AllTell read n st h a → AllTell read n (run read st (flat h)) k b
+    → AllTell read n st (h ++ k) (a ++ b)
+all_tell-append read n st [] k a b p q = subst (λ l. AllTell read n st k (l ++ b)) (sym p) q
+all_tell-append read n st (e ∷ h) k a b p q = (
+  p.0,
+  p.1 ++ b,
+  ap (λ l. l ++ b) p.2 ∙ append_assoc p.0 p.1 b,
+  p.3,
+  all_tell-append read n (run read st (steps_of e.kind)) h k p.1 b p.4 (subst (λ (s : State). AllTell read n s k b) (run-append read st (steps_of e.kind) (flat h)) q),
+)
 
-pub texts-append : (read : Reader) (n : ℕ) (h k : List Entry) → texts_of read n (h ++ k) ≡ texts_of read n h ++ texts_from read n (after read h) k
-texts-append read n h k = texts_from-append read n opening h k
+pub is_told-append : (read : Reader) (n : ℕ) (h k : List Entry) (a b : List ℕ) → IsTold read n h a → AllTell read n (after read h) k b → IsTold read n (h ++ k) (a ++ b)
+is_told-append read n h k a b = all_tell-append read n opening h k a b
 
 pub told_in-append : (read : Reader) (n : ℕ) (st : State) (first more : List Step) → told_in read n st (first ++ more) ≡ told_in read n st first ++ told_in read n (run read st first) more
 told_in-append read n st first more =
@@ -63,6 +67,7 @@ kind_count read st place (kind.Asked n work line) =
     let e = as_many_at_line read (run read st (work_steps n work)) n line in
     let before = as_many_at_work read st n work in
     omega (arith, parts, e, before)
+kind_count read st place (kind.Looked n line) = let e = as_many_at_line read st n line in omega (arith, e)
 kind_count read st place (kind.Refused n line) = omega arith
 kind_count read st place (kind.Left n work) =
     let parts = ap (λ (t : State). length t.sessions) (run-append read st (work_steps n work) (leaves n ∷ [])) in

@@ -1,5 +1,5 @@
 -- What the entries of others leave of a session.
-use Rattle.std.proofs.Common.{◌≡◌, ◌≢◌, ℕ, ◌+◌, ◌-◌, ◌<◌, Bool, true, false, List, [], ◌∷◌, ◌++◌, ◌∙◌, length, refl, sym, ap, subst, arith, cond}
+use Rattle.std.proofs.Common.{◌≡◌, ◌≢◌, ℕ, ◌+◌, ◌-◌, ◌<◌, Bool, true, false, List, [], ◌∷◌, ◌++◌, ◌∙◌, length, refl, sym, ap, subst, arith, cond, inl}
 use Rattle.std.specs.Prelude.{◌==◌}
 use Rattle.std.proofs.lemmas.List.{append_assoc, append-nil, length-append}
 use mathlib.Core.Option.{some, some-injective}
@@ -20,14 +20,15 @@ use Rattle.ifdb_history.specs.declared.entry.Kind.{Kind}
 use Rattle.ifdb_history.specs.declared.entry.Kind.TheVariants as kind
 use Rattle.ifdb_history.specs.declared.entry.Note.{Note}
 use Rattle.ifdb_history.specs.History.{note_step, work_steps, steps_of, flat, after, WasOpened, roots_from, HasRoot, IsRightKind, IsRight, Holds}
-use Rattle.ifdb_history.specs.Lines.{work_lines, lines_at, lines_of, told_in, text_of, texts_from, texts_of}
+use Rattle.ifdb_history.specs.Lines.{work_lines, lines_at, lines_of, told_in, Tells, AllTell, IsTold}
 use Rattle.ifdb_history.proofs.Sessions.{open_was, kept_at_opening, kept_at_line, kept_at_leaving, one_more, as_many_at_line, as_many_at_leaving, kept_at_work, was_at_work}
-use Rattle.ifdb_history.proofs.Flat.{told_in-append, after-append, lines-append, texts-append, root-append}
+use Rattle.ifdb_history.proofs.Flat.{told_in-append, after-append, lines-append, is_told-append, root-append}
 
 -- the turn isn't of this session
 abbrev pub IsApart : ℕ → Kind → Type 0
 IsApart n kind.Opened = Unit {0}
 IsApart n (kind.Asked m work line) = m ≢ n
+IsApart n (kind.Looked m line) = m ≢ n
 IsApart n (kind.Refused m line) = m ≢ n
 IsApart n (kind.Left m work) = m ≢ n
 
@@ -42,6 +43,7 @@ other m n ne = Rattle.std.proofs.Common.ne_eqb m n ne
 apart_line : (n : ℕ) (x : Kind) → IsApart n x → lines_at n x ≡ []
 apart_line n kind.Opened a = refl
 apart_line n (kind.Asked m work line) a = ap (λ b. cond b (work_lines work ++ line ∷ []) []) (other m n a)
+apart_line n (kind.Looked m line) a = ap (λ b. cond b (line ∷ []) []) (other m n a)
 apart_line n (kind.Refused m line) a = ap (λ b. cond b (line ∷ []) []) (other m n a)
 apart_line n (kind.Left m work) a = ap (λ b. cond b (work_lines work) []) (other m n a)
 
@@ -69,22 +71,24 @@ module _ (read : Reader) where
       ∙ ap (λ bs. bs ++ told_in read n (next read st (note_step m w)) (work_steps m work)) (apart_note_told n m st w a)
       ∙ apart_work_told n m (next read st (note_step m w)) work a
 
-  apart_text : (n : ℕ) (st : State) (x : Kind) → IsApart n x → text_of read n st x ≡ []
-  apart_text n st kind.Opened a = refl
-  apart_text n st (kind.Asked m work line) a =
-      told_in-append read n st (work_steps m work) (asks m line ∷ [])
+  apart_tells : (n : ℕ) (st : State) (x : Kind) → IsApart n x → Tells read n st x []
+  apart_tells n st kind.Opened a = refl
+  apart_tells n st (kind.Asked m work line) a =
+      sym (told_in-append read n st (work_steps m work) (asks m line ∷ [])
       ∙ ap (λ bs. bs ++ told_in read n (run read st (work_steps m work)) (asks m line ∷ [])) (apart_work_told n m st work a)
-      ∙ apart_line_told n m (run read st (work_steps m work)) line a
-  apart_text n st (kind.Refused m line) a = apart_refusal_told n m st a
-  apart_text n st (kind.Left m work) a =
-      told_in-append read n st (work_steps m work) (leaves m ∷ [])
-      ∙ ap (λ bs. bs ++ []) (apart_work_told n m st work a)
+      ∙ apart_line_told n m (run read st (work_steps m work)) line a)
+  apart_tells n st (kind.Looked m line) a = inl (sym (apart_line_told n m st line a))
+  apart_tells n st (kind.Refused m line) a = sym (apart_refusal_told n m st a)
+  apart_tells n st (kind.Left m work) a =
+      sym (told_in-append read n st (work_steps m work) (leaves m ∷ [])
+      ∙ ap (λ bs. bs ++ []) (apart_work_told n m st work a))
 
-  pub apart_texts : (n : ℕ) (st : State) (h : List Entry) → AreApart n h → texts_from read n st h ≡ []
-  apart_texts n st [] a = refl
-  apart_texts n st (e ∷ h) a =
-      ap (λ l. l ++ texts_from read n (run read st (steps_of e.kind)) h) (apart_text n st e.kind a.0)
-      ∙ apart_texts n (run read st (steps_of e.kind)) h a.1
+  pub apart_told : (n : ℕ) (st : State) (h : List Entry) → AreApart n h → AllTell read n st h []
+  apart_told n st [] a = refl
+  apart_told n st (e ∷ h) a = ([], [], refl, apart_tells n st e.kind a.0, apart_told n (run read st (steps_of e.kind)) h a.1)
+
+  pub told_longer : (n : ℕ) (h k : List Entry) → AreApart n k → (text : List ℕ) → IsTold read n h text → IsTold read n (h ++ k) text
+  told_longer n h k apart text t = subst (IsTold read n (h ++ k)) (append-nil text) (is_told-append read n h k text [] t (apart_told n (after read h) k apart))
 
   apart_session : (n : ℕ) (st : State) (x : Kind) → IsApart n x → WasOpened st n → session_of (run read st (steps_of x)) n ≡ session_of st n
   apart_session n st kind.Opened a w = kept_at_opening read st n w
@@ -92,6 +96,7 @@ module _ (read : Reader) where
       ap (λ (t : State). session_of t n) (run-append read st (work_steps m work) (asks m line ∷ []))
       ∙ kept_at_line read (run read st (work_steps m work)) m n line a (was_at_work read st m n work w)
       ∙ kept_at_work read st m n work a w
+  apart_session n st (kind.Looked m line) a w = kept_at_line read st m n line a w
   apart_session n st (kind.Refused m line) a w = refl
   apart_session n st (kind.Left m work) a w =
       ap (λ (t : State). session_of t n) (run-append read st (work_steps m work) (leaves m ∷ []))
@@ -105,6 +110,7 @@ module _ (read : Reader) where
       let e = as_many_at_line read (run read st (work_steps m work)) m line in
       let le = before.1 in
       subst (λ (t : State). WasOpened t n) (sym (run-append read st (work_steps m work) (asks m line ∷ []))) (w.0, omega (arith, e, le))
+  was_opened n st (kind.Looked m line) w = let e = as_many_at_line read st m line in let le = w.1 in (w.0, omega (arith, e, le))
   was_opened n st (kind.Refused m line) w = w
   was_opened n st (kind.Left m work) w =
       let before = was_at_work read st m n work w in
@@ -134,6 +140,7 @@ module _ (read : Reader) where
       → IsRightKind read h root x → times root own ≡ 0 → IsApart n x
   apart_root h n place root own kind.Opened at mine right away = tt
   apart_root h n place root own (kind.Asked m work line) at mine right away = not_ours h n m place root own at mine right.0.1 away
+  apart_root h n place root own (kind.Looked m line) at mine right away = not_ours h n m place root own at mine right.0.1 away
   apart_root h n place root own (kind.Refused m line) at mine right away = not_ours h n m place root own at mine right.1 away
   apart_root h n place root own (kind.Left m work) at mine right away = not_ours h n m place root own at mine right.0.1 away
 
@@ -153,10 +160,10 @@ module _ (read : Reader) where
             (subst (λ l. NoRootsFrom (λ (x : Entry). x.root) l (length (h ++ e ∷ [])) own) (sym is) (λ j x le there. away j x (omega (arith, le, long)) there)),
       )
 
-  -- a longer history to which others alone added leaves the session, its lines and its texts
+  -- a longer history to which others alone added leaves the session, its lines and what it was told
   pub kept_among_others : (h log : List Entry) (own : List ℕ) (n : ℕ) → Holds read h own n → IsPrefix h log
       → AllRight (IsRight read) log → NoRootsFrom (λ (e : Entry). e.root) log (length h) own
-      → Holds read log own n × (lines_of n log ≡ lines_of n h) × (texts_of read n log ≡ texts_of read n h)
+      → Holds read log own n × (lines_of n log ≡ lines_of n h) × ((text : List ℕ) → IsTold read n h text → IsTold read n log text)
       × (session_of (after read log) n ≡ session_of (after read h) n)
   kept_among_others h log own n holds front right away =
       let k = front.0 in
@@ -165,9 +172,10 @@ module _ (read : Reader) where
       (subst (λ l. NoRootsFrom (λ (e : Entry). e.root) l (length h) own) (sym front.1) away) in
       let same = apart_sessions n (after read h) k apart (open_was (after read h) n holds.0) in
       let there : session_of (after read (h ++ k)) n ≡ session_of (after read h) n = ap (λ (st : State). session_of st n) (after-append read h k) ∙ same.0 in
-      subst (λ l. Holds read l own n × (lines_of n l ≡ lines_of n h) × (texts_of read n l ≡ texts_of read n h) × (session_of (after read l) n ≡ session_of (after read h) n)) front.1 (
+      subst (λ l. Holds read l own n × (lines_of n l ≡ lines_of n h) × ((text : List ℕ) → IsTold read n h text → IsTold read n l text)
+      × (session_of (after read l) n ≡ session_of (after read h) n)) front.1 (
         (ap (λ (s : Session). s.is_open) there ∙ holds.0, (holds.1.0, root-append h k n holds.1.0 holds.1.1, holds.1.2)),
         lines-append n h k ∙ ap (λ l. lines_of n h ++ l) (apart_lines n k apart) ∙ append-nil (lines_of n h),
-        texts-append read n h k ∙ ap (λ l. texts_of read n h ++ l) (apart_texts n (after read h) k apart) ∙ append-nil (texts_of read n h),
+        told_longer n h k apart,
         there,
       )

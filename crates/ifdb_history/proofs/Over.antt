@@ -1,5 +1,5 @@
 -- Sessions that are over, and the next one.
-use Rattle.std.proofs.Common.{◌≡◌, ℕ, ◌+◌, ◌-◌, ◌<◌, ◌≤◌, List, [], ◌∷◌, ◌++◌, ◌∙◌, length, sym, ap, subst, arith}
+use Rattle.std.proofs.Common.{◌≡◌, ℕ, ◌+◌, ◌-◌, ◌<◌, ◌≤◌, List, [], ◌∷◌, ◌++◌, ◌∙◌, length, refl, sym, ap, subst, arith}
 use Rattle.std.proofs.lemmas.Bool.{false≢true}
 use Rattle.std.proofs.lemmas.List.{append_assoc, append-nil, length-append}
 use mathlib.Core.List.{IsPrefix}
@@ -15,10 +15,10 @@ use Rattle.ifdb_history.specs.declared.entry.Entry.{Entry}
 use Rattle.ifdb_history.specs.declared.entry.Kind.{Kind}
 use Rattle.ifdb_history.specs.declared.entry.Kind.TheVariants as kind
 use Rattle.ifdb_history.specs.History.{after, IsOpen, IsShut, roots_from, HasRoot, IsRightKind, IsRight, Holds, opening_entry}
-use Rattle.ifdb_history.specs.Lines.{lines_of, texts_of}
+use Rattle.ifdb_history.specs.Lines.{lines_of, IsTold}
 use Rattle.ifdb_history.proofs.Sessions.{open_was, opens_next}
-use Rattle.ifdb_history.proofs.Flat.{after-append, lines-append, texts-append, roots-append, as_many_roots}
-use Rattle.ifdb_history.proofs.Others.{IsApart, AreApart, apart_lines, apart_texts, apart_sessions}
+use Rattle.ifdb_history.proofs.Flat.{after-append, lines-append, is_told-append, roots-append, as_many_roots}
+use Rattle.ifdb_history.proofs.Others.{IsApart, AreApart, apart_lines, apart_told, told_longer, apart_sessions}
 
 module _ (read : Reader) where
   -- ---- a session that is over stays so, and nothing is added to it
@@ -26,6 +26,7 @@ module _ (read : Reader) where
   shut_apart : (h : List Entry) (n root : ℕ) (x : Kind) → IsShut (after read h) n → IsRightKind read h root x → IsApart n x
   shut_apart h n root kind.Opened shut right = tt
   shut_apart h n root (kind.Asked m work line) shut right = λ same. false≢true (sym shut.1 ∙ subst (IsOpen (after read h)) same right.0.0)
+  shut_apart h n root (kind.Looked m line) shut right = λ same. false≢true (sym shut.1 ∙ subst (IsOpen (after read h)) same right.0.0)
   shut_apart h n root (kind.Refused m line) shut right = λ same. false≢true (sym shut.1 ∙ subst (IsOpen (after read h)) same right.0)
   shut_apart h n root (kind.Left m work) shut right = λ same. false≢true (sym shut.1 ∙ subst (IsOpen (after read h)) same right.0.0)
 
@@ -42,14 +43,14 @@ module _ (read : Reader) where
       (here, shut_walk n (h ++ e ∷ []) k (shut_still h (e ∷ []) n shut (here, tt)) (subst (AllRight (IsRight read)) (sym is) right))
 
   pub shut_on : (n : ℕ) (h log : List Entry) → IsShut (after read h) n → IsPrefix h log → AllRight (IsRight read) log
-      → IsShut (after read log) n × (lines_of n log ≡ lines_of n h) × (texts_of read n log ≡ texts_of read n h)
+      → IsShut (after read log) n × (lines_of n log ≡ lines_of n h) × ((text : List ℕ) → IsTold read n h text → IsTold read n log text)
   shut_on n h log shut front right =
       let k = front.0 in
       let apart = shut_walk n h k shut (subst (AllRight (IsRight read)) (sym front.1) right) in
-      subst (λ l. IsShut (after read l) n × (lines_of n l ≡ lines_of n h) × (texts_of read n l ≡ texts_of read n h)) front.1 (
+      subst (λ l. IsShut (after read l) n × (lines_of n l ≡ lines_of n h) × ((text : List ℕ) → IsTold read n h text → IsTold read n l text)) front.1 (
         shut_still h k n shut apart,
         lines-append n h k ∙ ap (λ l. lines_of n h ++ l) (apart_lines n k apart) ∙ append-nil (lines_of n h),
-        texts-append read n h k ∙ ap (λ l. texts_of read n h ++ l) (apart_texts read n (after read h) k apart) ∙ append-nil (texts_of read n h),
+        told_longer read n h k apart,
       )
 
   -- ---- the next session was never asked or told anything
@@ -65,6 +66,7 @@ module _ (read : Reader) where
   fresh_apart : (h : List Entry) (n root : ℕ) (x : Kind) → length (after read h).sessions < n → IsRightKind read h root x → IsApart n x
   fresh_apart h n root kind.Opened few right = tt
   fresh_apart h n root (kind.Asked m work line) few right = λ same. let there = (open_was (after read h) m right.0.0).1 in omega (arith, there, few, same)
+  fresh_apart h n root (kind.Looked m line) few right = λ same. let there = (open_was (after read h) m right.0.0).1 in omega (arith, there, few, same)
   fresh_apart h n root (kind.Refused m line) few right = λ same. let there = (open_was (after read h) m right.0).1 in omega (arith, there, few, same)
   fresh_apart h n root (kind.Left m work) few right = λ same. let there = (open_was (after read h) m right.0.0).1 in omega (arith, there, few, same)
 
@@ -80,12 +82,12 @@ module _ (read : Reader) where
   -- what opening a session says
   pub opened_new : (h : List Entry) (own : List ℕ) (n : ℕ) → AllRight (IsRight read) h → n ≡ length (after read h).sessions + 1
       → Holds read (h ++ opening_entry h ∷ []) (own ++ length h ∷ []) n × HasRoot (h ++ opening_entry h ∷ []) n (length h)
-      × (lines_of n (h ++ opening_entry h ∷ []) ≡ []) × (texts_of read n (h ++ opening_entry h ∷ []) ≡ [])
+      × (lines_of n (h ++ opening_entry h ∷ []) ≡ []) × IsTold read n (h ++ opening_entry h ∷ []) []
   opened_new h own n right is = (
     (opened, (length h, rooted, mine)),
     rooted,
     lines-append n h (opening_entry h ∷ []) ∙ append-nil (lines_of n h) ∙ apart_lines n h apart,
-    texts-append read n h (opening_entry h ∷ []) ∙ append-nil (texts_of read n h) ∙ apart_texts read n opening h apart,
+    is_told-append read n h (opening_entry h ∷ []) [] [] (apart_told read n opening h apart) ([], [], refl, refl, refl),
   ) where
     apart : AreApart n h
     apart = fresh n [] h right (omega (arith, is))

@@ -24,6 +24,7 @@ work_steps n work = map (note_step n) work
 abbrev pub steps_of : Kind → List Step
 steps_of kind.Opened = opens ∷ []
 steps_of (kind.Asked n work line) = work_steps n work ++ asks n line ∷ []
+steps_of (kind.Looked n line) = asks n line ∷ []
 steps_of (kind.Refused n line) = refused n ∷ []
 steps_of (kind.Left n work) = work_steps n work ++ leaves n ∷ []
 
@@ -54,6 +55,7 @@ IsShut st n = WasOpened st n × ((session_of st n).is_open ≡ false)
 abbrev pub root_of : ℕ → Kind → List ℕ
 root_of place kind.Opened = place ∷ []
 root_of place (kind.Asked n work line) = []
+root_of place (kind.Looked n line) = []
 root_of place (kind.Refused n line) = []
 root_of place (kind.Left n work) = []
 
@@ -73,15 +75,21 @@ IsWork read st n (w ∷ work) =
     (in_txn (session_of st n).txn ≡ true) × (in_txn (session_of (next read st (note_step n w)) n).txn ≡ true)
     × IsWork read (next read st (note_step n w)) n work
 
+-- a line of the session only looks: its step changes nothing
+abbrev pub OnlyLooks : Reader → State → ℕ → List ℕ → Type 0
+OnlyLooks read st n line = next read st (asks n line) ≡ st
+
 -- the session is open and was opened at this place
 abbrev pub IsAt : Reader → List Entry → ℕ → ℕ → Type 0
 IsAt read h n root = IsOpen (after read h) n × HasRoot h n root
 
 -- A turn may come right after the history: it opens a session, which is its own root, or it is of an open session and names
--- the place where that was opened. The lines that it brings along are of that session's open transaction.
+-- the place where that was opened. The lines that it brings along are of that session's open transaction, and a line that is
+-- answered after the turn only looks.
 abbrev pub IsRightKind : Reader → List Entry → ℕ → Kind → Type 0
 IsRightKind read h root kind.Opened = root ≡ length h
 IsRightKind read h root (kind.Asked n work line) = IsAt read h n root × IsWork read (after read h) n work
+IsRightKind read h root (kind.Looked n line) = IsAt read h n root × OnlyLooks read (after read h) n line
 IsRightKind read h root (kind.Refused n line) = IsAt read h n root
 IsRightKind read h root (kind.Left n work) = IsAt read h n root × IsWork read (after read h) n work
 
@@ -117,6 +125,7 @@ entry_of h n x = record { root = root_in h n; kind = x }
 abbrev pub IsKindOf : ℕ → List Entry → ℕ → Kind → Type 0
 IsKindOf n h place kind.Opened = HasRoot h n place
 IsKindOf n h place (kind.Asked m work line) = m ≡ n
+IsKindOf n h place (kind.Looked m line) = m ≡ n
 IsKindOf n h place (kind.Refused m line) = m ≡ n
 IsKindOf n h place (kind.Left m work) = m ≡ n
 

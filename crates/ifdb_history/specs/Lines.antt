@@ -1,8 +1,8 @@
 -- What a session asked in a history, and what it was told.
-use Rattle.std.specs.Prelude.{ℕ, ◌==◌, List, [], ◌∷◌, ◌++◌, flat_map, map, None, if◌then◌else◌}
+use Rattle.std.specs.Prelude.{◌≡◌, ◌⊎◌, ℕ, ◌==◌, List, [], ◌∷◌, ◌++◌, flat_map, map, None, if◌then◌else◌}
 use Rattle.ifdb_wire.specs.Text.{reply_text}
 use Rattle.ifdb_model.specs.Step.{Reader}
-use Rattle.ifdb_model.specs.Run.{State, Step, Told, opening, run, replies}
+use Rattle.ifdb_model.specs.Run.{State, Step, Told, asks, refused, opening, run, replies}
 use Rattle.ifdb_history.specs.declared.entry.Entry.{Entry}
 use Rattle.ifdb_history.specs.declared.entry.Kind.{Kind}
 use Rattle.ifdb_history.specs.declared.entry.Kind.TheVariants as kind
@@ -17,6 +17,7 @@ work_lines work = map (λ (w : Note). w.line) work
 abbrev pub lines_at : ℕ → Kind → List (List ℕ)
 lines_at n kind.Opened = []
 lines_at n (kind.Asked m work line) = if m == n then work_lines work ++ line ∷ [] else []
+lines_at n (kind.Looked m line) = if m == n then line ∷ [] else []
 lines_at n (kind.Refused m line) = if m == n then line ∷ [] else []
 lines_at n (kind.Left m work) = if m == n then work_lines work else []
 
@@ -33,21 +34,25 @@ text_to n t = if t.number == n then reply_text None t.reply else []
 abbrev pub told_in : Reader → ℕ → State → List Step → List ℕ
 told_in read n st steps = flat_map (text_to n) (replies read st steps)
 
--- what a turn tells the session; a connection isn't told that its session was opened
-abbrev pub text_of : Reader → ℕ → State → Kind → List ℕ
-text_of read n st kind.Opened = []
-text_of read n st (kind.Asked m work line) = told_in read n st (steps_of (kind.Asked m work line))
-text_of read n st (kind.Refused m line) = told_in read n st (steps_of (kind.Refused m line))
-text_of read n st (kind.Left m work) = told_in read n st (steps_of (kind.Left m work))
+-- A turn tells the session this; a connection isn't told that its session was opened. A look is answered after its turn, and
+-- there may be no memory for the answer.
+abbrev pub Tells : Reader → ℕ → State → Kind → List ℕ → Type 0
+Tells read n st kind.Opened text = text ≡ []
+Tells read n st (kind.Looked m line) text = (text ≡ told_in read n st (asks m line ∷ [])) ⊎ (text ≡ told_in read n st (refused m ∷ []))
+Tells read n st (kind.Asked m work line) text = text ≡ told_in read n st (steps_of (kind.Asked m work line))
+Tells read n st (kind.Refused m line) text = text ≡ told_in read n st (steps_of (kind.Refused m line))
+Tells read n st (kind.Left m work) text = text ≡ told_in read n st (steps_of (kind.Left m work))
 
--- what the session is told in turns from a state on
-abbrev pub texts_from : Reader → ℕ → State → List Entry → List ℕ
-texts_from read n st [] = []
-texts_from read n st (e ∷ h) = text_of read n st e.kind ++ texts_from read n (run read st (steps_of e.kind)) h
+-- turns from a state on tell it this, one after another
+abbrev pub AllTell : Reader → ℕ → State → List Entry → List ℕ → Type 0
+AllTell read n st [] text = text ≡ []
+AllTell read n st (e ∷ h) text =
+    (first : List ℕ) × (rest : List ℕ) × (text ≡ first ++ rest)
+    × Tells read n st e.kind first × AllTell read n (run read st (steps_of e.kind)) h rest
 
--- and in a history
-abbrev pub texts_of : Reader → ℕ → List Entry → List ℕ
-texts_of read n h = texts_from read n opening h
+-- and a history does
+abbrev pub IsTold : Reader → ℕ → List Entry → List ℕ → Type 0
+IsTold read n h text = AllTell read n opening h text
 
 -- ---- with lines that no turn has brought along yet
 
@@ -55,6 +60,7 @@ texts_of read n h = texts_from read n opening h
 abbrev pub lines_with : ℕ → List Entry → List Note → List (List ℕ)
 lines_with n h work = lines_of n h ++ work_lines work
 
--- and what it was told
-abbrev pub texts_with : Reader → ℕ → List Entry → List Note → List ℕ
-texts_with read n h work = texts_of read n h ++ told_in read n (after read h) (work_steps n work)
+-- and it was told this
+abbrev pub IsToldWith : Reader → ℕ → List Entry → List Note → List ℕ → Type 0
+IsToldWith read n h work text =
+    (before : List ℕ) × IsTold read n h before × (text ≡ before ++ told_in read n (after read h) (work_steps n work))

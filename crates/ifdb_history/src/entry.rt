@@ -15,6 +15,9 @@ pub enum Kind {
     Opened,
     /// A session asked a line; before it, in its transaction, those that it asked away from the room.
     Asked(u64, LinkedList<Note>, LinkedList<u8>),
+    /// A session asked a line that only looks. It was answered after the turn, from what all saw then, unless there was no
+    /// memory for the answer.
+    Looked(u64, LinkedList<u8>),
     /// A session asked a line for which there was no memory.
     Refused(u64, LinkedList<u8>),
     /// A session left without BYE; before that, in its transaction, it asked these lines away from the room.

@@ -81,6 +81,7 @@ module _ (read : Reader) where
   one_refusal : (st : State) (x : Kind) → refusal_of read st x ≡ cond (refuses_at read st x) 1 0
   one_refusal st kind.Opened = refl
   one_refusal st (kind.Asked n work line) = refl
+  one_refusal st (kind.Looked n line) = refl
   one_refusal st (kind.Refused n line) = refl
   one_refusal st (kind.Left n work) = refl
 

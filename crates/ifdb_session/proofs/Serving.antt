@@ -8,7 +8,7 @@ use Rattle.ifdb_turn.specs.declared.turnstile.Pass.{Pass}
 use Rattle.ifdb_turn.specs.Passes.{history, places}
 use Rattle.ifdb_history.specs.declared.entry.Entry.{Entry}
 use Rattle.ifdb_history.specs.History.{after, HasRoot, IsRight, IsShut}
-use Rattle.ifdb_history.specs.Lines.{lines_of, texts_of, lines_with, texts_with}
+use Rattle.ifdb_history.specs.Lines.{lines_of, lines_with, IsTold}
 use Rattle.ifdb_history.proofs.Flat.{root-append}
 use Rattle.ifdb_history.proofs.Over.{shut_on}
 use Rattle.ifdb_db.specs.Reading.{read_line}
@@ -17,15 +17,17 @@ use Rattle.ifdb_session.specs.declared.link.Talked.{Talked}
 use Rattle.ifdb_session.specs.declared.seat.Seat.{Seat}
 use Rattle.ifdb_session.specs.Passes.{Sees, Adds, IsNew}
 use Rattle.ifdb_session.specs.Links.{Span, Ends, IsServed, Served}
-use Rattle.ifdb_session.specs.Seats.{lines_in, texts_in, IsGone}
+use Rattle.ifdb_session.specs.Seats.{lines_in, IsToldIn, IsGone}
 use Rattle.ifdb_session.specs.Talk.{IsLeftSo, IsTalked}
 use Rattle.ifdb_session.proofs.Passes.{adds_on}
+use Rattle.ifdb_session.proofs.Working.{told_of_none}
 
--- the clause of a link, by the lines and the texts of an earlier history that are those of this one
-pub served_as : (ending : Ending) (limit n : ℕ) (h k : List Entry) (s : Span) → Ends ending limit (lines_of n h) (texts_of read_line n h) s
-    → lines_of n k ≡ lines_of n h → texts_of read_line n k ≡ texts_of read_line n h → IsShut (after read_line k) n → IsServed ending limit n k s
+-- the clause of a link, by an earlier history that has the same lines, and in which it was told the same
+pub served_as : (ending : Ending) (limit n : ℕ) (h k : List Entry) (s : Span)
+    → (texts : List ℕ) × IsTold read_line n h texts × Ends ending limit (lines_of n h) texts s
+    → lines_of n k ≡ lines_of n h → ((text : List ℕ) → IsTold read_line n h text → IsTold read_line n k text) → IsShut (after read_line k) n → IsServed ending limit n k s
 served_as ending limit n h k s ended lines texts shut =
-    (shut, subst (λ (z : List (List ℕ) × List ℕ). Ends ending limit z.0 z.1 s) (λ i. (sym lines i, sym texts i)) ended)
+    (shut, (ended.0, texts ended.0 ended.1, subst (λ z. Ends ending limit z ended.0 s) (sym lines) ended.2))
 
 -- it holds in each longer history that is in order
 pub served_later : (ending : Ending) (limit n : ℕ) (h k : List Entry) (s : Span) → IsServed ending limit n h s → IsPrefix h k
@@ -47,28 +49,26 @@ module _ {X : Type 0} (hall : Turnstile X Entry) (n limit : ℕ) (s : Span) (fir
     served = served;
   }
 
-  -- what a session asked and was told, where no work is left
-  nothing_left : (h : List Entry) (seat : Seat) → IsGone h seat → (lines_in h seat ≡ lines_of seat.number h) × (texts_in h seat ≡ texts_of read_line seat.number h)
-  nothing_left h seat gone = (
-    ap (λ work. lines_with seat.number h work) gone.none ∙ append-nil (lines_of seat.number h),
-    ap (λ work. texts_with read_line seat.number h work) gone.none ∙ append-nil (texts_of read_line seat.number h),
-  )
+  -- what a session asked, where no work is left
+  nothing_left : (h : List Entry) (seat : Seat) → IsGone h seat → lines_in h seat ≡ lines_of seat.number h
+  nothing_left h seat gone = ap (λ work. lines_with seat.number h work) gone.none ∙ append-nil (lines_of seat.number h)
 
   pub served_over : (last : Pass X Entry) (seat : Seat) (talked : Talked) → seat.number ≡ n → Sees hall opened last → Adds n opened last
       → IsTalked (history last) (places last) seat limit s talked → talked.is_open ≡ false
       → (k : ℕ) × Served talked.ending limit k first last s
   served_over last seat talked this sees adds so over =
       let gone : IsGone (history last) seat = subst (IsLeftSo (history last) (places last) seat) over so.1 in
-      let same = nothing_left (history last) seat gone in
-      let ends = subst (λ (z : List (List ℕ) × List ℕ). Ends talked.ending limit z.0 z.1 s) (λ i. (same.0 i, same.1 i)) so.0 in
-      let served : IsServed talked.ending limit seat.number (history last) s = (gone.shut, ends) in
+      let ends = subst (λ z. Ends talked.ending limit z so.0.0 s) (nothing_left (history last) seat gone) so.0.2 in
+      let served : IsServed talked.ending limit seat.number (history last) s =
+      (gone.shut, (so.0.0, told_of_none (history last) seat so.0.0 gone.none so.0.1, ends)) in
       (n, first_on talked.ending last sees adds (subst (λ m. IsServed talked.ending limit m (history last) s) this served))
 
   pub served_left : (mid last : Pass X Entry) (seat : Seat) (talked : Talked) → seat.number ≡ n → IsTalked (history mid) (places mid) seat limit s talked
       → Sees hall opened last → Adds n opened last → IsShut (after read_line (history last)) seat.number
-      → lines_of seat.number (history last) ≡ lines_in (history mid) seat → texts_of read_line seat.number (history last) ≡ texts_in (history mid) seat
+      → lines_of seat.number (history last) ≡ lines_in (history mid) seat
+      → ((text : List ℕ) → IsToldIn (history mid) seat text → IsTold read_line seat.number (history last) text)
       → (k : ℕ) × Served talked.ending limit k first last s
   served_left mid last seat talked this so sees adds shut lines texts =
-      let ends = subst (λ (z : List (List ℕ) × List ℕ). Ends talked.ending limit z.0 z.1 s) (λ i. (sym lines i, sym texts i)) so.0 in
-      let served : IsServed talked.ending limit seat.number (history last) s = (shut, ends) in
+      let ends = subst (λ z. Ends talked.ending limit z so.0.0 s) (sym lines) so.0.2 in
+      let served : IsServed talked.ending limit seat.number (history last) s = (shut, (so.0.0, texts so.0.0 so.0.1, ends)) in
       (n, first_on talked.ending last sees adds (subst (λ m. IsServed talked.ending limit m (history last) s) this served))

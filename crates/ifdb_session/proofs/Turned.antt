@@ -1,5 +1,5 @@
 -- One turn of a session.
-use Rattle.std.proofs.Common.{◌≡◌, ℕ, ◌+◌, ◌<◌, Bool, true, false, List, [], ◌∷◌, ◌++◌, ◌∙◌, length, refl, sym, ap, subst, arith, cond, Option, Some, None}
+use Rattle.std.proofs.Common.{◌≡◌, ℕ, ◌+◌, ◌<◌, Bool, true, false, List, [], ◌∷◌, ◌++◌, ◌∙◌, length, refl, sym, ap, subst, arith, cond, Option, Some, None, inl, inr}
 use Rattle.std.proofs.lemmas.List.{append-nil}
 use mathlib.Core.List.{IsPrefix}
 use Rattle.ifdb_turn.specs.declared.turnstile.Turnstile.{Turnstile}
@@ -15,33 +15,36 @@ use Rattle.ifdb_model.specs.Session.{Session}
 use Rattle.ifdb_model.specs.Run.{State, opens, asks, leaves, next, run}
 use Rattle.ifdb_model.proofs.Runs.{run-append}
 use Rattle.ifdb_db.specs.Client.{Client}
+use Rattle.ifdb_db.specs.Looks.{Looking, IsLookOf}
 use Rattle.ifdb_db.specs.Reading.{read_line}
 use Rattle.ifdb_db.specs.Room.{Hall, StandsFor}
 use Rattle.ifdb_db.specs.RoomSteps.{GoesBy}
+use Rattle.ifdb_db.proofs.Looking.{shown_is_told, only_looks}
+use Rattle.ifdb_wire.specs.Text.{reply_text}
 use Rattle.ifdb_history.specs.declared.entry.Entry.{Entry}
 use Rattle.ifdb_history.specs.declared.entry.Kind.TheVariants as kind
 use Rattle.ifdb_history.specs.declared.entry.Note.{Note}
 use Rattle.ifdb_history.specs.History.{work_steps, after, WasOpened, IsOpen, IsShut, IsAt, HasRoot, IsKindOf, IsRight, Holds, root_in, opening_entry, entry_of, IsEntryOf}
 use Rattle.ifdb_history.specs.Counts.{commits_in}
-use Rattle.ifdb_history.specs.Lines.{work_lines, lines_of, texts_of, lines_with, texts_with}
+use Rattle.ifdb_history.specs.Lines.{work_lines, lines_of, lines_with, IsTold, IsToldWith}
 use Rattle.ifdb_history.proofs.Sessions.{open_was, shut_by_leaving, as_many_at_line, was_at_work}
 use Rattle.ifdb_history.proofs.Flat.{after-append}
 use Rattle.ifdb_history.proofs.Others.{kept_among_others}
-use Rattle.ifdb_history.proofs.Own.{own_is_right, asked_adds, refused_adds, left_adds, holds_on}
+use Rattle.ifdb_history.proofs.Own.{own_is_right, asked_adds, looked_adds, refused_adds, left_adds, holds_on}
 use Rattle.ifdb_history.proofs.Over.{opened_new}
 use Rattle.ifdb_history.proofs.Entries.{last_entry}
 use Rattle.ifdb_history.proofs.Logs.{log_on}
 use Rattle.ifdb_session.specs.Counts.{commits_at, refuses_at}
 use Rattle.ifdb_session.specs.Ends.{EndsBare, EndsWith}
 use Rattle.ifdb_session.specs.Passes.{Sees, Adds, Asks, IsNew}
-use Rattle.ifdb_session.specs.Seats.{work_of, lines_in, texts_in, asked_entry, left_entry, Works, WorksIf, IsSeated, IsGone, Notes}
+use Rattle.ifdb_session.specs.Seats.{work_of, lines_in, IsToldIn, asked_entry, left_entry, Works, WorksIf, IsSeated, IsGone, Notes, IsShownAs}
 use Rattle.ifdb_session.specs.declared.seat.Seat.{Seat}
 use Rattle.ifdb_session.specs.declared.shared.SharedRoom.{SharedRoom}
 use Rattle.ifdb_session.specs.Standing.{StandsForHistory}
-use Rattle.ifdb_session.specs.Turns.{with_lent, MayBeBack, IsLentBy, IsNextNumber, IsAnswered, CountsTurn, memory_text}
+use Rattle.ifdb_session.specs.Turns.{with_lent, MayBeBack, IsLentBy, IsNextNumber, IsAnswered, HasCounted, CountsTurn, memory_text}
 use Rattle.ifdb_session.proofs.Counting.{stands_more, commits_more, line_commits, leaving_commits}
 use Rattle.ifdb_session.proofs.Passes.{prefix-trans, sees_itself, adds_none}
-use Rattle.ifdb_session.proofs.Working.{work_here, works_here, if_later, if_told, if_work, if_log, if_stands, if_back, lent_works, works_more, lines_more, texts_more}
+use Rattle.ifdb_session.proofs.Working.{work_here, works_here, if_later, if_told, if_work, if_log, if_stands, if_back, lent_works, works_more, lines_more, texts_more, told_alone, told_of_none}
 
 -- ---- the state after an entry
 
@@ -62,13 +65,13 @@ left_state log n work =
 -- ---- what a turn finds: the history has grown by entries of others alone, and the seat is as it was
 
 pub seat_found : (h log : List Entry) (own : List ℕ) (s : Seat) → IsSeated h own s → IsPrefix h log → AllRight (IsRight read_line) log
-    → NoRootsFrom (λ (e : Entry). e.root) log (length h) own → IsSeated log own s × (lines_in log s ≡ lines_in h s) × (texts_in log s ≡ texts_in h s)
+    → NoRootsFrom (λ (e : Entry). e.root) log (length h) own → IsSeated log own s × (lines_in log s ≡ lines_in h s) × ((text : List ℕ) → IsToldIn h s text → IsToldIn log s text)
 seat_found h log own s seated front right away =
     let kept = kept_among_others read_line h log own s.number seated.holds front right away in
     let more = log_on read_line h log front in (
       record { holds = kept.0; works = if_later h log s.number (work_of s) kept.3 more s.lent seated.works },
       ap (λ l. l ++ work_lines (work_of s)) kept.1,
-      (λ i. kept.2 i ++ (if_told h log s.number (work_of s) kept.3 more s.lent seated.works) i),
+      λ text t. (t.0, kept.2 t.0 t.1, t.2 ∙ ap (λ l. t.0 ++ l) (sym (if_told h log s.number (work_of s) kept.3 more s.lent seated.works))),
     )
 
 -- ---- the entries that it may add
@@ -143,6 +146,26 @@ module _ (log : List Entry) (own : List ℕ) (s : Seat) (seated : IsSeated log o
     room : StandsFor new.room (after read_line (log ++ e ∷ []))
     room = subst (λ (h : Hall). StandsFor h (after read_line (log ++ e ∷ []))) (sym same) (subst (StandsFor old.room) (sym state) stands.room)
 
+  pub may_look : (line : List ℕ) (x : Looking) → IsLookOf old.room s.number line x → new.room ≡ old.room → HasCounted old new false false
+      → StandsForHistory new (log ++ entry_of log s.number (kind.Looked s.number line) ∷ [])
+      × IsRight read_line log (entry_of log s.number (kind.Looked s.number line)) × (0 < times (root_in log s.number) own)
+  may_look line x look same counts = (
+    stands_more old new log e false false stands room (commits_more read_line log e (after read_line log) false state (omega arith)) refl counts,
+    (mine.0, still),
+    mine.1,
+  ) where
+    e : Entry
+    e = entry_of log s.number (kind.Looked s.number line)
+
+    still : next read_line (after read_line log) (asks s.number line) ≡ after read_line log
+    still = only_looks old.room (after read_line log) stands.room s.number line x look
+
+    state : after read_line (log ++ e ∷ []) ≡ after read_line log
+    state = after-append read_line log (e ∷ []) ∙ still
+
+    room : StandsFor new.room (after read_line (log ++ e ∷ []))
+    room = subst (λ (h : Hall). StandsFor h (after read_line (log ++ e ∷ []))) (sym same) (subst (StandsFor old.room) (sym state) stands.room)
+
 -- ---- what it says then
 
 module _ (log : List Entry) (own : List ℕ) (s : Seat) (seated : IsSeated log own s) where
@@ -167,11 +190,11 @@ module _ (log : List Entry) (own : List ℕ) (s : Seat) (seated : IsSeated log o
         (λ i. lines_with (number i) later (none i)) ∙ append-nil (lines_of s.number later)
         ∙ ap (lines_of s.number) is ∙ (asked_adds read_line log s.number (work_of s) line _ refl).0
 
-    pub asked_texts : texts_in later t ≡ texts_in log s ++ text
-    asked_texts =
-        (λ i. texts_with read_line (number i) later (none i)) ∙ append-nil (texts_of read_line s.number later)
-        ∙ ap (texts_of read_line s.number) is ∙ (asked_adds read_line log s.number (work_of s) line _ refl).1
-        ∙ ap (λ l. texts_in log s ++ l) (sym (answered.1 before (if_stands log s.number (work_of s) room stands s.lent seated.works)))
+    pub asked_texts : (all : List ℕ) → IsToldIn log s all → IsToldIn later t (all ++ text)
+    asked_texts all b =
+        let told = answered.1 before (if_stands log s.number (work_of s) room stands s.lent seated.works) in
+        told_alone later t s.number (all ++ text) number none
+        (subst (λ (z : List Entry × List ℕ). IsTold read_line s.number z.0 (all ++ z.1)) (λ i. (sym is i, sym told i)) ((asked_adds read_line log s.number (work_of s) line _ refl).1 all b))
 
     pub asked_open : is_open ≡ true → IsLentBy next_room s.number now → (places : List ℕ) → places ≡ own ++ length log ∷ [] → IsSeated later places t
     asked_open o by_room places more = record {
@@ -199,11 +222,11 @@ module _ (log : List Entry) (own : List ℕ) (s : Seat) (seated : IsSeated log o
         ∙ ap (lines_of s.number) is ∙ (refused_adds read_line log s.number line _ refl).0
         ∙ ap (λ l. l ++ line ∷ []) (sym (ap (lines_with s.number log) no_work ∙ append-nil (lines_of s.number log)))
 
-    pub refused_texts : texts_in later t ≡ texts_in log s ++ text
-    refused_texts =
-        (λ i. texts_with read_line (number i) later ((work ∙ no_work) i)) ∙ append-nil (texts_of read_line s.number later)
-        ∙ ap (texts_of read_line s.number) is ∙ (refused_adds read_line log s.number line _ refl).1
-        ∙ (λ i. (sym (ap (texts_with read_line s.number log) no_work ∙ append-nil (texts_of read_line s.number log)) i) ++ sym told i)
+    pub refused_texts : (all : List ℕ) → IsToldIn log s all → IsToldIn later t (all ++ text)
+    refused_texts all b =
+        told_alone later t s.number (all ++ text) number (work ∙ no_work)
+        (subst (λ (z : List Entry × List ℕ). IsTold read_line s.number z.0 (all ++ z.1)) (λ i. (sym is i, sym told i))
+        ((refused_adds read_line log s.number line _ refl).1 all (told_of_none log s all no_work b)))
 
     pub refused_open : (places : List ℕ) → places ≡ own ++ length log ∷ [] → IsSeated later places t
     refused_open places more = record {
@@ -212,12 +235,47 @@ module _ (log : List Entry) (own : List ℕ) (s : Seat) (seated : IsSeated log o
       works = subst (λ (z : List Note × Option Client). WorksIf later t.number z.0 z.1) (λ i. (sym (work ∙ no_work) i, sym lent i)) refl;
     }
 
+  module _ (line : List ℕ) (later : List Entry) (is : later ≡ log ++ entry_of log s.number (kind.Looked s.number line) ∷ []) (room : Hall)
+      (stands : StandsFor room (after read_line log)) (x : Looking) (look : IsLookOf room s.number line x) (text : List ℕ) (told : IsShownAs x text)
+      (in_room : s.lent ≡ None) (t : Seat) (number : t.number ≡ s.number) (lent : t.lent ≡ None) (work : work_of t ≡ work_of s) where
+    nothing_noted : work_of s ≡ []
+    nothing_noted = subst (WorksIf log s.number (work_of s)) in_room seated.works
+
+    abbrev looked : Entry
+    looked = entry_of log s.number (kind.Looked s.number line)
+
+    pub looked_lines : lines_in later t ≡ lines_in log s ++ line ∷ []
+    looked_lines =
+        (λ i. lines_with (number i) later ((work ∙ nothing_noted) i)) ∙ append-nil (lines_of s.number later)
+        ∙ ap (lines_of s.number) is ∙ (looked_adds read_line log s.number line _ refl).0
+        ∙ ap (λ l. l ++ line ∷ []) (sym (ap (lines_with s.number log) nothing_noted ∙ append-nil (lines_of s.number log)))
+
+    pub looked_texts : (all : List ℕ) → IsToldIn log s all → IsToldIn later t (all ++ text)
+    looked_texts all b = told_alone later t s.number (all ++ text) number (work ∙ nothing_noted) (subst (λ l. IsTold read_line s.number l (all ++ text)) (sym is) (by told)) where
+      before : IsTold read_line s.number log all
+      before = told_of_none log s all nothing_noted b
+
+      by : IsShownAs x text → IsTold read_line s.number (log ++ looked ∷ []) (all ++ text)
+      by (inl k) =
+          let same = k.2 ∙ ap (reply_text None) (shown_is_told room (after read_line log) stands s.number line x look k.0 k.1) in
+          subst (λ l. IsTold read_line s.number (log ++ looked ∷ []) (all ++ l)) (sym same) ((looked_adds read_line log s.number line looked refl).1 all before)
+      by (inr e) = subst (λ l. IsTold read_line s.number (log ++ looked ∷ []) (all ++ l)) (sym e) ((looked_adds read_line log s.number line looked refl).2 all before)
+
+    looked_state : after read_line later ≡ after read_line log
+    looked_state = ap (after read_line) is ∙ after-append read_line log (looked ∷ []) ∙ only_looks room (after read_line log) stands s.number line x look
+
+    pub looked_open : (places : List ℕ) → places ≡ own ++ length log ∷ [] → IsSeated later places t
+    looked_open places more = record {
+      holds = subst (Holds read_line later places) (sym number) (holds_then _ later places is more (subst (λ (st : State). IsOpen st s.number) (sym looked_state) seated.holds.0));
+      works = subst (λ (z : List Note × Option Client). WorksIf later t.number z.0 z.1) (λ i. (sym (work ∙ nothing_noted) i, sym lent i)) refl;
+    }
+
   module _ (later : List Entry) (is : later ≡ log ++ left_entry log s.number s.work.items ∷ []) where
     pub left_lines : lines_of s.number later ≡ lines_in log s
     left_lines = ap (lines_of s.number) is ∙ (left_adds read_line log s.number (work_of s) _ refl).0
 
-    pub left_texts : texts_of read_line s.number later ≡ texts_in log s
-    left_texts = ap (texts_of read_line s.number) is ∙ (left_adds read_line log s.number (work_of s) _ refl).1
+    pub left_texts : (all : List ℕ) → IsToldIn log s all → IsTold read_line s.number later all
+    left_texts all b = subst (λ l. IsTold read_line s.number l all) (sym is) ((left_adds read_line log s.number (work_of s) _ refl).1 all b)
 
     pub left_over : IsShut (after read_line later) s.number
     left_over = subst (λ (st : State). IsShut st s.number) (sym (ap (after read_line) is ∙ left_state log s.number (work_of s)))
@@ -247,8 +305,9 @@ module _ (log : List Entry) (own : List ℕ) (s : Seat) (seated : IsSeated log o
     pub noted_lines : lines_in log t ≡ lines_in log s ++ line ∷ []
     noted_lines = (λ i. lines_with (m.number i) log (m.work i)) ∙ lines_more log s.number (work_of s) noted m.before m.now text there m.told
 
-    pub noted_texts : texts_in log t ≡ texts_in log s ++ text
-    noted_texts = (λ i. texts_with read_line (m.number i) log (m.work i)) ∙ texts_more log s.number (work_of s) noted m.before m.now text there m.told
+    pub noted_texts : (all : List ℕ) → IsToldIn log s all → IsToldIn log t (all ++ text)
+    noted_texts all b = subst (λ (z : ℕ × List Note). IsToldWith read_line z.0 log z.1 (all ++ text)) (λ i. (sym m.number i, sym m.work i))
+        (texts_more log s.number (work_of s) noted m.before m.now text there m.told all b)
 
 -- ---- passes
 
@@ -283,10 +342,10 @@ is_new old new room log n right stands numbered is own = record {
   adds = adds_one_more_new;
   holds = subst (λ (z : List Entry × List ℕ). Holds read_line z.0 z.1 n) (λ i. (sym is i, sym own i)) all.0;
   lines = ap (lines_of n) is ∙ all.2;
-  texts = ap (texts_of read_line n) is ∙ all.3;
+  texts = subst (λ l. IsTold read_line n l []) (sym is) all.3;
 } where
   all : Holds read_line (log ++ opening_entry log ∷ []) (places old ++ length log ∷ []) n × HasRoot (log ++ opening_entry log ∷ []) n (length log)
-      × (lines_of n (log ++ opening_entry log ∷ []) ≡ []) × (texts_of read_line n (log ++ opening_entry log ∷ []) ≡ [])
+      × (lines_of n (log ++ opening_entry log ∷ []) ≡ []) × IsTold read_line n (log ++ opening_entry log ∷ []) []
   all = opened_new read_line log (places old) n right (numbered (after read_line log) stands)
 
   adds_one_more_new : Adds n old new
@@ -318,7 +377,7 @@ module _ {X : Type 0} (hall : Turnstile X Entry) (old : Pass X Entry) (turn : Tu
 
   module _ (s : Seat) (seated : IsSeated (history old) (places old) s) (right : AllRight (IsRight read_line) log_of)
       (away : NoRootsFrom (λ (x : Entry). x.root) log_of (length (history old)) (places old)) where
-    found : IsSeated log_of (places old) s × (lines_in log_of s ≡ lines_in (history old) s) × (texts_in log_of s ≡ texts_in (history old) s)
+    found : IsSeated log_of (places old) s × (lines_in log_of s ≡ lines_in (history old) s) × ((text : List ℕ) → IsToldIn (history old) s text → IsToldIn log_of s text)
     found = seat_found (history old) log_of (places old) s seated front right away
 
     pub ended_asked : (line text : List ℕ) (room next_room : Hall) (is_open : Bool) (now : Option Client) (t : Seat) → e ≡ asked_entry log_of s.number s.work.items line
@@ -333,7 +392,7 @@ module _ {X : Type 0} (hall : Turnstile X Entry) (old : Pass X Entry) (turn : Tu
           seated = λ o. asked_open log_of (places old) s found.0 line (history new) is room next_room text is_open stands answered now t number lent none o (by_room o) (places new) own_more;
           over = λ o. asked_over log_of (places old) s found.0 line (history new) is room next_room text is_open stands answered now t number lent none o;
           lines = asked_lines log_of (places old) s found.0 line (history new) is room next_room text is_open stands answered now t number lent none ∙ ap (λ l. l ++ line ∷ []) found.1;
-          texts = asked_texts log_of (places old) s found.0 line (history new) is room next_room text is_open stands answered now t number lent none ∙ ap (λ l. l ++ text) found.2;
+          texts = λ all b. asked_texts log_of (places old) s found.0 line (history new) is room next_room text is_open stands answered now t number lent none all (found.2 all b);
         }
 
     pub ended_refused : (line text : List ℕ) (t : Seat) → e ≡ entry_of log_of s.number (kind.Refused s.number line) → text ≡ memory_text → s.lent ≡ None
@@ -347,7 +406,21 @@ module _ {X : Type 0} (hall : Turnstile X Entry) (old : Pass X Entry) (turn : Tu
           seated = λ o. refused_open log_of (places old) s found.0 line (history new) is text told in_room t number lent work (places new) own_more;
           over = λ o. cc;
           lines = refused_lines log_of (places old) s found.0 line (history new) is text told in_room t number lent work ∙ ap (λ l. l ++ line ∷ []) found.1;
-          texts = refused_texts log_of (places old) s found.0 line (history new) is text told in_room t number lent work ∙ ap (λ l. l ++ text) found.2;
+          texts = λ all b. refused_texts log_of (places old) s found.0 line (history new) is text told in_room t number lent work all (found.2 all b);
+        }
+
+    pub ended_looked : (line text : List ℕ) (room : Hall) (x : Looking) (t : Seat) → e ≡ entry_of log_of s.number (kind.Looked s.number line) → StandsFor room (after read_line log_of)
+        → IsLookOf room s.number line x → IsShownAs x text → s.lent ≡ None → t.number ≡ s.number → t.lent ≡ None → work_of t ≡ work_of s → Asks hall line text old new s t true
+    ended_looked line text room x t this stands look told in_room number lent work =
+        let is = ended.seen ∙ ap (λ x. log_of ++ x ∷ []) this in
+        record {
+          sees = ended_sees;
+          adds = ended_adds s.number (subst (λ (x : Entry). IsKindOf s.number (log_of ++ e ∷ []) (length log_of) x.kind) (sym this) refl);
+          number = number;
+          seated = λ o. looked_open log_of (places old) s found.0 line (history new) is room stands x look text told in_room t number lent work (places new) own_more;
+          over = λ o. cc;
+          lines = looked_lines log_of (places old) s found.0 line (history new) is room stands x look text told in_room t number lent work ∙ ap (λ l. l ++ line ∷ []) found.1;
+          texts = λ all b. looked_texts log_of (places old) s found.0 line (history new) is room stands x look text told in_room t number lent work all (found.2 all b);
         }
 
     module _ (this : e ≡ left_entry log_of s.number s.work.items) where
@@ -360,8 +433,8 @@ module _ {X : Type 0} (hall : Turnstile X Entry) (old : Pass X Entry) (turn : Tu
       pub ended_left_lines : lines_of s.number (history new) ≡ lines_in (history old) s
       ended_left_lines = left_lines log_of (places old) s found.0 (history new) left_is ∙ found.1
 
-      pub ended_left_texts : texts_of read_line s.number (history new) ≡ texts_in (history old) s
-      ended_left_texts = left_texts log_of (places old) s found.0 (history new) left_is ∙ found.2
+      pub ended_left_texts : (all : List ℕ) → IsToldIn (history old) s all → IsTold read_line s.number (history new) all
+      ended_left_texts all b = left_texts log_of (places old) s found.0 (history new) left_is all (found.2 all b)
 
       pub ended_left_over : IsShut (after read_line (history new)) s.number
       ended_left_over = left_over log_of (places old) s found.0 (history new) left_is
@@ -393,7 +466,7 @@ module _ {X : Type 0} (hall : Turnstile X Entry) (old : Pass X Entry) (turn : Tu
         seated = λ o. subst (λ (z : List Entry × List ℕ). IsSeated z.0 z.1 t) (λ i. (sym ended.seen i, sym own i)) (noted_seat (history (pass_of turn)) (places old) s found.0 line text t m);
         over = λ o. cc;
         lines = ap (λ l. lines_in l t) ended.seen ∙ noted_lines (history (pass_of turn)) (places old) s found.0 line text t m ∙ ap (λ l. l ++ line ∷ []) found.1;
-        texts = ap (λ l. texts_in l t) ended.seen ∙ noted_texts (history (pass_of turn)) (places old) s found.0 line text t m ∙ ap (λ l. l ++ text) found.2;
+        texts = λ all b. subst (λ l. IsToldIn l t (all ++ text)) (sym ended.seen) (noted_texts (history (pass_of turn)) (places old) s found.0 line text t m all (found.2 all b));
       }
 
 -- ---- a line that took no turn

@@ -1,5 +1,5 @@
 -- What the work of a lent session comes to: in states, in rooms, and in longer histories.
-use Rattle.std.proofs.Common.{◌≡◌, ℕ, Bool, true, false, List, [], ◌∷◌, ◌++◌, ◌∙◌, refl, sym, ap, subst, cond, Option, Some, None}
+use Rattle.std.proofs.Common.{◌≡◌, ℕ, Bool, true, false, List, [], ◌∷◌, ◌++◌, ◌∙◌, refl, sym, ap, subst, cond, Option, Some, None, inl, inr}
 use Rattle.std.specs.Prelude.{◌==◌, not, option_to_list}
 use Rattle.std.proofs.lemmas.List.{append_assoc, append-nil, map-append}
 use mathlib.Core.List.{IsPrefix}
@@ -11,6 +11,7 @@ use Rattle.ifdb_model.specs.Step.{Outcome, tells, ask}
 use Rattle.ifdb_model.specs.Run.{State, Step, session_of, outcome_of, with_outcome, asks, refused, next, run}
 use Rattle.ifdb_db.specs.Client.{Open, Client, session_at, txn_at}
 use Rattle.ifdb_db.specs.Lent.{IsLabelInside, IsLent, GoesOn, Answers, with_client}
+use Rattle.ifdb_db.specs.Looks.{Looking, Shows}
 use Rattle.ifdb_db.specs.Reading.{read_line}
 use Rattle.ifdb_db.specs.Room.{Hall, IsOver, StandsFor, client_in}
 use Rattle.ifdb_db.proofs.Lending.{goes_itself, goes_further, over_further, put_there, put_twice, put_itself, stands_answered, client_is_that}
@@ -18,9 +19,10 @@ use Rattle.ifdb_db.proofs.RoomLaws.{at_open, over_at, over_more, same_session}
 use Rattle.ifdb_history.specs.declared.entry.Entry.{Entry}
 use Rattle.ifdb_history.specs.declared.entry.Note.{Note}
 use Rattle.ifdb_history.specs.History.{note_step, work_steps, after, IsWork}
-use Rattle.ifdb_history.specs.Lines.{work_lines, lines_of, told_in, texts_of, lines_with, texts_with}
+use Rattle.ifdb_history.specs.Lines.{work_lines, lines_of, told_in, lines_with, IsTold, IsToldWith}
 use Rattle.ifdb_history.proofs.Flat.{told_in-append}
-use Rattle.ifdb_session.specs.Seats.{IsToldAs, IsWorked, Works, WorksIf, IsLentIf}
+use Rattle.ifdb_session.specs.Seats.{work_of, IsToldIn, IsToldAs, IsWorked, Works, WorksIf, IsLentIf, IsShownAs}
+use Rattle.ifdb_session.specs.declared.seat.Seat.{Seat}
 use Rattle.ifdb_session.specs.Turns.{with_lent, MayBeBack, IsLentBy, memory_text}
 use Rattle.ifdb_session.proofs.Counting.{session_after}
 
@@ -84,6 +86,11 @@ pub told_as : (line : List ℕ) (c e : Client) (r : Reply) (text : List ℕ) (is
     → (is_told ≡ false → text ≡ memory_text) → (is_told ≡ false → IsUnbounded r) → IsToldAs (not is_told) line c e text
 told_as line c e r text true a so none long = (r, a, so refl)
 told_as line c e r text false a so none long = (a.still (long refl), none refl)
+
+-- so it is with a look's
+pub shown_as : (x : Looking) (r : Reply) (text : List ℕ) (is_told : Bool) → Shows x r → (is_told ≡ true → text ≡ reply_text None r) → (is_told ≡ false → text ≡ memory_text) → IsShownAs x text
+shown_as x r text true s so none = inl (r, s, so refl)
+shown_as x r text false s so none = inr (none refl)
 
 -- what it is told by all of its work
 abbrev pub texts_told : (work : List Note) (c e : Client) → IsWorked work c e → List ℕ
@@ -242,11 +249,30 @@ module _ (h : List Entry) (n : ℕ) (work : List Note) (x : Note) (c e : Client)
   pub lines_more : lines_with n h (work ++ x ∷ []) ≡ lines_with n h work ++ x.line ∷ []
   lines_more = ap (λ l. lines_of n h ++ l) (map-append (λ (z : Note). z.line) work (x ∷ [])) ∙ sym (append_assoc (lines_of n h) (work_lines work) (x.line ∷ []))
 
-  pub texts_more : texts_with read_line n h (work ++ x ∷ []) ≡ texts_with read_line n h work ++ text
-  texts_more =
-      let st = run read_line (after read_line h) (work_steps n work) in
-      let one = note_leaves st n x c e text (work_here n (after read_line h) work w.begun c (works_here h n work c w) w.worked) t in
-      ap (λ l. texts_of read_line n h ++ told_in read_line n (after read_line h) l) (map-append (note_step n) work (x ∷ []))
-      ∙ ap (λ l. texts_of read_line n h ++ l) (told_in-append read_line n (after read_line h) (work_steps n work) (note_step n x ∷ [])
-      ∙ ap (λ l. told_in read_line n (after read_line h) (work_steps n work) ++ l) one.told)
-      ∙ sym (append_assoc (texts_of read_line n h) (told_in read_line n (after read_line h) (work_steps n work)) text)
+  pub texts_more : (all : List ℕ) → IsToldWith read_line n h work all → IsToldWith read_line n h (work ++ x ∷ []) (all ++ text)
+  texts_more all b = (
+    b.0,
+    b.1,
+    ap (λ l. l ++ text) b.2 ∙ append_assoc b.0 (told_in read_line n (after read_line h) (work_steps n work)) text ∙ ap (λ l. b.0 ++ l) (sym worked),
+  ) where
+    worked : told_in read_line n (after read_line h) (work_steps n (work ++ x ∷ [])) ≡ told_in read_line n (after read_line h) (work_steps n work) ++ text
+    worked =
+        let st = run read_line (after read_line h) (work_steps n work) in
+        let one = note_leaves st n x c e text (work_here n (after read_line h) work w.begun c (works_here h n work c w) w.worked) t in
+        ap (told_in read_line n (after read_line h)) (map-append (note_step n) work (x ∷ []))
+        ∙ told_in-append read_line n (after read_line h) (work_steps n work) (note_step n x ∷ [])
+        ∙ ap (λ l. told_in read_line n (after read_line h) (work_steps n work) ++ l) one.told
+
+-- ---- a seat without work
+
+pub told_alone : (h : List Entry) (t : Seat) (n : ℕ) (text : List ℕ) → t.number ≡ n → work_of t ≡ [] → IsTold read_line n h text → IsToldIn h t text
+told_alone h t n text number none told = (
+  text,
+  subst (λ m. IsTold read_line m h text) (sym number) told,
+  sym (ap (λ ws. text ++ told_in read_line t.number (after read_line h) (work_steps t.number ws)) none ∙ append-nil text),
+)
+
+pub told_of_none : (h : List Entry) (s : Seat) (text : List ℕ) → work_of s ≡ [] → IsToldIn h s text → IsTold read_line s.number h text
+told_of_none h s text none t =
+    let same = t.2 ∙ ap (λ ws. t.0 ++ told_in read_line s.number (after read_line h) (work_steps s.number ws)) none ∙ append-nil t.0 in
+    subst (IsTold read_line s.number h) (sym same) t.1

@@ -12,7 +12,7 @@ use Rattle.ifdb_db.specs.Reading.{read_line}
 use Rattle.ifdb_session.specs.Passes.{Adds}
 use Rattle.ifdb_history.specs.declared.entry.Entry.{Entry}
 use Rattle.ifdb_history.specs.History.{after, IsShut, HasRoot}
-use Rattle.ifdb_history.specs.Lines.{lines_of, texts_of}
+use Rattle.ifdb_history.specs.Lines.{lines_of, IsTold}
 use Rattle.ifdb_session.specs.declared.ending.Ending.{Ending}
 use Rattle.ifdb_session.specs.declared.ending.Ending.TheVariants as ends
 
@@ -62,7 +62,8 @@ Ends ends.OutOfMemory limit lines texts s = ⊥
 
 -- a link was served by session n of this history, which is over
 abbrev pub IsServed : Ending → ℕ → ℕ → List Entry → Span → Type 0
-IsServed ending limit n h s = IsShut (after read_line h) n × Ends ending limit (lines_of n h) (texts_of read_line n h) s
+IsServed ending limit n h s =
+    IsShut (after read_line h) n × ((texts : List ℕ) × IsTold read_line n h texts × Ends ending limit (lines_of n h) texts s)
 
 -- What the service of a link did to the pass, where it opened session n: that was its first turn, and each of its turns was the
 -- session's.

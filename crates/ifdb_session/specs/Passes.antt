@@ -7,9 +7,9 @@ use Rattle.ifdb_turn.specs.Passes.{history, places, shares, BelongsTo, IsOrderly
 use Rattle.ifdb_db.specs.Reading.{read_line}
 use Rattle.ifdb_history.specs.declared.entry.Entry.{Entry}
 use Rattle.ifdb_history.specs.History.{HasRoot, IsRight, Holds, AreEntriesOf}
-use Rattle.ifdb_history.specs.Lines.{lines_of, texts_of}
+use Rattle.ifdb_history.specs.Lines.{lines_of, IsTold}
 use Rattle.ifdb_session.specs.declared.seat.Seat.{Seat}
-use Rattle.ifdb_session.specs.Seats.{lines_in, texts_in, IsSeated, IsGone}
+use Rattle.ifdb_session.specs.Seats.{lines_in, IsToldIn, IsSeated, IsGone}
 
 module _ {X : Type 0} where
   -- the pass has seen more, in order, and has its shares still
@@ -33,7 +33,7 @@ module _ {X : Type 0} where
     pub adds : Adds n old new
     pub holds : Holds read_line (history new) (places new) n
     pub lines : lines_of n (history new) ≡ []
-    pub texts : texts_of read_line n (history new) ≡ []
+    pub texts : IsTold read_line n (history new) []
 
   -- the session of a seat was asked a line and told a text, and it is open still, or over
   pub record Asks (hall : Turnstile X Entry) (line text : List ℕ) (old new : Pass X Entry) (s t : Seat) (is_open : Bool) : Type 0 where
@@ -43,4 +43,4 @@ module _ {X : Type 0} where
     pub seated : is_open ≡ true → IsSeated (history new) (places new) t
     pub over : is_open ≡ false → IsGone (history new) t
     pub lines : lines_in (history new) t ≡ lines_in (history old) s ++ line ∷ []
-    pub texts : texts_in (history new) t ≡ texts_in (history old) s ++ text
+    pub texts : (before : List ℕ) → IsToldIn (history old) s before → IsToldIn (history new) t (before ++ text)

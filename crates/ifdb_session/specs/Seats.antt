@@ -1,6 +1,6 @@
 -- A session as its connection has it: in the room, or lent; then with the work of its transaction, which no turn has brought
 -- along yet.
-use Rattle.std.specs.Prelude.{◌≡◌, ℕ, Bool, true, false, List, [], ◌∷◌, ◌++◌, map, Option, Some, None}
+use Rattle.std.specs.Prelude.{◌≡◌, ◌⊎◌, ℕ, Bool, true, false, List, [], ◌∷◌, ◌++◌, map, Option, Some, None}
 use Rattle.ifdb_io.specs.Lines.{Reading}
 use Rattle.ifdb_wire.specs.declared.reply.Reply.{Reply}
 use Rattle.ifdb_wire.specs.Text.{reply_text}
@@ -9,9 +9,10 @@ use Rattle.ifdb_history.specs.declared.entry.Entry.{Entry}
 use Rattle.ifdb_history.specs.declared.entry.Kind.TheVariants as kind
 use Rattle.ifdb_history.specs.declared.entry.Note.{Note}
 use Rattle.ifdb_history.specs.History.{after, entry_of, Holds, IsShut}
-use Rattle.ifdb_history.specs.Lines.{lines_with, texts_with}
+use Rattle.ifdb_history.specs.Lines.{lines_with, IsToldWith}
 use Rattle.ifdb_db.specs.Client.{Client, session_at}
 use Rattle.ifdb_db.specs.Lent.{IsLent, Answers}
+use Rattle.ifdb_db.specs.Looks.{Looking, Shows}
 use Rattle.ifdb_db.specs.Reading.{read_line}
 use Rattle.ifdb_db.specs.Room.{IsOver}
 use Rattle.ifdb_session.specs.Turns.{memory_text}
@@ -32,9 +33,9 @@ work_of s = notes s.work.items
 abbrev pub lines_in : List Entry → Seat → List (List ℕ)
 lines_in h s = lines_with s.number h (work_of s)
 
--- and the bytes that it was told
-abbrev pub texts_in : List Entry → Seat → List ℕ
-texts_in h s = texts_with read_line s.number h (work_of s)
+-- and it was told these bytes
+abbrev pub IsToldIn : List Entry → Seat → List ℕ → Type 0
+IsToldIn h s text = IsToldWith read_line s.number h (work_of s) text
 
 -- ---- the entries of a turn that brings work along
 
@@ -108,3 +109,9 @@ pub record Notes (line : List ℕ) (old new : Seat) (text : List ℕ) : Type 0 w
 abbrev pub IsAskedAlone : List ℕ → Seat → Seat → List ℕ → Bool → Type 0
 IsAskedAlone line old new text true = Notes line old new text
 IsAskedAlone line old new text false = new ≡ old
+
+-- ---- a look
+
+-- it was answered with this text, or there was no memory for the answer
+abbrev pub IsShownAs : Looking → List ℕ → Type 0
+IsShownAs x text = ((r : Reply) × Shows x r × (text ≡ reply_text None r)) ⊎ (text ≡ memory_text)

@@ -3,7 +3,7 @@ use Rattle.std.specs.Prelude.{◌≡◌, ℕ, Bool, true, false, List, ◌++◌,
 use Rattle.ifdb_io.specs.Lines.{Reading}
 use Rattle.ifdb_history.specs.declared.entry.Entry.{Entry}
 use Rattle.ifdb_session.specs.Links.{Span, Took, Wrote, bytes_of, Ends}
-use Rattle.ifdb_session.specs.Seats.{lines_in, texts_in, IsSeated, IsGone}
+use Rattle.ifdb_session.specs.Seats.{lines_in, IsToldIn, IsSeated, IsGone}
 use Rattle.ifdb_session.specs.declared.link.Talked.{Talked}
 use Rattle.ifdb_session.specs.declared.seat.Seat.{Seat}
 
@@ -23,4 +23,9 @@ IsLeftSo h own seat false = IsGone h seat
 -- the lines of a seat's session ended so
 abbrev pub IsTalked : List Entry → List ℕ → Seat → ℕ → Span → Talked → Type 0
 IsTalked h own seat limit s talked =
-    Ends talked.ending limit (lines_in h seat) (texts_in h seat) s × IsLeftSo h own seat talked.is_open
+    ((texts : List ℕ) × IsToldIn h seat texts × Ends talked.ending limit (lines_in h seat) texts s)
+    × IsLeftSo h own seat talked.is_open
+
+-- the lines of a seat's session were taken, and what it was told was written
+abbrev pub IsTalking : List Entry → Seat → Reading → Span → Type 0
+IsTalking h seat reader s = (texts : List ℕ) × IsToldIn h seat texts × Talks (lines_in h seat) texts reader s

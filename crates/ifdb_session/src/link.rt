@@ -7,7 +7,7 @@ ghost use Rattle.ifdb_wire.specs.Text.{reply_text};
 ghost use Rattle.ifdb_history.specs.History.{IsRight};
 ghost use Rattle.ifdb_db.specs.Reading.{read_line};
 ghost use Rattle.ifdb_session.specs.Passes.{Sees, Adds, Asks};
-ghost use Rattle.ifdb_session.specs.Seats.{lines_in, texts_in, IsSeated};
+ghost use Rattle.ifdb_session.specs.Seats.{lines_in, IsSeated, IsToldIn};
 ghost use Rattle.ifdb_session.specs.Links.{Served, Span};
 ghost use Rattle.ifdb_session.specs.Talk.{IsTalked};
 
@@ -96,7 +96,7 @@ fn talk<R: Wait, K: Link>(
     requires orderly { IsOrderly (IsRight read_line) pass.old }
     requires seated { IsSeated (history pass.old) (places pass.old) seat.old }
     requires no_lines { lines_in (history pass.old) seat.old ≡ [] }
-    requires no_texts { texts_in (history pass.old) seat.old ≡ [] }
+    requires no_texts { IsToldIn (history pass.old) seat.old [] }
     requires reader { reader.old ≡ record {
       text = [];
       held = [];

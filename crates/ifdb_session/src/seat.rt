@@ -1,11 +1,11 @@
-// A session as its connection has it.
+// A session as its connection has it, and what is told away from the room.
 ghost use Rattle.std.specs.Prelude.{◌≡◌, [], true, false, None};
 ghost use Rattle.ifdb_wire.specs.Text.{reply_text, IsUnbounded};
 ghost use Rattle.ifdb_db.specs.Lent.{IsLent};
-ghost use Rattle.ifdb_session.specs.Seats.{IsAskedAlone, IsAskedOf, IsLentIf};
+ghost use Rattle.ifdb_session.specs.Seats.{IsAskedAlone, IsAskedOf, IsLentIf, IsShownAs};
 ghost use Rattle.ifdb_session.specs.Turns.{memory_text};
 
-use ifdb_db::Session;
+use ifdb_db::{Look, Session};
 use ifdb_history::GhostList;
 use ifdb_io::LineReader;
 use ifdb_wire::{Fault, Out, Reply};
@@ -71,6 +71,16 @@ fn ask_lent(session: &mut Session, line: &[u8], out: &mut Out) -> Option<bool>
     };
     let is_told = tell(out, &reply);
     Some(!is_told)
+}
+
+/// Tells what a look is answered, away from the room; want of memory is told in its place.
+pub(crate) fn show(look: Look<'_>, out: &mut Out)
+    ensures { IsShownAs look.entry out.new.text }
+{
+    match look.answer() {
+        Ok(reply) => tell(out, &reply),
+        Err(_) => tell(out, &Reply::Refused(Fault::OutOfMemory)),
+    };
 }
 
 // Tells a reply on a connection. False is want of memory, which is told in its place.

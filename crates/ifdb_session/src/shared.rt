@@ -1,7 +1,8 @@
 // The room that connections share.
-ghost use Rattle.std.specs.Prelude.{◌≡◌, [], false, List, None, IfOk, IsSome, OnErr, OnOk, length};
+ghost use Rattle.std.specs.Prelude.{◌≡◌, [], false, List, None, IfErr, IfOk, IsSome, OnErr, OnOk, length};
 ghost use Rattle.ifdb_wire.specs.Text.{reply_text};
 ghost use Rattle.ifdb_model.specs.Run.{asks, leaves, opens};
+ghost use Rattle.ifdb_db.specs.Looks.{IsLookOf};
 ghost use Rattle.ifdb_db.specs.RoomSteps.{GoesBy, IsReplyTo};
 ghost use Rattle.ifdb_history.specs.declared.entry.Kind.TheVariants.{Opened as OpenedKind, Left as LeftKind};
 ghost use Rattle.ifdb_session.specs.Counts.{counts_of, IsGlance};
@@ -11,7 +12,7 @@ ghost use Rattle.ifdb_session.specs.Turns.{CountsTurn, HasCounted, IsAsked, IsNe
 
 use crate::OutOfMemory;
 use crate::counts::{Counts, Glance, counted};
-use ifdb_db::{ReadLine, Room, Session};
+use ifdb_db::{Look, ReadLine, Room, Session};
 use ifdb_history::Entry;
 use ifdb_turn::Object;
 use ifdb_wire::{Fault, Out, Reply};
@@ -93,6 +94,29 @@ impl SharedRoom {
         self.room.open_next()?;
         self.entries = counted(self.entries, true);
         Ok(self.room.sessions())
+    }
+
+    /// Takes what a SELECT outside a transaction is answered from, so that its answer can come after the turn. `Err` gives the
+    /// line back, where it is none or there is no memory, and changes nothing.
+    pub(crate) fn look<'a>(
+        &mut self,
+        n: u64,
+        lent: &Option<Session>,
+        line: ReadLine<'a>,
+    ) -> Result<Look<'a>, ReadLine<'a>>
+        ensures look { IfOk result (IsLookOf self.old.room n line.entry) }
+        ensures here { OnOk result (lent.now ≡ None) }
+        ensures room { self.new.room ≡ self.old.room }
+        ensures counted { OnOk result (HasCounted self.old self.new false false) }
+        ensures back { IfErr result (λ back. back ≡ line.entry) }
+        ensures err { OnErr result (self.new ≡ self.old) }
+    {
+        let None = lent else {
+            return Err(line);
+        };
+        let look = self.room.look(n, line)?;
+        self.entries = counted(self.entries, true);
+        Ok(look)
     }
 
     /// Asks a line for a session, which comes back if it was lent; the reply stands in `out`. Then the session is lent, if it is

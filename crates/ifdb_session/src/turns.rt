@@ -1,17 +1,17 @@
 // One turn at the shared room each: a session is opened, asks a line, or leaves.
-ghost use Rattle.std.specs.Prelude.{◌≡◌, ◌++◌, ◌∷◌, [], true, false, IfOk, OnErr, Some};
+ghost use Rattle.std.specs.Prelude.{◌≡◌, ◌++◌, ◌∷◌, [], ℕ, List, true, false, IfOk, OnErr, Some};
 ghost use Rattle.ifdb_turn.specs.Passes.{history, places, BelongsTo};
 ghost use Rattle.ifdb_turn.specs.Turns.{object_of, pass_of, IsTurn, Adds as AddsEntry};
 ghost use Rattle.ifdb_db.specs.Reading.{read_line};
 ghost use Rattle.ifdb_history.specs.History.{after, entry_of, opening_entry, IsRight, IsShut};
-ghost use Rattle.ifdb_history.specs.Lines.{lines_of, texts_of};
-ghost use Rattle.ifdb_history.specs.declared.entry.Kind.TheVariants.{Refused as RefusedKind};
+ghost use Rattle.ifdb_history.specs.Lines.{lines_of, IsTold};
+ghost use Rattle.ifdb_history.specs.declared.entry.Kind.TheVariants.{Looked as LookedKind, Refused as RefusedKind};
 ghost use Rattle.ifdb_session.specs.Standing.{StandsForHistory, root_of};
 ghost use Rattle.ifdb_session.specs.Ends.{EndsBare, EndsWith};
 ghost use Rattle.ifdb_session.specs.Passes.{Sees, Adds, Asks, IsNew};
-ghost use Rattle.ifdb_session.specs.Seats.{asked_entry, left_entry, lines_in, texts_in, IsSeated};
+ghost use Rattle.ifdb_session.specs.Seats.{asked_entry, left_entry, lines_in, IsSeated, IsToldIn};
 
-use crate::seat::Seat;
+use crate::seat::{Seat, show};
 use crate::shared::Asked;
 use crate::{OutOfMemory, SharedRoom};
 use ifdb_db::ReadLine;
@@ -43,7 +43,8 @@ pub(crate) fn open<R: Wait>(
 }
 
 /// Asks the line that a reader has taken, of a session that is open, and says whether it is open still. The line is read
-/// before the turn. A lent session comes back, and its work with it. The reply stands in `out`: where there was no memory it is error 20.
+/// before the turn, and a SELECT outside a transaction is answered after it. A lent session comes back, and its work with it.
+/// The reply stands in `out`: where there was no memory it is error 20.
 pub(crate) fn ask_in_turn<R: Wait>(
     rt: &R,
     hall: &Turnstile<SharedRoom>,
@@ -59,6 +60,14 @@ pub(crate) fn ask_in_turn<R: Wait>(
     let n = seat.number;
     let line = ReadLine::new(seat.alloc, reader.text());
     let mut turn = hall.enter(rt, pass);
+    let line = match turn.object().look(n, &seat.lent, line) {
+        Ok(look) => {
+            done_looked::<Brand>(turn, n, reader.text());
+            show(look, out);
+            return true;
+        }
+        Err(line) => line,
+    };
     match turn.object().ask(n, &mut seat.lent, line, out) {
         Asked::Open => {
             done_asked::<Brand>(turn, n, &seat.work, reader.text());
@@ -96,7 +105,8 @@ pub(crate) fn leave<R: Wait>(
     ensures adds { Adds seat.number pass.old pass.new }
     ensures over { IsShut (after read_line (history pass.new)) seat.number }
     ensures lines { lines_of seat.number (history pass.new) ≡ lines_in (history pass.old) seat }
-    ensures texts { texts_of read_line seat.number (history pass.new) ≡ texts_in (history pass.old) seat }
+    ensures texts { (text : List ℕ) → IsToldIn (history pass.old) seat text
+        → IsTold read_line seat.number (history pass.new) text }
 {
     let Seat {
         number,
@@ -139,6 +149,16 @@ fn done_asked<N: NamedEntry<Entry>>(
     requires entry { let e = asked_entry (history (pass_of turn)) n work.now.items line.now in
         (N.entry ≡ Some e) × AddsEntry StandsForHistory (IsRight read_line) root_of turn e }
     ensures { EndsWith turn.entry turn.exit.0.now (asked_entry (history (pass_of turn.entry)) n work.now.items line.now) }
+{
+    turn.done::<N>();
+}
+
+// Ends a turn in which a session asked a line that only looks.
+fn done_looked<N: NamedEntry<Entry>>(turn: Turn<'_, SharedRoom>, n: u64, line: &[u8])
+    requires turn { IsTurn turn }
+    requires entry { let e = entry_of (history (pass_of turn)) n (LookedKind n line.now) in
+        (N.entry ≡ Some e) × AddsEntry StandsForHistory (IsRight read_line) root_of turn e }
+    ensures { EndsWith turn.entry turn.exit.0.now (entry_of (history (pass_of turn.entry)) n (LookedKind n line.now)) }
 {
     turn.done::<N>();
 }

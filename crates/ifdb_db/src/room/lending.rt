@@ -1,13 +1,15 @@
-// Sessions that a room lends, and takes back.
+// Sessions that a room lends, and takes back; and what is looked at away from it.
 ghost use Rattle.std.specs.Prelude.{◌≡◌, None, IfErr, IfOk, IfSome, IsTrue, OnErr, OnOk};
 ghost use Rattle.ifdb_wire.specs.Text.{reply_text};
 ghost use Rattle.ifdb_model.specs.Run.{asks, leaves};
 ghost use Rattle.ifdb_db.specs.Kept.{IsKept};
 ghost use Rattle.ifdb_db.specs.Lent.{IsLent, MayComeBack, with_client};
+ghost use Rattle.ifdb_db.specs.Looks.{IsLookOf, IsSightOf};
 ghost use Rattle.ifdb_db.specs.Room.{client_in};
 ghost use Rattle.ifdb_db.specs.RoomSteps.{GoesBy, IsReplyTo};
 
 use super::{Room, say};
+use crate::look::{Look, Sight};
 use crate::reading::ReadLine;
 use crate::session::Session;
 use ifdb_wire::{Fault, Out, Reply};
@@ -25,6 +27,31 @@ impl Room {
             return None;
         }
         self.sessions[(n - 1) as usize].lend()
+    }
+
+    /// A SELECT of an open session outside a transaction, with all that its answer takes. `Err` gives the line back: it is no
+    /// SELECT, or the session isn't such a one or didn't say HELLO, or there is no memory.
+    pub fn look<'a>(&self, n: u64, line: ReadLine<'a>) -> Result<Look<'a>, ReadLine<'a>>
+        ensures look { IfOk result (IsLookOf self.now n line.entry) }
+        ensures back { IfErr result (λ back. back ≡ line.entry) }
+    {
+        let line = line.into_select()?;
+        line.is_sound();
+        match self.sight(n) {
+            Some(sight) => Ok(Look { line, sight }),
+            None => Err(ReadLine::from(line)),
+        }
+    }
+
+    /// What a session sees, if it is open, said HELLO and has no transaction; `None` too where there is no memory.
+    fn sight(&self, n: u64) -> Option<Sight>
+        ensures { IfSome result (IsSightOf self.now n) }
+    {
+        self.is_sound();
+        if !self.is_open(n) {
+            return None;
+        }
+        self.db.sight(&self.sessions[(n - 1) as usize])
     }
 
     /// Takes a lent session back, asks a line for it, and tells the reply on a connection. `Err` is want of memory, which

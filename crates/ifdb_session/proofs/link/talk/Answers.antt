@@ -1,9 +1,9 @@
-use Rattle.std.proofs.Common.{rules, ◌≡◌, subst, ◌∙◌}
+use Rattle.std.proofs.Common.{rules, ◌≡◌, ◌++◌, refl, subst, ◌∙◌}
 use Rattle.ifdb_turn.specs.Passes.{history, places}
 use Rattle.ifdb_session.specs.Passes.{Adds}
-use Rattle.ifdb_session.specs.Seats.{lines_in, texts_in}
+use Rattle.ifdb_session.specs.Seats.{lines_in}
 use Rattle.ifdb_session.proofs.Passes.{sees_on, adds_on, left_so}
-use Rattle.ifdb_session.proofs.Endings.{goes_on, ends_by_bye, ends_unwritten, ends_too_long, ends_too_long_unwritten, ends_unread, ends_past_limit}
+use Rattle.ifdb_session.proofs.Endings.{goes_on, ends_by_bye, ends_at_end, ends_unwritten, ends_too_long, ends_too_long_unwritten, ends_unread, ends_past_limit}
 use Rattle.ifdb_session.proofs.link.talk.Goals as goal
 
 pub loop-pass-preserved : goal.loop-pass-preserved
@@ -17,9 +17,13 @@ loop-pass-preserved g c =
       number = e.number ∙ i.number;
       seated = e.seated (search rules);
       limit = search rules;
-      talks = goes_on 0 (lines_in (history c.loop-pass.pass) c.loop-pass.seat) (texts_in (history c.loop-pass.pass) c.loop-pass.seat) c.loop-pass.reader c.next.new.self _ _ _ _ _ _ i.talks written
-          (lines_in (history c.answer-answered.new.pass) c.answer-answered.new.seat) (texts_in (history c.answer-answered.new.pass) c.answer-answered.new.seat) c.answer-answered.new.out.text _ _ c.answer-answered.ensures.left (c.next.ensures.whole (search rules)) e.lines e.texts (c.answer-answered.ensures.written (search rules))
-          (search rules) (c.next.ensures.whole_kept (search rules));
+      talks = (
+        i.talks.0 ++ c.answer-answered.new.out.text,
+        e.texts i.talks.0 i.talks.1,
+        goes_on 0 (lines_in (history c.loop-pass.pass) c.loop-pass.seat) i.talks.0 c.loop-pass.reader c.next.new.self _ _ _ _ _ _ i.talks.2 written
+            (lines_in (history c.answer-answered.new.pass) c.answer-answered.new.seat) (i.talks.0 ++ c.answer-answered.new.out.text) c.answer-answered.new.out.text _ _ c.answer-answered.ensures.left (c.next.ensures.whole (search rules)) e.lines refl (c.answer-answered.ensures.written (search rules))
+            (search rules) (c.next.ensures.whole_kept (search rules)),
+      );
       reads = search rules;
       writes = search rules;
     }
@@ -47,8 +51,12 @@ returns-then-not-answered-clause-talked g c =
     let i = c.loop-pass.invariant in
     let e = c.answer-answered.ensures.asks in
     let written : g.K.Sink.written c.next.new.source ≡ g.K.Sink.written c.loop-pass.link = search rules in (
-      ends_unwritten c.args.reader.now.limit (lines_in (history c.loop-pass.pass) c.loop-pass.seat) (texts_in (history c.loop-pass.pass) c.loop-pass.seat) c.loop-pass.reader c.next.new.self _ _ _ _ _ _ i.talks written
-          (lines_in (history c.answer-answered.new.pass) c.answer-answered.new.seat) (texts_in (history c.answer-answered.new.pass) c.answer-answered.new.seat) c.answer-answered.new.out.text _ _ c.answer-answered.ensures.left (c.next.ensures.whole (search rules)) e.lines e.texts (c.answer-answered.ensures.unwritten (search rules)),
+      (
+        i.talks.0 ++ c.answer-answered.new.out.text,
+        e.texts i.talks.0 i.talks.1,
+        ends_unwritten c.args.reader.now.limit (lines_in (history c.loop-pass.pass) c.loop-pass.seat) i.talks.0 c.loop-pass.reader c.next.new.self _ _ _ _ _ _ i.talks.2 written
+            (lines_in (history c.answer-answered.new.pass) c.answer-answered.new.seat) (i.talks.0 ++ c.answer-answered.new.out.text) c.answer-answered.new.out.text _ _ c.answer-answered.ensures.left (c.next.ensures.whole (search rules)) e.lines refl (c.answer-answered.ensures.unwritten (search rules)),
+      ),
       left_so (history c.answer-answered.new.pass) (places c.answer-answered.new.pass) c.answer-answered.new.seat c.answer-answered.result.is_open e.seated e.over,
     )
 
@@ -57,9 +65,13 @@ returns-then-not-is_open-clause-talked g c =
     let i = c.loop-pass.invariant in
     let e = c.answer-answered.ensures.asks in
     let written : g.K.Sink.written c.next.new.source ≡ g.K.Sink.written c.loop-pass.link = search rules in (
-      ends_by_bye c.args.reader.now.limit (lines_in (history c.loop-pass.pass) c.loop-pass.seat) (texts_in (history c.loop-pass.pass) c.loop-pass.seat) c.loop-pass.reader c.next.new.self _ _ _ _ _ _ i.talks written
-          (lines_in (history c.answer-answered.new.pass) c.answer-answered.new.seat) (texts_in (history c.answer-answered.new.pass) c.answer-answered.new.seat) c.answer-answered.new.out.text _ _ c.answer-answered.ensures.left (c.next.ensures.whole (search rules)) e.lines e.texts (c.answer-answered.ensures.written (search rules))
-          (search rules) (c.next.ensures.whole_kept (search rules)),
+      (
+        i.talks.0 ++ c.answer-answered.new.out.text,
+        e.texts i.talks.0 i.talks.1,
+        ends_by_bye c.args.reader.now.limit (lines_in (history c.loop-pass.pass) c.loop-pass.seat) i.talks.0 c.loop-pass.reader c.next.new.self _ _ _ _ _ _ i.talks.2 written
+            (lines_in (history c.answer-answered.new.pass) c.answer-answered.new.seat) (i.talks.0 ++ c.answer-answered.new.out.text) c.answer-answered.new.out.text _ _ c.answer-answered.ensures.left (c.next.ensures.whole (search rules)) e.lines refl (c.answer-answered.ensures.written (search rules))
+            (search rules) (c.next.ensures.whole_kept (search rules)),
+      ),
       left_so (history c.answer-answered.new.pass) (places c.answer-answered.new.pass) c.answer-answered.new.seat c.answer-answered.result.is_open e.seated e.over,
     )
 
@@ -67,8 +79,12 @@ pub returns-in-Ok-clause-talked : goal.returns-in-Ok-clause-talked
 returns-in-Ok-clause-talked g c =
     let i = c.loop-pass.invariant in
     let written : g.K.Sink.written c.next.new.source ≡ g.K.Sink.written c.loop-pass.link = search rules in (
-      ends_too_long c.args.reader.now.limit (lines_in (history c.loop-pass.pass) c.loop-pass.seat) (texts_in (history c.loop-pass.pass) c.loop-pass.seat) c.loop-pass.reader c.next.new.self _ _ _ _ _ _ i.talks written
-          _ _ c.refuse_long.ensures.left (c.next.ensures.long (search rules)) (c.next.ensures.long_line (search rules)) (search rules),
+      (
+        i.talks.0,
+        i.talks.1,
+        ends_too_long c.args.reader.now.limit (lines_in (history c.loop-pass.pass) c.loop-pass.seat) i.talks.0 c.loop-pass.reader c.next.new.self _ _ _ _ _ _ i.talks.2 written
+            _ _ c.refuse_long.ensures.left (c.next.ensures.long (search rules)) (c.next.ensures.long_line (search rules)) (search rules),
+      ),
       i.seated,
     )
 
@@ -76,8 +92,12 @@ pub returns-in-Err-clause-talked : goal.returns-in-Err-clause-talked
 returns-in-Err-clause-talked g c =
     let i = c.loop-pass.invariant in
     let written : g.K.Sink.written c.next.new.source ≡ g.K.Sink.written c.loop-pass.link = search rules in (
-      ends_too_long_unwritten c.args.reader.now.limit (lines_in (history c.loop-pass.pass) c.loop-pass.seat) (texts_in (history c.loop-pass.pass) c.loop-pass.seat) c.loop-pass.reader c.next.new.self _ _ _ _ _ _ i.talks written
-          _ _ c.refuse_long.ensures.left (c.next.ensures.long (search rules)) (c.next.ensures.long_line (search rules)) (search rules),
+      (
+        i.talks.0,
+        i.talks.1,
+        ends_too_long_unwritten c.args.reader.now.limit (lines_in (history c.loop-pass.pass) c.loop-pass.seat) i.talks.0 c.loop-pass.reader c.next.new.self _ _ _ _ _ _ i.talks.2 written
+            _ _ c.refuse_long.ensures.left (c.next.ensures.long (search rules)) (c.next.ensures.long_line (search rules)) (search rules),
+      ),
       i.seated,
     )
 
@@ -85,7 +105,7 @@ pub returns-in-Err-Read-clause-talked : goal.returns-in-Err-Read-clause-talked
 returns-in-Err-Read-clause-talked g c =
     let i = c.loop-pass.invariant in
     let written : g.K.Sink.written c.next.new.source ≡ g.K.Sink.written c.loop-pass.link = search rules in (
-      ends_unread c.args.reader.now.limit (lines_in (history c.loop-pass.pass) c.loop-pass.seat) (texts_in (history c.loop-pass.pass) c.loop-pass.seat) c.loop-pass.reader c.next.new.self _ _ _ _ _ _ i.talks written (c.next.ensures.read (search rules)),
+      (i.talks.0, i.talks.1, ends_unread c.args.reader.now.limit (lines_in (history c.loop-pass.pass) c.loop-pass.seat) i.talks.0 c.loop-pass.reader c.next.new.self _ _ _ _ _ _ i.talks.2 written (c.next.ensures.read (search rules))),
       i.seated,
     )
 
@@ -94,6 +114,18 @@ returns-in-Err-TooMuch-clause-talked g c =
     let i = c.loop-pass.invariant in
     let written : g.K.Sink.written c.next.new.source ≡ g.K.Sink.written c.loop-pass.link = search rules in
     let limit = c.next.ensures.limit ∙ i.limit in (
-      ends_past_limit c.args.reader.now.limit (lines_in (history c.loop-pass.pass) c.loop-pass.seat) (texts_in (history c.loop-pass.pass) c.loop-pass.seat) c.loop-pass.reader c.next.new.self _ _ _ _ _ _ i.talks written (c.next.ensures.much (search rules)) limit,
+      (i.talks.0, i.talks.1, ends_past_limit c.args.reader.now.limit (lines_in (history c.loop-pass.pass) c.loop-pass.seat) i.talks.0 c.loop-pass.reader c.next.new.self _ _ _ _ _ _ i.talks.2 written (c.next.ensures.much (search rules)) limit),
+      i.seated,
+    )
+
+pub returns-in-Ok-Rest-clause-talked : goal.returns-in-Ok-Rest-clause-talked
+returns-in-Ok-Rest-clause-talked g c =
+    let i = c.loop-pass.invariant in
+    let written : g.K.Sink.written c.next.new.source ≡ g.K.Sink.written c.loop-pass.link = search rules in (
+      (
+        i.talks.0,
+        i.talks.1,
+        ends_at_end c.args.reader.now.limit (lines_in (history c.loop-pass.pass) c.loop-pass.seat) i.talks.0 c.loop-pass.reader c.next.new.self _ _ _ _ _ _ i.talks.2 written (c.next.ensures.rest (search rules)) (c.next.ensures.rest_last (search rules)),
+      ),
       i.seated,
     )

@@ -2,8 +2,8 @@ use Rattle.std.proofs.Common.{◌≡◌, ◌≤◌}
 use Rattle.ifdb_io.specs.Lines.{budget}
 use Rattle.ifdb_turn.specs.Passes.{history, places}
 use Rattle.ifdb_session.specs.Passes.{Sees, Adds}
-use Rattle.ifdb_session.specs.Seats.{lines_in, texts_in, IsSeated}
-use Rattle.ifdb_session.specs.Talk.{Talks}
+use Rattle.ifdb_session.specs.Seats.{IsSeated}
+use Rattle.ifdb_session.specs.Talk.{IsTalking}
 use Rattle.ifdb_session.proofs.link.talk.Given as goal
 
 -- the lines that were taken were asked, and their texts were written
@@ -14,7 +14,7 @@ invariant-loop-pass g l = record {
   number : l.seat.number ≡ l.fn.seat.number;
   seated : IsSeated (history l.pass) (places l.pass) l.seat;
   limit : l.reader.limit ≡ l.fn.reader.limit;
-  talks : Talks (lines_in (history l.pass) l.seat) (texts_in (history l.pass) l.seat) l.reader (record {
+  talks : IsTalking (history l.pass) l.seat l.reader (record {
     left = g.K.Source.left l.fn.link;
     left_now = g.K.Source.left l.link;
     written = g.K.Sink.written l.fn.link;

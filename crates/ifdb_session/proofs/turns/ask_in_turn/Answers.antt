@@ -3,6 +3,7 @@ use Rattle.std.proofs.lemmas.List.{map-append}
 use Rattle.ifdb_turn.specs.Passes.{history, places}
 use Rattle.ifdb_turn.specs.Places.{times}
 use Rattle.ifdb_turn.specs.Turns.{pass_of}
+use Rattle.ifdb_db.specs.Looks.{IsLookOf}
 use Rattle.ifdb_history.specs.declared.entry.Kind.TheVariants as kind
 use Rattle.ifdb_history.specs.History.{root_in, entry_of}
 use Rattle.ifdb_session.specs.Seats.{note_of, notes, asked_entry, Notes}
@@ -10,7 +11,7 @@ use Rattle.ifdb_session.specs.Standing.{StandsForHistory}
 use Rattle.ifdb_session.specs.Turns.{IsAsked}
 use Rattle.ifdb_session.specs.declared.shared.Asked.TheVariants as asked
 use Rattle.ifdb_session.specs.declared.shared.SharedRoom.{SharedRoom}
-use Rattle.ifdb_session.proofs.Turned.{seat_found, may_be_back, may_ask, may_refuse, ended_asked, ended_refused, bare_asked}
+use Rattle.ifdb_session.proofs.Turned.{seat_found, may_be_back, may_ask, may_look, may_refuse, ended_asked, ended_looked, ended_refused, bare_asked}
 use Rattle.ifdb_session.proofs.turns.ask_in_turn.Goals as goal
 
 pub ask-requires : goal.ask-requires
@@ -18,20 +19,22 @@ ask-requires g c =
     let e = c.enter-turn.ensures in
     let s = c.args.seat.now in
     let log = history (pass_of c.enter-turn.result) in
-    let stands = subst (λ (z : SharedRoom). StandsForHistory z log) (sym c.object.ensures.value) e.stands in
+    let same = c.object-2.ensures.value ∙ c.in-Err.ensures.err ∙ c.object.ensures.value in
+    let stands = subst (λ (z : SharedRoom). StandsForHistory z log) (sym same) e.stands in
     let found = seat_found (history c.args.pass.now) log (places c.args.pass.now) s c.requires.seated e.begins e.orderly.0 e.own in
-    may_be_back log (places c.args.pass.now) s found.0 c.object.result.now c.object.result.now stands
+    may_be_back log (places c.args.pass.now) s found.0 c.object-2.result.now c.object-2.result.now stands
 
 pub done_asked-requires-clause-entry : goal.done_asked-requires-clause-entry
 done_asked-requires-clause-entry g c =
     let e = c.enter-turn.ensures in
     let s = c.args.seat.now in
     let log = history (pass_of c.enter-turn.result) in
-    let stands = subst (λ (z : SharedRoom). StandsForHistory z log) (sym c.object.ensures.value) e.stands in
+    let same = c.object-2.ensures.value ∙ c.in-Err.ensures.err ∙ c.object.ensures.value in
+    let stands = subst (λ (z : SharedRoom). StandsForHistory z log) (sym same) e.stands in
     let found = seat_found (history c.args.pass.now) log (places c.args.pass.now) s c.requires.seated e.begins e.orderly.0 e.own in
-    let line = c.new-line.ensures ∙ c.text.ensures ∙ sym c.text-in-Open.ensures in
-    let a = subst (λ l. IsAsked s.number l s.lent c.ask.new.lent c.object.result.now c.ask.new.self c.ask.new.out.text asked.Open) line c.in-Open.ensures in
-    let m = may_ask log (places c.args.pass.now) s found.0 c.object.result.now c.ask.new.self stands c.text-in-Open.result.now a.0.0 a.1 in
+    let line = c.in-Err.ensures.back ∙ c.new-line.ensures ∙ c.text.ensures ∙ sym c.text-in-Open.ensures in
+    let a = subst (λ l. IsAsked s.number l s.lent c.ask.new.lent c.object-2.result.now c.ask.new.self c.ask.new.out.text asked.Open) line c.in-Open.ensures in
+    let m = may_ask log (places c.args.pass.now) s found.0 c.object-2.result.now c.ask.new.self stands c.text-in-Open.result.now a.0.0 a.1 in
     (refl, (m.0, (m.1, inr (subst (λ l. 0 < times (root_in log s.number) l) (sym e.places) m.2))))
 
 pub done_asked-requires-in-Over-clause-entry : goal.done_asked-requires-in-Over-clause-entry
@@ -39,11 +42,12 @@ done_asked-requires-in-Over-clause-entry g c =
     let e = c.enter-turn.ensures in
     let s = c.args.seat.now in
     let log = history (pass_of c.enter-turn.result) in
-    let stands = subst (λ (z : SharedRoom). StandsForHistory z log) (sym c.object.ensures.value) e.stands in
+    let same = c.object-2.ensures.value ∙ c.in-Err.ensures.err ∙ c.object.ensures.value in
+    let stands = subst (λ (z : SharedRoom). StandsForHistory z log) (sym same) e.stands in
     let found = seat_found (history c.args.pass.now) log (places c.args.pass.now) s c.requires.seated e.begins e.orderly.0 e.own in
-    let line = c.new-line.ensures ∙ c.text.ensures ∙ sym c.text-in-Over.ensures in
-    let a = subst (λ l. IsAsked s.number l s.lent c.ask.new.lent c.object.result.now c.ask.new.self c.ask.new.out.text asked.Over) line c.in-Over.ensures in
-    let m = may_ask log (places c.args.pass.now) s found.0 c.object.result.now c.ask.new.self stands c.text-in-Over.result.now a.0.0 a.1 in
+    let line = c.in-Err.ensures.back ∙ c.new-line.ensures ∙ c.text.ensures ∙ sym c.text-in-Over.ensures in
+    let a = subst (λ l. IsAsked s.number l s.lent c.ask.new.lent c.object-2.result.now c.ask.new.self c.ask.new.out.text asked.Over) line c.in-Over.ensures in
+    let m = may_ask log (places c.args.pass.now) s found.0 c.object-2.result.now c.ask.new.self stands c.text-in-Over.result.now a.0.0 a.1 in
     (refl, (m.0, (m.1, inr (subst (λ l. 0 < times (root_in log s.number) l) (sym e.places) m.2))))
 
 pub done_refused-requires-clause-entry : goal.done_refused-requires-clause-entry
@@ -51,11 +55,12 @@ done_refused-requires-clause-entry g c =
     let e = c.enter-turn.ensures in
     let s = c.args.seat.now in
     let log = history (pass_of c.enter-turn.result) in
-    let stands = subst (λ (z : SharedRoom). StandsForHistory z log) (sym c.object.ensures.value) e.stands in
+    let same = c.object-2.ensures.value ∙ c.in-Err.ensures.err ∙ c.object.ensures.value in
+    let stands = subst (λ (z : SharedRoom). StandsForHistory z log) (sym same) e.stands in
     let found = seat_found (history c.args.pass.now) log (places c.args.pass.now) s c.requires.seated e.begins e.orderly.0 e.own in
-    let line = c.new-line.ensures ∙ c.text.ensures ∙ sym c.text-in-Refused.ensures in
-    let a = subst (λ l. IsAsked s.number l s.lent c.ask.new.lent c.object.result.now c.ask.new.self c.ask.new.out.text asked.Refused) line c.in-Refused.ensures in
-    let m = may_refuse log (places c.args.pass.now) s found.0 c.object.result.now c.ask.new.self stands c.text-in-Refused.result.now a.0 a.2 in
+    let line = c.in-Err.ensures.back ∙ c.new-line.ensures ∙ c.text.ensures ∙ sym c.text-in-Refused.ensures in
+    let a = subst (λ l. IsAsked s.number l s.lent c.ask.new.lent c.object-2.result.now c.ask.new.self c.ask.new.out.text asked.Refused) line c.in-Refused.ensures in
+    let m = may_refuse log (places c.args.pass.now) s found.0 c.object-2.result.now c.ask.new.self stands c.text-in-Refused.result.now a.0 a.2 in
     (refl, (m.0, (m.1, inr (subst (λ l. 0 < times (root_in log s.number) l) (sym e.places) m.2))))
 
 pub returns-in-Open : goal.returns-in-Open
@@ -63,12 +68,13 @@ returns-in-Open g c =
     let e = c.enter-turn.ensures in
     let s = c.args.seat.now in
     let log = history (pass_of c.enter-turn.result) in
-    let stands = subst (λ (z : SharedRoom). StandsForHistory z log) (sym c.object.ensures.value) e.stands in
+    let same = c.object-2.ensures.value ∙ c.in-Err.ensures.err ∙ c.object.ensures.value in
+    let stands = subst (λ (z : SharedRoom). StandsForHistory z log) (sym same) e.stands in
     let found = seat_found (history c.args.pass.now) log (places c.args.pass.now) s c.requires.seated e.begins e.orderly.0 e.own in
-    let line = c.new-line.ensures ∙ c.text.ensures in
-    let a = subst (λ l. IsAsked s.number l s.lent c.ask.new.lent c.object.result.now c.ask.new.self c.ask.new.out.text asked.Open) line c.in-Open.ensures in
+    let line = c.in-Err.ensures.back ∙ c.new-line.ensures ∙ c.text.ensures in
+    let a = subst (λ l. IsAsked s.number l s.lent c.ask.new.lent c.object-2.result.now c.ask.new.self c.ask.new.out.text asked.Open) line c.in-Open.ensures in
     let x = ended_asked c.args.hall.now c.args.pass.now _ _ _ c.done_asked.ensures e.turnstile e.begins e.places e.shares s c.requires.seated e.orderly.0 e.own
-    c.args.reader.now.text c.ask.new.out.text c.object.result.now.room c.ask.new.self.room true c.ask.new.lent
+    c.args.reader.now.text c.ask.new.out.text c.object-2.result.now.room c.ask.new.self.room true c.ask.new.lent
     (record { alloc = s.alloc; number = s.number; lent = c.ask.new.lent; work = c.new-seat.result })
     (ap (asked_entry log s.number s.work.items) c.text-in-Open.ensures) stands.room a.0 (λ _. a.2) refl refl (ap notes c.new-seat.ensures) in search rules
 
@@ -77,12 +83,13 @@ returns-in-Over g c =
     let e = c.enter-turn.ensures in
     let s = c.args.seat.now in
     let log = history (pass_of c.enter-turn.result) in
-    let stands = subst (λ (z : SharedRoom). StandsForHistory z log) (sym c.object.ensures.value) e.stands in
+    let same = c.object-2.ensures.value ∙ c.in-Err.ensures.err ∙ c.object.ensures.value in
+    let stands = subst (λ (z : SharedRoom). StandsForHistory z log) (sym same) e.stands in
     let found = seat_found (history c.args.pass.now) log (places c.args.pass.now) s c.requires.seated e.begins e.orderly.0 e.own in
-    let line = c.new-line.ensures ∙ c.text.ensures in
-    let a = subst (λ l. IsAsked s.number l s.lent c.ask.new.lent c.object.result.now c.ask.new.self c.ask.new.out.text asked.Over) line c.in-Over.ensures in
+    let line = c.in-Err.ensures.back ∙ c.new-line.ensures ∙ c.text.ensures in
+    let a = subst (λ l. IsAsked s.number l s.lent c.ask.new.lent c.object-2.result.now c.ask.new.self c.ask.new.out.text asked.Over) line c.in-Over.ensures in
     let x = ended_asked c.args.hall.now c.args.pass.now _ _ _ c.done_asked-in-Over.ensures e.turnstile e.begins e.places e.shares s c.requires.seated e.orderly.0 e.own
-    c.args.reader.now.text c.ask.new.out.text c.object.result.now.room c.ask.new.self.room false c.ask.new.lent
+    c.args.reader.now.text c.ask.new.out.text c.object-2.result.now.room c.ask.new.self.room false c.ask.new.lent
     (record { alloc = s.alloc; number = s.number; lent = c.ask.new.lent; work = c.new-seat-in-Over.result })
     (ap (asked_entry log s.number s.work.items) c.text-in-Over.ensures) stands.room a.0 (λ o. cc) refl refl (ap notes c.new-seat-in-Over.ensures) in search rules
 
@@ -91,10 +98,11 @@ returns-in-Refused g c =
     let e = c.enter-turn.ensures in
     let s = c.args.seat.now in
     let log = history (pass_of c.enter-turn.result) in
-    let stands = subst (λ (z : SharedRoom). StandsForHistory z log) (sym c.object.ensures.value) e.stands in
+    let same = c.object-2.ensures.value ∙ c.in-Err.ensures.err ∙ c.object.ensures.value in
+    let stands = subst (λ (z : SharedRoom). StandsForHistory z log) (sym same) e.stands in
     let found = seat_found (history c.args.pass.now) log (places c.args.pass.now) s c.requires.seated e.begins e.orderly.0 e.own in
-    let line = c.new-line.ensures ∙ c.text.ensures in
-    let a = subst (λ l. IsAsked s.number l s.lent c.ask.new.lent c.object.result.now c.ask.new.self c.ask.new.out.text asked.Refused) line c.in-Refused.ensures in
+    let line = c.in-Err.ensures.back ∙ c.new-line.ensures ∙ c.text.ensures in
+    let a = subst (λ l. IsAsked s.number l s.lent c.ask.new.lent c.object-2.result.now c.ask.new.self c.ask.new.out.text asked.Refused) line c.in-Refused.ensures in
     let x = ended_refused c.args.hall.now c.args.pass.now _ _ _ c.done_refused.ensures e.turnstile e.begins e.places e.shares s c.requires.seated e.orderly.0 e.own
     c.args.reader.now.text c.ask.new.out.text (record { alloc = s.alloc; number = s.number; lent = c.ask.new.lent; work = s.work })
     (ap (λ l. entry_of log s.number (kind.Refused s.number l)) c.text-in-Refused.ensures) a.1 a.3 refl a.4 refl in search rules
@@ -104,7 +112,8 @@ returns-in-Kept g c =
     let e = c.enter-turn.ensures in
     let s = c.args.seat.now in
     let log = history (pass_of c.enter-turn.result) in
-    let stands = subst (λ (z : SharedRoom). StandsForHistory z log) (sym c.object.ensures.value) e.stands in
+    let same = c.object-2.ensures.value ∙ c.in-Err.ensures.err ∙ c.object.ensures.value in
+    let stands = subst (λ (z : SharedRoom). StandsForHistory z log) (sym same) e.stands in
     let found = seat_found (history c.args.pass.now) log (places c.args.pass.now) s c.requires.seated e.begins e.orderly.0 e.own in
     let k = c.in-Kept.ensures in
     let noted : Notes c.args.reader.now.text s (record { alloc = s.alloc; number = s.number; lent = c.ask.new.lent; work = c.and-seat.result }) c.ask.new.out.text = record {
@@ -120,3 +129,28 @@ returns-in-Kept g c =
     let x = bare_asked c.args.hall.now c.args.pass.now _ _ c.done_bare.ensures e.turnstile e.begins e.shares s
     (record { alloc = s.alloc; number = s.number; lent = c.ask.new.lent; work = c.and-seat.result })
     c.args.reader.now.text c.ask.new.out.text c.requires.seated e.orderly.0 e.own e.places noted in search rules
+
+pub done_looked-requires-clause-entry : goal.done_looked-requires-clause-entry
+done_looked-requires-clause-entry g c =
+    let e = c.enter-turn.ensures in
+    let s = c.args.seat.now in
+    let log = history (pass_of c.enter-turn.result) in
+    let stands = subst (λ (z : SharedRoom). StandsForHistory z log) (sym c.object.ensures.value) e.stands in
+    let found = seat_found (history c.args.pass.now) log (places c.args.pass.now) s c.requires.seated e.begins e.orderly.0 e.own in
+    let line = c.new-line.ensures ∙ c.text.ensures ∙ sym c.text-in-Ok.ensures in
+    let l = c.in-Ok.ensures in
+    let look = subst (λ z. IsLookOf c.object.result.now.room s.number z c.in-Ok.look) line l.look in
+    let m = may_look log (places c.args.pass.now) s found.0 c.object.result.now c.look.new.self stands c.text-in-Ok.result.now c.in-Ok.look look l.room l.counted in
+    (refl, (m.0, (m.1, inr (subst (λ l. 0 < times (root_in log s.number) l) (sym e.places) m.2))))
+
+pub returns-in-Ok : goal.returns-in-Ok
+returns-in-Ok g c =
+    let e = c.enter-turn.ensures in
+    let s = c.args.seat.now in
+    let log = history (pass_of c.enter-turn.result) in
+    let stands = subst (λ (z : SharedRoom). StandsForHistory z log) (sym c.object.ensures.value) e.stands in
+    let l = c.in-Ok.ensures in
+    let look = subst (λ z. IsLookOf c.object.result.now.room s.number z c.in-Ok.look) (c.new-line.ensures ∙ c.text.ensures) l.look in
+    let x = ended_looked c.args.hall.now c.args.pass.now _ _ _ c.done_looked.ensures e.turnstile e.begins e.places e.shares s c.requires.seated e.orderly.0 e.own
+    c.args.reader.now.text c.show.new.out.text c.object.result.now.room c.in-Ok.look (record { alloc = s.alloc; number = s.number; lent = s.lent; work = s.work })
+    (ap (λ l. entry_of log s.number (kind.Looked s.number l)) c.text-in-Ok.ensures) stands.room look c.show.ensures l.here refl l.here refl in search rules

@@ -11,3 +11,6 @@ ghosts-done_asked g a = record { entry = Some (asked_entry (history (pass_of a.t
 
 abbrev pub ghosts-done_refused : goal.ghosts-done_refused
 ghosts-done_refused g a = record { entry = Some (entry_of (history (pass_of a.turn)) a.n (kind.Refused a.n a.line.now)) }
+
+abbrev pub ghosts-done_looked : goal.ghosts-done_looked
+ghosts-done_looked g a = record { entry = Some (entry_of (history (pass_of a.turn)) a.n (kind.Looked a.n a.line.now)) }
