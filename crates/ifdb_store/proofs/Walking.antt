@@ -1,6 +1,6 @@
 -- Children found by links, one behind the other.
 use Rattle.std.proofs.Common.{◌≡◌, ℕ, ◌<◌, ◌≤◌, ◌*◌, ◌+◌, Bool, true, false, List, [], ◌∷◌, length, get_or, refl, sym, ap, ◌∙◌, arith, Some, None, Option, ◌&&◌, ◌||◌}
-use Rattle.std.specs.Prelude.{not, find, filter, is_some, nat_lt, ◌==◌, ◌/◌, IsTrue}
+use Rattle.std.specs.Prelude.{not, find, filter, is_some, nat_lt, ◌==◌, ◌++◌, ◌/◌, IsTrue}
 use Rattle.std.specs.List.{list_all, list_any}
 use Rattle.std.proofs.lemmas.Bool.{false≢true}
 use Rattle.std.proofs.lemmas.Bool.Decides.{nat_tests}
@@ -10,7 +10,7 @@ use Rattle.ifdb_row.specs.declared.row.Row.{Row}
 use Rattle.ifdb_row.specs.Slots.{is_same_slot, slot_lt}
 use Rattle.ifdb_row.specs.Content.{live, rising}
 use Rattle.ifdb_row.specs.Reach.{skip}
-use Rattle.ifdb_row.specs.Questions.{is_child_of, is_next_child, is_past, row_at, row_bound_to, if_passes}
+use Rattle.ifdb_row.specs.Questions.{IsRun, is_child_of, is_next_child, is_past, row_at, row_bound_to, if_passes}
 use Rattle.ifdb_row.proofs.SlotOrder.{slot_same, slot_itself, slot_lt_itself, slot_lt_trans}
 use Rattle.ifdb_row.proofs.Rising.{lt_not_back, lt_from}
 use Rattle.ifdb_row.proofs.Edges.{slot_lt_table}
@@ -23,6 +23,16 @@ use Rattle.ifdb_store.proofs.Prints.{child_back, from_print, link_back, child_ne
 pub skips_all : {X : Type 0} (p : X → Bool) (xs : List X) → skip p xs ≡ [] → list_all p xs ≡ true
 skips_all p [] e = refl
 skips_all p (x ∷ xs) e = grind (arith, nat_tests, skips_all p xs)
+
+-- where one is left out, not all pass it
+skips_some : {X : Type 0} (p : X → Bool) (xs : List X) (y : X) (ys : List X) → skip p xs ≡ y ∷ ys → list_all p xs ≡ false
+skips_some p [] y ys e = cc
+skips_some p (x ∷ xs) y ys e = grind (arith, nat_tests, skips_some p xs y ys)
+
+-- a run of those from the first left out on is empty exactly where all pass
+pub run_tells : (p : Row → Bool) (rows run : List Row) → IsRun run (skip p rows) → (length run == 0) ≡ list_all p rows
+run_tells p rows [] r = sym (skips_all p rows (r.some refl))
+run_tells p rows (x ∷ run) r = let e : (length (x ∷ run) == 0) ≡ false = grind (arith, nat_tests) in e ∙ sym (skips_some p rows x (run ++ r.rest) r.front)
 
 -- the child that a link tells
 pub first_is : (s : Slot) (refs : List Slot) (x : Slot) → is_first s refs ≡ true → x ≡ get_or refs 0 x → x ≡ s

@@ -1,5 +1,5 @@
 // Links: how children are found through their parent's slot.
-ghost use Rattle.std.specs.Prelude.{◌≡◌, ◌+◌, ◌*◌, ◌<◌, ◌∷◌, [], true, None, Some, IfOk, IsTrue, OnOk, find};
+ghost use Rattle.std.specs.Prelude.{◌≡◌, ◌&&◌, ◌+◌, ◌*◌, ◌<◌, ◌∷◌, [], true, None, Some, IfOk, IsTrue, OnOk, find};
 ghost use Rattle.std.specs.Option.{option_copied};
 ghost use Rattle.ifdb_row.specs.Content.{after, rising};
 ghost use Rattle.ifdb_row.specs.Edges.{slot_at};
@@ -181,9 +181,8 @@ pub(crate) fn links_after(alloc: Global, links: &Tree, writes: &Writes) -> Resul
 
 /// Whether all of some rows have links to them, and a row in a slot would have them, if there is one.
 pub(crate) fn are_near(rows: &Tree, slot: Option<&Slot>) -> bool
-    ensures rows { result ≡ true → are_near rows.now ≡ true }
+    ensures near { result ≡ is_near_if (option_copied slot.entry) && are_near rows.now }
     ensures rising { result ≡ true → rising rows.now ≡ true }
-    ensures slot { result ≡ true → is_near_if (option_copied slot.entry) ≡ true }
 {
     is_near_if(slot) && are_all_near(rows)
 }
@@ -200,7 +199,7 @@ fn is_near_if(slot: Option<&Slot>) -> bool
 
 /// Whether all of some rows have links to them. It costs a search.
 fn are_all_near(rows: &Tree) -> bool
-    ensures rows { result ≡ true → are_near rows.now ≡ true }
+    ensures near { result ≡ are_near rows.now }
     ensures rising { IsTrue (rising rows.now) }
 {
     let _key: Option<&[Value]> = None;

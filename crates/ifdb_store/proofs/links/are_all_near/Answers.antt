@@ -1,10 +1,8 @@
-use Rattle.std.proofs.Common.{arith}
-use Rattle.std.proofs.lemmas.Bool.Decides.{nat_tests}
+use Rattle.std.proofs.Common.{◌∙◌}
 use Rattle.ifdb_row.specs.declared.row.Row.{Row}
 use Rattle.ifdb_store.specs.Links.{is_near}
-use Rattle.ifdb_store.proofs.FindLemmas.{empty_run}
-use Rattle.ifdb_store.proofs.Walking.{skips_all}
+use Rattle.ifdb_store.proofs.Walking.{run_tells}
 use Rattle.ifdb_store.proofs.links.are_all_near.Goals as goal
 
-pub returns-clause-rows : goal.returns-clause-rows
-returns-clause-rows c = λ e. skips_all (λ (r : Row). is_near r.slot) c.args.rows.now (c.run_from.ensures.run.some (empty_run c.run_from.result.now (grind (arith, nat_tests))))
+pub returns-clause-near : goal.returns-clause-near
+returns-clause-near c = c.is_empty.ensures ∙ run_tells (λ (r : Row). is_near r.slot) c.args.rows.now c.run_from.result.now c.run_from.ensures.run
