@@ -1,9 +1,10 @@
 // What a SELECT answers over tables and views.
-ghost use Rattle.std.specs.Prelude.{◌≤◌, IsTrue, length, map, option_and_then};
+ghost use Rattle.std.specs.Prelude.{◌≡◌, ◌≤◌, IsTrue, length, map, option_and_then, true};
+ghost use Rattle.std.specs.List.{list_all};
 ghost use Rattle.ifdb_label.specs.Tags.{AreMade};
 ghost use Rattle.ifdb_bound.specs.declared.select.BoundSource.{BoundSource as AnySource};
 ghost use Rattle.ifdb_bound.specs.Query.{all_some, select};
-ghost use Rattle.ifdb_expr.specs.Query.{query, source_rows};
+ghost use Rattle.ifdb_expr.specs.Query.{is_allowed, query, source_rows};
 ghost use Rattle.ifdb_expr.specs.Tells.{Tells};
 ghost use Rattle.ifdb_row.specs.Seen.{are_rows_made};
 ghost use Rattle.ifdb_exec.specs.Given.{are_given_keyed, rows_given};
@@ -51,13 +52,16 @@ pub fn query<'q, R: Rows, V: Views>(
     }
 }
 
-/// The answer to a SELECT whose views are allowed.
+/// The answer to a SELECT whose views are allowed: no row is looked at before that is known.
 fn over_sources<'q, R: Rows, V: Views>(
     reading: &'q Reading<'_>,
     rows: &'q R,
     views: &V,
     query: &'q BoundSelect,
 ) -> Result<ValueRows, ExprFault>
+    requires allowed { list_all (λ (x : AnySource). is_allowed
+        (setting reading.now.tags.now reading.now.names.now (V.views views.now) (V.allows views.now)) x.relation)
+        query.now.sources ≡ true }
     requires rows_made { IsTrue (are_rows_made (length reading.now.tags.now) (R.rows rows.now)) }
     requires label_made { AreMade (length reading.now.tags.now) reading.now.label.now }
     requires views_made { IsTrue (are_views_made (length reading.now.tags.now) (V.views views.now)) }

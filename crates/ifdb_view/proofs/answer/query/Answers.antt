@@ -15,6 +15,10 @@ returns-then-not-are_allowed g c =
     query_refused (setting c.args.reading.now.tags.now c.args.reading.now.names.now (g.V.Views.views c.args.views.now) (g.V.Views.allows c.args.views.now)) (g.R.Rows.rows c.args.rows.now) c.args.reading.now.label.now c.args.request.now
     (sym (c.in_ok-are_allowed.ensures c.args.reading.now.tags.now c.args.reading.now.names.now ∙ ap (list_all (λ (x : BoundSource). is_allowed (setting c.args.reading.now.tags.now c.args.reading.now.names.now (g.V.Views.views c.args.views.now) (g.V.Views.allows c.args.views.now)) x.relation)) c.items.ensures) ∙ c.if-not-are_allowed.true)
 
+pub over_sources-requires-clause-allowed : goal.over_sources-requires-clause-allowed
+over_sources-requires-clause-allowed g c =
+    sym (c.in_ok-are_allowed.ensures c.args.reading.now.tags.now c.args.reading.now.names.now ∙ ap (list_all (λ (x : BoundSource). is_allowed (setting c.args.reading.now.tags.now c.args.reading.now.names.now (g.V.Views.views c.args.views.now) (g.V.Views.allows c.args.views.now)) x.relation)) c.items.ensures) ∙ c.if-not-are_allowed.false
+
 pub returns-in-Ok : goal.returns-in-Ok
 returns-in-Ok g c =
     let allowed : list_all (λ (x : BoundSource). is_allowed (setting c.args.reading.now.tags.now c.args.reading.now.names.now (g.V.Views.views c.args.views.now) (g.V.Views.allows c.args.views.now)) x.relation) c.args.request.now.sources ≡ true =
