@@ -9,8 +9,6 @@ mod looks;
 mod reading;
 mod room;
 mod session;
-#[cfg(test)]
-mod tests;
 mod told;
 mod txn;
 
