@@ -10,10 +10,10 @@ use Rattle.ifdb_model.specs.Log.{Entry, changes, commits}
 use Rattle.ifdb_model.specs.Session.{Session, Seen, Txn}
 use Rattle.ifdb_bound.specs.Query.{label_names}
 use Rattle.ifdb_catalog.specs.Public.{tag_names}
-use Rattle.ifdb_model.specs.Step.{Form, greets, form_of, Outcome, tells, refuses, hello, show_label, bye}
+use Rattle.ifdb_model.specs.Step.{Form, greets, form_of, Outcome, tells, refuses, hello, show_label, bye, answered_as, answered_new}
 use Rattle.ifdb_db.specs.Client.{Open, Client, client_of, session_at, txn_at, seen_by, IsBased}
 use Rattle.ifdb_db.specs.Desk.{Desk, with_entry, settled, moved, begins_after}
-use Rattle.ifdb_db.specs.Answer.{answered_as, answered_by, answered_new, fault_of, IsDone, IsUndone, IsAnswered, IsStill}
+use Rattle.ifdb_db.specs.Answer.{answered_by, fault_of, IsDone, IsUndone, IsAnswered, IsStill}
 use Rattle.ifdb_db.specs.Inside.{session_of, Says, Denies, IsSaid, Inside, IsReplied, IsDenied}
 use Rattle.ifdb_db.specs.Outside.{IsAdded, IsNotAdded, IsPublished}
 use Rattle.ifdb_db.specs.Kept.{IsSound, IsKept}

@@ -1,5 +1,5 @@
 -- What a client is answered is what the machine answers its session.
-use Rattle.std.proofs.Common.{◌≡◌, ℕ, ◌≤◌, List, [], drop, ◌∙◌, length, refl, sym, ap, Option, Some, None, Result, Ok, Err}
+use Rattle.std.proofs.Common.{◌≡◌, ℕ, ◌≤◌, List, [], drop, ◌∙◌, refl, sym, ap, Option, Some, None, Result, Ok, Err}
 use Rattle.ifdb_label.specs.Tags.{MadeTag}
 use Rattle.ifdb_row.specs.Content.{after, content_from}
 use Rattle.ifdb_row.specs.Verdict.{Verdict, verdict}
@@ -8,11 +8,11 @@ use Rattle.ifdb_commit.proofs.LogLemmas.{judges_a_log, writes_stamped}
 use Rattle.ifdb_syntax.specs.declared.request.Request.{Request}
 use Rattle.ifdb_wire.specs.declared.fault.Fault.{Fault}
 use Rattle.ifdb_catalog.specs.Public.{tags_of}
-use Rattle.ifdb_model.specs.Log.{stamped_from, content_of, all_tags, public_of, written_of}
-use Rattle.ifdb_model.specs.Session.{Session, Seen, seen_in, seen}
-use Rattle.ifdb_model.specs.Step.{Form, greets, publishes, relabels, shows_label, begins, ends, rolls_back, leaves_us, looks, writes, form_of, ask_read, ask_by, ask_as, ask_new, commit, committed, judged, verdict_fault}
+use Rattle.ifdb_model.specs.Log.{stamped_from, content_of, all_tags, written_of}
+use Rattle.ifdb_model.specs.Session.{Session, Seen, seen_in}
+use Rattle.ifdb_model.specs.Step.{form_of, ask_read, ask_by, answered_as, answered_new, judged, commit_fault, verdict_fault}
 use Rattle.ifdb_model.specs.Run.{State}
-use Rattle.ifdb_db.specs.Answer.{answered, answered_by, answered_as, answered_new, ended, fault_of}
+use Rattle.ifdb_db.specs.Answer.{answered, answered_by, fault_of}
 use Rattle.ifdb_db.specs.Client.{Open, Client, session_at, txn_at, seen_by}
 use Rattle.ifdb_db.specs.Desk.{Desk, oldest}
 use Rattle.ifdb_db.specs.Room.{IsOf, IsOver}
@@ -40,45 +40,17 @@ module _ (d : Desk) (st : State) (w : IsOf d st) where
         judged_with : List MadeTag → List ℕ → Verdict
         judged_with tags label = verdict tags (content_of st.log) (written_of (drop x.begin st.log)) x.own label
 
-  -- its refusal is known
-  refuses_so : (c : Client) → ((x : Open) → c.txn ≡ Some x → oldest d ≤ x.begin) → commit st.log (session_at c) (session_at c).txn ≡ ended (session_at c) (session_at c).txn (fault_of d c.label c.txn)
+  -- and its refusal is known
+  refuses_so : (c : Client) → ((x : Open) → c.txn ≡ Some x → oldest d ≤ x.begin) → commit_fault st.log (session_at c) (session_at c).txn ≡ fault_of d c.label c.txn
   refuses_so c le = by c.txn refl where
-    by : (t : Option Open) → c.txn ≡ t → commit st.log (session_at c) (txn_at t) ≡ ended (session_at c) (txn_at t) (fault_of d c.label t)
+    by : (t : Option Open) → c.txn ≡ t → commit_fault st.log (session_at c) (txn_at t) ≡ fault_of d c.label t
     by None e = refl
-    by (Some x) e = ap (committed (session_at c) x.own) (judged_same c.label x (session_at c) refl (le x e))
-
-  as_same : (s : Session) (x : Seen) (v : Option Fault) (asker : ℕ) (r : Request) (form : Form) → commit st.log s s.txn ≡ ended s s.txn v
-      → ask_as st.log s x asker r form ≡ answered_as (length st.log) x v s asker r form
-  as_same s x v asker r (greets name key) h = refl
-  as_same s x v asker r publishes h = refl
-  as_same s x v asker r relabels h = refl
-  as_same s x v asker r shows_label h = refl
-  as_same s x v asker r begins h = refl
-  as_same s x v asker r ends h = h
-  as_same s x v asker r rolls_back h = refl
-  as_same s x v asker r leaves_us h = refl
-  as_same s x v asker r looks h = refl
-  as_same s x v asker r writes h = refl
-
-  new_same : (s : Session) (form : Form) → ask_new st.log s form ≡ answered_new (public_of st.log) s form
-  new_same s (greets name key) = refl
-  new_same s publishes = refl
-  new_same s relabels = refl
-  new_same s shows_label = refl
-  new_same s begins = refl
-  new_same s ends = refl
-  new_same s rolls_back = refl
-  new_same s leaves_us = refl
-  new_same s looks = refl
-  new_same s writes = refl
+    by (Some x) e = judged_same c.label x (session_at c) refl (le x e)
 
   module _ (c : Client) (o : IsOver st.log c.txn) (le : (x : Open) → c.txn ≡ Some x → oldest d ≤ x.begin) where
     by_same : (p : Option ℕ) (r : Request) → ask_by st.log (session_at c) p r ≡ answered_by d c p r
-    by_same None r = new_same (session_at c) (form_of r) ∙ ap (λ (z : Seen). answered_new z.public (session_at c) (form_of r)) (sym w.seen)
-    by_same (Some asker) r =
-        as_same (session_at c) (seen st.log (session_at c)) (fault_of d c.label c.txn) asker r (form_of r) (refuses_so c le)
-        ∙ ap (λ n. answered_as n (seen st.log (session_at c)) (fault_of d c.label c.txn) (session_at c) asker r (form_of r)) (sym w.count)
-        ∙ ap (λ (z : Seen). answered_as d.count z (fault_of d c.label c.txn) (session_at c) asker r (form_of r)) (seen_same c.txn o)
+    by_same None r = ap (λ (z : Seen). answered_new z.public (session_at c) (form_of r)) (sym w.seen)
+    by_same (Some asker) r = λ i. answered_as (sym w.count i) (seen_same c.txn o i) (refuses_so c le i) (session_at c) asker r (form_of r)
 
     -- over each state that the desk stands for
     pub read_same : (found : Result Request Fault) → ask_read st.log (session_at c) found ≡ answered d c found

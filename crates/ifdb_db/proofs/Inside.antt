@@ -11,10 +11,9 @@ use Rattle.ifdb_wire.specs.declared.reply.Reply.TheVariants as reply
 use Rattle.ifdb_catalog.specs.Binding.{bound}
 use Rattle.ifdb_model.specs.Session.{Session}
 use Rattle.ifdb_model.specs.Writes.{Written, is_delete, writes_of}
-use Rattle.ifdb_model.specs.Step.{Form, greets, publishes, relabels, shows_label, begins, ends, rolls_back, leaves_us, looks, writes, form_of, refuses, land, write_bound}
+use Rattle.ifdb_model.specs.Step.{Form, greets, publishes, relabels, shows_label, begins, ends, rolls_back, leaves_us, looks, writes, form_of, refuses, land, write_bound, answered_as}
 use Rattle.ifdb_txn.specs.Answers.{Gives}
 use Rattle.ifdb_db.specs.Client.{Open, txn_at}
-use Rattle.ifdb_db.specs.Answer.{answered_as}
 use Rattle.ifdb_db.specs.Inside.{session_of, seen_of, is_end, is_outer, Denies, IsSaid, Inside, Finds, IsReplied, IsLeft, IsDenied}
 use Rattle.ifdb_db.proofs.Saying.{by_form}
 

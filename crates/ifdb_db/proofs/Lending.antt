@@ -12,9 +12,8 @@ use Rattle.ifdb_wire.specs.declared.reply.Reply.{Reply}
 use Rattle.ifdb_wire.specs.declared.reply.Reply.TheVariants as reply
 use Rattle.ifdb_model.specs.Log.{Entry}
 use Rattle.ifdb_model.specs.Session.{Txn, Session, Seen, no_session, seen_in, seen}
-use Rattle.ifdb_model.specs.Step.{Form, greets, publishes, relabels, shows_label, begins, ends, rolls_back, leaves_us, looks, writes, form_of, Outcome, tells, refuses, ask, ask_read, ask_by, ask_as}
+use Rattle.ifdb_model.specs.Step.{Form, greets, publishes, relabels, shows_label, begins, ends, rolls_back, leaves_us, looks, writes, form_of, Outcome, tells, refuses, ask, ask_read, ask_by, ask_as, answered_as}
 use Rattle.ifdb_model.specs.Run.{State, session_of, with_outcome, asks, next}
-use Rattle.ifdb_db.specs.Answer.{answered_as}
 use Rattle.ifdb_db.specs.Client.{Open, Client, client_of, session_at, txn_at}
 use Rattle.ifdb_db.specs.Inside.{is_end, Inside, IsReplied, IsLeft, IsDenied}
 use Rattle.ifdb_db.specs.Kept.{IsLabelKept, IsKept, Outgrows}

@@ -8,9 +8,8 @@ use Rattle.ifdb_wire.specs.declared.reply.Reply.{Reply}
 use Rattle.ifdb_wire.specs.declared.reply.Reply.TheVariants as reply
 use Rattle.ifdb_model.specs.Log.{Entry}
 use Rattle.ifdb_model.specs.Session.{Session, Seen, no_session, seen, seen_in}
-use Rattle.ifdb_model.specs.Step.{form_of, looks, Outcome, tells, ask, ask_read, ask_by, ask_as}
+use Rattle.ifdb_model.specs.Step.{form_of, looks, Outcome, tells, ask, ask_read, ask_by, ask_as, answered_as}
 use Rattle.ifdb_model.specs.Run.{State, session_of, outcome_of, with_outcome, asks, next}
-use Rattle.ifdb_db.specs.Answer.{answered_as}
 use Rattle.ifdb_db.specs.Client.{Client, session_at}
 use Rattle.ifdb_db.specs.Inside.{IsSaid, Denies}
 use Rattle.ifdb_db.specs.Looks.{Looking, client_of_sight, IsLookOf, Shows, IsShown}

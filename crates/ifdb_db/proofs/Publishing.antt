@@ -50,7 +50,7 @@ module _ (x y : Desk) (asker : ℕ) (l : List ℕ) (r : Request) (f : form_of r 
   there = session_of asker l None
 
   by_form : outside x asker l r ≡ publish x.seen.public there (bound x.seen.public asker r)
-  by_form = ap (Rattle.ifdb_db.specs.Answer.answered_as x.count x.seen None there asker r) f
+  by_form = ap (Rattle.ifdb_model.specs.Step.answered_as x.count x.seen None there asker r) f
 
   pub labelled : is_empty l ≡ false → y ≡ x → IsNotAdded asker l r x y fault.LabelNotEmpty
   labelled e k = record { cause = inr (by_form ∙ rw e refl); desk = k }

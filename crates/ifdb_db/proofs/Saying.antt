@@ -11,9 +11,8 @@ use Rattle.ifdb_wire.specs.declared.reply.Reply.TheVariants as reply
 use Rattle.ifdb_catalog.specs.Public.{tag_names}
 use Rattle.ifdb_catalog.specs.Binding.{bound}
 use Rattle.ifdb_model.specs.Session.{Session, Seen, Txn}
-use Rattle.ifdb_model.specs.Step.{Form, relabels, shows_label, looks, form_of, tells, refuses, set_label, look, look_reply}
+use Rattle.ifdb_model.specs.Step.{Form, relabels, shows_label, looks, form_of, tells, refuses, set_label, look, look_reply, answered_as}
 use Rattle.ifdb_snapshot.specs.Labels.{with_label}
-use Rattle.ifdb_db.specs.Answer.{answered_as}
 use Rattle.ifdb_db.specs.Inside.{session_of, Says, IsSaid}
 
 module _ (x : Seen) (asker : ℕ) (l : List ℕ) (r : Request) where

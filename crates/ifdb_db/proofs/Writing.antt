@@ -30,7 +30,7 @@ module _ (x : Desk) (asker : ℕ) (l : List ℕ) (r : Request) where
 
   module _ (f : form_of r ≡ writes) where
     by_form : outside x asker l r ≡ write_bound x.seen.public x.seen.rows asker there (bound x.seen.public asker r)
-    by_form = ap (Rattle.ifdb_db.specs.Answer.answered_as x.count x.seen None there asker r) f
+    by_form = ap (Rattle.ifdb_model.specs.Step.answered_as x.count x.seen None there asker r) f
 
     pub unbound : (g : Fault) → (g ≡ fault.OutOfMemory) ⊎ (bound x.seen.public asker r ≡ Err g) → Writes asker l r x (Err g)
     unbound g (inl m) = inl m

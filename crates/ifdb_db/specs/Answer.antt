@@ -1,5 +1,5 @@
--- What a client is answered, over what all see, and what its line changes. The steps are those of the machine; here they
--- read what the database keeps in place of the log.
+-- What a client is answered, over what all see, and what its line changes: the machine's own answers, over what the database
+-- keeps in place of the log.
 use Rattle.std.specs.Prelude.{◌≡◌, ◌⊎◌, ℕ, List, Option, Some, None, Result, Ok, Err}
 use Rattle.ifdb_row.specs.Verdict.{verdict, written_by}
 use Rattle.ifdb_store.specs.Kept.{trimmed}
@@ -8,10 +8,9 @@ use Rattle.ifdb_wire.specs.declared.fault.Fault.{Fault}
 use Rattle.ifdb_wire.specs.declared.fault.Fault.TheVariants as fault
 use Rattle.ifdb_wire.specs.declared.reply.Reply.{Reply}
 use Rattle.ifdb_wire.specs.Text.{IsUnbounded}
-use Rattle.ifdb_catalog.specs.Public.{Public, tags_of}
-use Rattle.ifdb_catalog.specs.Binding.{bound}
-use Rattle.ifdb_model.specs.Session.{Session, Seen, Txn}
-use Rattle.ifdb_model.specs.Step.{Outcome, refuses, Form, greets, publishes, relabels, shows_label, begins, ends, rolls_back, leaves_us, looks, writes, form_of, hello, bye, publish, set_label, show_label, look, write_bound, begin, rollback, committed, verdict_fault}
+use Rattle.ifdb_catalog.specs.Public.{tags_of}
+use Rattle.ifdb_model.specs.Session.{Session}
+use Rattle.ifdb_model.specs.Step.{Outcome, refuses, form_of, verdict_fault, answered_as, answered_new}
 use Rattle.ifdb_db.specs.Client.{Open, Client, session_at, seen_by, IsBased}
 use Rattle.ifdb_db.specs.Desk.{Desk, moved}
 
@@ -19,30 +18,6 @@ use Rattle.ifdb_db.specs.Desk.{Desk, moved}
 abbrev pub fault_of : Desk → List ℕ → Option Open → Option Fault
 fault_of d label None = None
 fault_of d label (Some x) = verdict_fault (verdict (tags_of d.seen.public) d.seen.rows (written_by (trimmed x.begin d.commits)) x.own label)
-
--- a COMMIT that would be refused so, if at all
-abbrev pub ended : Session → Option Txn → Option Fault → Outcome
-ended s None refusal = refuses s fault.NoTransaction
-ended s (Some x) refusal = committed s x.own refusal
-
--- a session that said HELLO, where the log has so many entries, over what it sees
-abbrev pub answered_as : ℕ → Seen → Option Fault → Session → ℕ → Request → Form → Outcome
-answered_as n x refusal s asker r (greets name key) = refuses s fault.HelloTwice
-answered_as n x refusal s asker r publishes = publish x.public s (bound x.public asker r)
-answered_as n x refusal s asker r relabels = set_label x.public asker s (bound x.public asker r)
-answered_as n x refusal s asker r shows_label = show_label x.public s
-answered_as n x refusal s asker r begins = begin n s
-answered_as n x refusal s asker r ends = ended s s.txn refusal
-answered_as n x refusal s asker r rolls_back = rollback s
-answered_as n x refusal s asker r leaves_us = bye s
-answered_as n x refusal s asker r looks = look x.public x.rows s (bound x.public asker r)
-answered_as n x refusal s asker r writes = write_bound x.public x.rows asker s (bound x.public asker r)
-
--- a session that didn't
-abbrev pub answered_new : Public → Session → Form → Outcome
-answered_new p s (greets name key) = hello p s name key
-answered_new p s leaves_us = bye s
-answered_new p s _ = refuses s fault.NotHello
 
 -- a request of a client
 abbrev pub answered_by : Desk → Client → Option ℕ → Request → Outcome

@@ -10,11 +10,10 @@ use Rattle.ifdb_wire.specs.declared.reply.Reply.TheVariants as reply
 use Rattle.ifdb_wire.specs.Text.{IsUnbounded}
 use Rattle.ifdb_model.specs.Session.{Session, Seen, Txn}
 use Rattle.ifdb_model.specs.Writes.{Written}
-use Rattle.ifdb_model.specs.Step.{Form, publishes, begins, ends, rolls_back, leaves_us, form_of, Outcome, tells, refuses}
+use Rattle.ifdb_model.specs.Step.{Form, publishes, begins, ends, rolls_back, leaves_us, form_of, Outcome, tells, refuses, answered_as}
 use Rattle.ifdb_db.specs.declared.told.Told.{Told}
 use Rattle.ifdb_db.specs.declared.told.Told.TheVariants.{Replies, Commits, RollsBack, Leaves}
 use Rattle.ifdb_db.specs.Client.{Open, txn_at}
-use Rattle.ifdb_db.specs.Answer.{answered_as}
 
 -- an open session of a principal at a label, with its transaction, if one is open
 abbrev pub session_of : ℕ → List ℕ → Option Txn → Session

@@ -9,9 +9,8 @@ use Rattle.ifdb_wire.specs.Text.{IsUnbounded}
 use Rattle.ifdb_wire.specs.declared.reply.Reply.TheVariants as reply
 use Rattle.ifdb_model.specs.Log.{Entry, commits}
 use Rattle.ifdb_model.specs.Writes.{Written}
-use Rattle.ifdb_model.specs.Step.{Outcome, adds, refuses, form_of}
+use Rattle.ifdb_model.specs.Step.{Outcome, adds, refuses, form_of, answered_as}
 use Rattle.ifdb_snapshot.specs.Writing.{orphans}
-use Rattle.ifdb_db.specs.Answer.{answered_as}
 use Rattle.ifdb_db.specs.Desk.{Desk, with_entry, settled}
 use Rattle.ifdb_db.specs.Inside.{session_of}
 

@@ -160,10 +160,19 @@ committed s ws (Some f) = refuses (record s { txn = None }) f
 abbrev pub judged : List Entry → Session → Txn → Verdict
 judged log s x = verdict (all_tags log) (content_of log) (written_of (drop x.begin log)) x.own s.label
 
+-- the refusal of a COMMIT, if it is one
+abbrev pub commit_fault : List Entry → Session → Option Txn → Option Fault
+commit_fault log s None = None
+commit_fault log s (Some x) = verdict_fault (judged log s x)
+
+-- COMMIT, by its refusal
+abbrev pub ended : Session → Option Txn → Option Fault → Outcome
+ended s None refusal = refuses s fault.NoTransaction
+ended s (Some x) refusal = committed s x.own refusal
+
 -- COMMIT
 abbrev pub commit : List Entry → Session → Option Txn → Outcome
-commit log s None = refuses s fault.NoTransaction
-commit log s (Some x) = committed s x.own (verdict_fault (judged log s x))
+commit log s t = ended s t (commit_fault log s t)
 
 -- ---- a line
 
@@ -200,24 +209,32 @@ form_of (request.Insert table columns rows tags) = writes
 form_of (request.Update table assignments cond tags) = writes
 form_of (request.Delete table cond) = writes
 
--- a session that said HELLO, over what it sees
-abbrev pub ask_as : List Entry → Session → Seen → ℕ → Request → Form → Outcome
-ask_as log s x asker r (greets name key) = refuses s fault.HelloTwice
-ask_as log s x asker r publishes = publish x.public s (bound_request x.public asker r)
-ask_as log s x asker r relabels = set_label x.public asker s (bound_request x.public asker r)
-ask_as log s x asker r shows_label = show_label x.public s
-ask_as log s x asker r begins = begin (length log) s
-ask_as log s x asker r ends = commit log s s.txn
-ask_as log s x asker r rolls_back = rollback s
-ask_as log s x asker r leaves_us = bye s
-ask_as log s x asker r looks = look x.public x.rows s (bound_request x.public asker r)
-ask_as log s x asker r writes = write_bound x.public x.rows asker s (bound_request x.public asker r)
+-- a session that said HELLO, over what it sees; the log has so many entries, and a COMMIT would be refused so, if at all
+abbrev pub answered_as : ℕ → Seen → Option Fault → Session → ℕ → Request → Form → Outcome
+answered_as n x refusal s asker r (greets name key) = refuses s fault.HelloTwice
+answered_as n x refusal s asker r publishes = publish x.public s (bound_request x.public asker r)
+answered_as n x refusal s asker r relabels = set_label x.public asker s (bound_request x.public asker r)
+answered_as n x refusal s asker r shows_label = show_label x.public s
+answered_as n x refusal s asker r begins = begin n s
+answered_as n x refusal s asker r ends = ended s s.txn refusal
+answered_as n x refusal s asker r rolls_back = rollback s
+answered_as n x refusal s asker r leaves_us = bye s
+answered_as n x refusal s asker r looks = look x.public x.rows s (bound_request x.public asker r)
+answered_as n x refusal s asker r writes = write_bound x.public x.rows asker s (bound_request x.public asker r)
 
--- a session that didn't
+-- a session that didn't, over what is public
+abbrev pub answered_new : Public → Session → Form → Outcome
+answered_new p s (greets name key) = hello p s name key
+answered_new p s leaves_us = bye s
+answered_new p s _ = refuses s fault.NotHello
+
+-- the first, where the log is this
+abbrev pub ask_as : List Entry → Session → Seen → ℕ → Request → Form → Outcome
+ask_as log s x asker r form = answered_as (length log) x (commit_fault log s s.txn) s asker r form
+
+-- and the second
 abbrev pub ask_new : List Entry → Session → Form → Outcome
-ask_new log s (greets name key) = hello (public_of log) s name key
-ask_new log s leaves_us = bye s
-ask_new log s _ = refuses s fault.NotHello
+ask_new log s form = answered_new (public_of log) s form
 
 -- a request of a session
 abbrev pub ask_by : List Entry → Session → Option ℕ → Request → Outcome

@@ -1,8 +1,8 @@
 // How transactions begin and end.
 ghost use Rattle.std.specs.Prelude.{◌≡◌, [], None, Some, IfErr, IfOk, OnErr, OnOk};
 ghost use Rattle.ifdb_model.specs.Log.{commits};
-ghost use Rattle.ifdb_model.specs.Step.{begin, bye, rollback};
-ghost use Rattle.ifdb_db.specs.Answer.{ended, fault_of, IsAnswered, IsStill};
+ghost use Rattle.ifdb_model.specs.Step.{begin, bye, ended, rollback};
+ghost use Rattle.ifdb_db.specs.Answer.{fault_of, IsAnswered, IsStill};
 ghost use Rattle.ifdb_db.specs.Client.{session_at, txn_at};
 ghost use Rattle.ifdb_db.specs.Desk.{begins_after, moved, settled, with_entry, without};
 ghost use Rattle.ifdb_db.specs.Kept.{IsKept, IsLabelKept, Outgrows};

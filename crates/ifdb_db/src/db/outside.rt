@@ -1,10 +1,10 @@
 // Requests outside a transaction.
 ghost use Rattle.std.specs.Prelude.{◌≡◌, None, Some, IsTrue};
 ghost use Rattle.ifdb_snapshot.specs.Narrow.{is_narrow};
-ghost use Rattle.ifdb_db.specs.Answer.{answered_by, answered_new, IsAnswered, IsStill};
+ghost use Rattle.ifdb_db.specs.Answer.{answered_by, IsAnswered, IsStill};
 ghost use Rattle.ifdb_db.specs.Client.{seen_by, session_at};
 ghost use Rattle.ifdb_db.specs.Kept.{IsKept};
-ghost use Rattle.ifdb_model.specs.Step.{bye, form_of, hello, looks, relabels, show_label};
+ghost use Rattle.ifdb_model.specs.Step.{answered_new, bye, form_of, hello, looks, relabels, show_label};
 
 use super::Db;
 use crate::looks::{select, set_label};
