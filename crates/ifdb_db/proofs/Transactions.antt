@@ -1,5 +1,5 @@
 -- What is true of each open transaction.
-use Rattle.std.proofs.Common.{◌≡◌, ℕ, true, List, [], ◌∙◌, refl, sym, ap, arith}
+use Rattle.std.proofs.Common.{◌≡◌, true, List, ◌∙◌, sym, ap, arith}
 use Rattle.std.proofs.lemmas.Bool.Decides.{nat_tests}
 use Rattle.ifdb_row.specs.declared.row.Row.{Row}
 use Rattle.ifdb_row.specs.declared.write.Write.{Write}
@@ -8,8 +8,6 @@ use Rattle.ifdb_row.specs.Writes.{merged, are_fitting}
 use Rattle.ifdb_row.proofs.AfterMerged.{after_merged}
 use Rattle.ifdb_row.proofs.LiveLaws.{merged_all}
 use Rattle.ifdb_row.proofs.Sorted.{merged_fits, merged_rises}
-use Rattle.ifdb_model.specs.Session.{Seen}
-use Rattle.ifdb_snapshot.specs.Sound.{is_sound}
 use Rattle.ifdb_snapshot.specs.Writing.{is_fit, are_fit}
 use Rattle.ifdb_snapshot.proofs.Sound.{sound_written}
 use Rattle.ifdb_db.specs.Client.{Open}

@@ -1,6 +1,6 @@
 -- What a client is answered, over what all see, and what its line changes: the machine's own answers, over what the database
 -- keeps in place of the log.
-use Rattle.std.specs.Prelude.{◌≡◌, ◌⊎◌, ℕ, List, Option, Some, None, Result, Ok, Err}
+use Rattle.std.specs.Prelude.{◌≡◌, ◌⊎◌, ℕ, List, [], Option, Some, None, Result, Ok, Err}
 use Rattle.ifdb_row.specs.Verdict.{verdict, written_by}
 use Rattle.ifdb_store.specs.Kept.{trimmed}
 use Rattle.ifdb_syntax.specs.declared.request.Request.{Request}
@@ -10,8 +10,8 @@ use Rattle.ifdb_wire.specs.declared.reply.Reply.{Reply}
 use Rattle.ifdb_wire.specs.Text.{IsUnbounded}
 use Rattle.ifdb_catalog.specs.Public.{tags_of}
 use Rattle.ifdb_model.specs.Session.{Session}
-use Rattle.ifdb_model.specs.Step.{Outcome, refuses, form_of, verdict_fault, answered_as, answered_new}
-use Rattle.ifdb_db.specs.Client.{Open, Client, session_at, seen_by, IsBased}
+use Rattle.ifdb_model.specs.Step.{Outcome, refuses, form_of, verdict_fault, ended, answered_as, answered_new}
+use Rattle.ifdb_db.specs.Client.{Open, Client, txn_at, session_at, seen_by, IsBased}
 use Rattle.ifdb_db.specs.Desk.{Desk, moved}
 
 -- the refusal of a COMMIT of the transaction at a label, if it is one
@@ -19,10 +19,22 @@ abbrev pub fault_of : Desk → List ℕ → Option Open → Option Fault
 fault_of d label None = None
 fault_of d label (Some x) = verdict_fault (verdict (tags_of d.seen.public) d.seen.rows (written_by (trimmed x.begin d.commits)) x.own label)
 
+-- the refusal of a COMMIT of a client, if it is one
+abbrev pub fault_at : Desk → Client → Option Fault
+fault_at d c = fault_of d c.label c.txn
+
+-- COMMIT of a client
+abbrev pub commits_by : Desk → Client → Outcome
+commits_by d c = ended (session_at c) (txn_at c.txn) (fault_at d c)
+
+-- a transaction that begins now
+abbrev pub begun_at : Desk → Open
+begun_at d = record { begin = d.count; own = []; base = d.seen }
+
 -- a request of a client
 abbrev pub answered_by : Desk → Client → Option ℕ → Request → Outcome
 answered_by d c None r = answered_new d.seen.public (session_at c) (form_of r)
-answered_by d c (Some asker) r = answered_as d.count (seen_by d.seen c.txn) (fault_of d c.label c.txn) (session_at c) asker r (form_of r)
+answered_by d c (Some asker) r = answered_as d.count (seen_by d.seen c.txn) (fault_at d c) (session_at c) asker r (form_of r)
 
 -- a line that was read
 abbrev pub answered : Desk → Client → Result Request Fault → Outcome

@@ -1,5 +1,5 @@
 -- Sessions with their transactions, and what they see.
-use Rattle.std.specs.Prelude.{◌≡◌, ℕ, Bool, true, List, [], Option, Some, None}
+use Rattle.std.specs.Prelude.{◌≡◌, ℕ, Bool, true, false, List, [], Option, Some, None}
 use Rattle.ifdb_row.specs.declared.write.Write.{Write}
 use Rattle.ifdb_row.specs.Content.{after}
 use Rattle.ifdb_model.specs.Session.{Txn, Session, Seen}
@@ -20,6 +20,10 @@ pub record Client : Type 0 where
 -- a client that was just opened
 abbrev pub new_client : Client
 new_client = record { is_open = true; principal = None; label = []; txn = None }
+
+-- a client that has left
+abbrev pub left_client : Client → Client
+left_client c = record c { is_open = false; txn = None }
 
 -- an open client of a principal
 abbrev pub client_of : ℕ → List ℕ → Option Open → Client

@@ -1,5 +1,5 @@
 -- What a room holds, and the state of the machine that it stands for.
-use Rattle.std.specs.Prelude.{◌≡◌, ◌≤◌, ℕ, ◌+◌, ◌-◌, ◌&&◌, ◌==◌, Bool, List, [], ◌∷◌, ◌++◌, nat_lt, nat_le, length, map, take, slice_index_or, slice_set, Option, Some, None, if◌then◌else◌, All}
+use Rattle.std.specs.Prelude.{◌≡◌, ◌≤◌, ℕ, ◌+◌, ◌-◌, ◌&&◌, ◌==◌, Bool, List, [], ◌∷◌, ◌++◌, nat_lt, nat_le, length, map, take, slice_index_or, Option, Some, None, if◌then◌else◌, All}
 use Rattle.ifdb_store.specs.Kept.{trimmed}
 use Rattle.ifdb_wire.specs.declared.fault.Fault.TheVariants as fault
 use Rattle.ifdb_model.specs.Log.{Entry, stamped_from}

@@ -38,9 +38,14 @@ impl Model for Sight {
 
     ghost coded = { Prim.hlevel (codes, cond.the_row.coded, expr.the_row.coded) };
 
-    ghost view = { λ s. record { asker = s.asker; label = s.label; seen = record { public = s.public; rows = s.rows } } };
+    ghost view = { λ s. record {
+      asker = s.asker;
+      label = s.label;
+      seen = record { public = s.public; rows = s.rows };
+    } };
 
-    ghost invariant = { λ s. IsTrue (is_sound (record { public = s.public; rows = s.rows })) × AreMade (length s.public.tags) s.label };
+    ghost invariant = { λ s. IsTrue (is_sound (record { public = s.public; rows = s.rows }))
+        × AreMade (length s.public.tags) s.label };
 }
 
 /// A SELECT that a session asks outside a transaction, and what it is answered from.

@@ -65,13 +65,15 @@ impl<'a> ReadLine<'a> {
     {
         let ReadLine { text, found } = self;
         match found {
-            Ok(request) => match is_select(&request) {
-                true => Ok(SelectLine { text, request }),
-                false => Err(ReadLine {
+            Ok(request) => {
+                if is_select(&request) {
+                    return Ok(SelectLine { text, request });
+                }
+                Err(ReadLine {
                     text,
                     found: Ok(request),
-                }),
-            },
+                })
+            }
             Err(fault) => Err(ReadLine {
                 text,
                 found: Err(fault),
@@ -94,10 +96,7 @@ impl<'a> ReadLine<'a> {
 fn is_select(request: &Request) -> bool
     ensures { result ≡ true → form_of request.now ≡ looks }
 {
-    match request {
-        Request::Select(_) => true,
-        _ => false,
-    }
+    matches!(request, Request::Select(_))
 }
 
 /// A line whose request is a SELECT.

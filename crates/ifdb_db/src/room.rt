@@ -8,7 +8,7 @@ ghost use Rattle.ifdb_catalog.specs.Public.{tags_of};
 ghost use Rattle.ifdb_model.specs.Run.{asks, leaves, opening, opens};
 ghost use Rattle.ifdb_db.specs.Client.{new_client};
 ghost use Rattle.ifdb_db.specs.Room.{StandsFor, IsSoundRoom, client_in, was_opened};
-ghost use Rattle.ifdb_db.specs.RoomSteps.{GoesBy, IsAskedIn, IsLeftBy, IsReplyText, IsReplyTo};
+ghost use Rattle.ifdb_db.specs.RoomSteps.{GoesBy, IsAskedIn, IsLeftBy, IsReplyText, IsReplyTo, memory_text};
 
 mod lending;
 
@@ -66,7 +66,7 @@ impl Room {
         ensures opened { result ≡ true → GoesBy self.old self.new opens }
         ensures told { result ≡ true → out.new.text ≡ reply_text (Some shown) Reply.Opened }
         ensures refused { result ≡ false → self.new ≡ self.old }
-        ensures memory { result ≡ false → out.new.text ≡ reply_text (Some 0) (Reply.Refused Fault.OutOfMemory) }
+        ensures memory { result ≡ false → out.new.text ≡ memory_text (Some 0) }
     {
         if self.open_next().is_err() {
             say(out, Some(0), &Reply::Refused(Fault::OutOfMemory));
@@ -82,7 +82,7 @@ impl Room {
         ensures asked { result ≡ true → GoesBy self.old self.new (asks n line.now) }
         ensures told { result ≡ true → IsReplyText self.old n line.now shown out.new.text }
         ensures refused { result ≡ false → self.new ≡ self.old }
-        ensures memory { result ≡ false → out.new.text ≡ reply_text shown (Reply.Refused Fault.OutOfMemory) }
+        ensures memory { result ≡ false → out.new.text ≡ memory_text shown }
     {
         match self.reply(n, line) {
             Ok(reply) => say(out, shown, &reply),
@@ -211,7 +211,8 @@ impl Room {
     /// The next session.
     #[tactic(auto, using(crate::proofs::Keeping::all_add))]
     fn add_session(&mut self) -> Result<(), OutOfMemory>
-        ensures ok { OnOk result (self.new ≡ record self.old { clients = self.old.clients ++ new_client ∷ [] }) }
+        ensures ok { OnOk result
+            (self.new ≡ record self.old { clients = self.old.clients ++ new_client ∷ [] }) }
         ensures err { OnErr result (self.new ≡ self.old) }
     {
         let session = Session::new(self.alloc);
@@ -257,7 +258,7 @@ impl Room {
 /// Tells a reply, to a session of a number or on a connection. False is want of memory, which only Label and Rows can meet.
 fn say(out: &mut Out, session: Option<u64>, reply: &Reply) -> bool
     ensures told { result ≡ true → out.new.text ≡ reply_text session reply.now }
-    ensures memory { result ≡ false → out.new.text ≡ reply_text session (Reply.Refused Fault.OutOfMemory) }
+    ensures memory { result ≡ false → out.new.text ≡ memory_text session }
     ensures unbounded { result ≡ false → IsUnbounded reply.now }
 {
     out.speak_for(session);

@@ -31,7 +31,12 @@ impl Model for Session {
 
     ghost coded = { Prim.hlevel (codes, cond.the_row.coded, expr.the_row.coded) };
 
-    ghost view = { λ s. record { is_open = s.is_open; principal = s.principal; label = s.label; txn = s.txn } };
+    ghost view = { λ s. record {
+      is_open = s.is_open;
+      principal = s.principal;
+      label = s.label;
+      txn = s.txn;
+    } };
 }
 
 impl Session {

@@ -39,9 +39,17 @@ impl Model for Txn {
 
     ghost coded = { Prim.hlevel (codes, cond.the_row.coded, expr.the_row.coded) };
 
-    ghost view = { λ t. record { begin = t.begin; own = t.own; base = record { public = t.public; rows = t.base } } };
+    ghost view = { λ t. record {
+      begin = t.begin;
+      own = t.own;
+      base = record { public = t.public; rows = t.base };
+    } };
 
-    ghost invariant = { λ t. IsSoundTxn (record { begin = t.begin; own = t.own; base = record { public = t.public; rows = t.base } }) t.rows };
+    ghost invariant = { λ t. IsSoundTxn (record {
+      begin = t.begin;
+      own = t.own;
+      base = record { public = t.public; rows = t.base };
+    }) t.rows };
 }
 
 impl Txn {

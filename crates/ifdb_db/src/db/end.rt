@@ -1,9 +1,9 @@
 // How transactions begin and end.
-ghost use Rattle.std.specs.Prelude.{◌≡◌, [], None, Some, IfErr, IfOk, OnErr, OnOk};
+ghost use Rattle.std.specs.Prelude.{◌≡◌, ◌++◌, ◌∷◌, [], None, Some, IfErr, IfOk, OnErr, OnOk};
 ghost use Rattle.ifdb_model.specs.Log.{commits};
-ghost use Rattle.ifdb_model.specs.Step.{begin, bye, ended, rollback};
-ghost use Rattle.ifdb_db.specs.Answer.{fault_of, IsAnswered, IsStill};
-ghost use Rattle.ifdb_db.specs.Client.{session_at, txn_at};
+ghost use Rattle.ifdb_model.specs.Step.{begin, bye, rollback};
+ghost use Rattle.ifdb_db.specs.Answer.{begun_at, commits_by, fault_at, fault_of, IsAnswered, IsStill};
+ghost use Rattle.ifdb_db.specs.Client.{left_client, session_at, txn_at};
 ghost use Rattle.ifdb_db.specs.Desk.{begins_after, moved, settled, with_entry, without};
 ghost use Rattle.ifdb_db.specs.Kept.{IsKept, IsLabelKept, Outgrows};
 
@@ -33,9 +33,9 @@ impl Db {
 
     /// A transaction over what all see now.
     fn begun(&mut self) -> Result<Txn, OutOfMemory>
-        ensures begun { IfOk result (λ txn. txn ≡ record { begin = self.old.count; own = []; base = self.old.seen }) }
+        ensures begun { IfOk result (λ txn. txn ≡ begun_at self.old) }
         ensures noted { OnOk result (self.new ≡ settled (record self.old {
-          begins = begins_after None (Some (record { begin = self.old.count; own = [] })) self.old.begins;
+          begins = self.old.begins ++ self.old.count ∷ [];
         })) }
         ensures err { OnErr result (self.new ≡ self.old) }
     {
@@ -48,12 +48,11 @@ impl Db {
     /// COMMIT: first the verdict, then the memory, then the writes.
     pub(super) fn commit(&mut self, session: &mut Session) -> Result<Reply, Fault>
         requires kept { IsKept self.old.seen.public session.old }
-        ensures answered { IsAnswered
-            (ended (session_at session.old) (session_at session.old).txn (fault_of self.old session.old.label session.old.txn))
+        ensures answered { IsAnswered (commits_by self.old session.old)
             session.old session.new self.old self.new result }
         ensures kept { IsKept self.new.seen.public session.new }
         ensures still { IsStill session.old session.new self.old self.new result }
-        ensures memory_after_verdict { OnErr result (fault_of self.old session.old.label session.old.txn ≡ None) }
+        ensures memory_after_verdict { OnErr result (fault_at self.old session.old ≡ None) }
     {
         let Some(txn) = session.txn.take() else {
             return Err(Fault::NoTransaction);
@@ -87,9 +86,10 @@ impl Db {
     /// Makes the writes of a transaction that may commit, which is over then. `Err` is want of memory, and gives it back.
     fn install(&mut self, txn: Txn) -> Result<(), Txn>
         requires kept { Outgrows txn.base.public self.old.seen.public }
-        ensures done { OnOk result (self.new ≡ settled (record (with_entry self.old (Some (commits txn.own))) {
-          begins = without txn.begin self.old.begins;
-        })) }
+        ensures done { OnOk result
+            (self.new ≡ settled (record (with_entry self.old (Some (commits txn.own))) {
+              begins = without txn.begin self.old.begins;
+            })) }
         ensures back { IfErr result (λ back. back ≡ txn) }
         ensures err { OnErr result (self.new ≡ self.old) }
     {
@@ -122,8 +122,9 @@ impl Db {
     /// BYE, and a session that leaves without it: its transaction, if one is open, is over.
     pub fn leave(&mut self, session: &mut Session)
         requires kept { IsKept self.old.seen.public session.old }
-        ensures session { session.new ≡ record session.old { is_open = Rattle.std.specs.Prelude.false; txn = None } }
-        ensures desk { self.new ≡ moved (session_at session.old) (bye (session_at session.old)) self.old }
+        ensures session { session.new ≡ left_client session.old }
+        ensures desk { self.new
+            ≡ moved (session_at session.old) (bye (session_at session.old)) self.old }
         ensures kept { IsKept self.new.seen.public session.new }
     {
         self.give_up(session);

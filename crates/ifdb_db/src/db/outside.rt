@@ -4,7 +4,7 @@ ghost use Rattle.ifdb_snapshot.specs.Narrow.{is_narrow};
 ghost use Rattle.ifdb_db.specs.Answer.{answered_by, IsAnswered, IsStill};
 ghost use Rattle.ifdb_db.specs.Client.{seen_by, session_at};
 ghost use Rattle.ifdb_db.specs.Kept.{IsKept};
-ghost use Rattle.ifdb_model.specs.Step.{answered_new, bye, form_of, hello, looks, relabels, show_label};
+ghost use Rattle.ifdb_model.specs.Step.{bye, form_of, hello, looks, relabels, show_label};
 
 use super::Db;
 use crate::looks::{select, set_label};
@@ -22,7 +22,7 @@ impl Db {
         request: &Request,
     ) -> Result<Reply, Fault>
         requires kept { IsKept self.old.seen.public session.old }
-        ensures answered { IsAnswered (answered_new self.old.seen.public (session_at session.old) (form_of request.now))
+        ensures answered { IsAnswered (answered_by self.old session.old None request.now)
             session.old session.new self.old self.new result }
         ensures kept { IsKept self.new.seen.public session.new }
         ensures still { IsStill session.old session.new self.old self.new result }
@@ -38,7 +38,8 @@ impl Db {
     #[tactic(auto, using(crate::proofs::Answering::greets_so, crate::proofs::Answering::not_greeted))]
     fn greet(&mut self, session: &mut Session, name: &Name, key: &Word) -> Result<Reply, Fault>
         requires kept { IsKept self.old.seen.public session.old }
-        ensures answered { IsAnswered (hello self.old.seen.public (session_at session.old) name.now key.now)
+        ensures answered { IsAnswered
+            (hello self.old.seen.public (session_at session.old) name.now key.now)
             session.old session.new self.old self.new result }
         ensures kept { IsKept self.new.seen.public session.new }
         ensures still { IsStill session.old session.new self.old self.new result }
@@ -116,7 +117,8 @@ impl Db {
     fn show_label(&mut self, session: &mut Session) -> Result<Reply, Fault>
         requires outside { session.old.txn ≡ None }
         requires kept { IsKept self.old.seen.public session.old }
-        ensures answered { IsAnswered (show_label (seen_by self.old.seen session.old.txn).public (session_at session.old))
+        ensures answered { IsAnswered
+            (show_label (seen_by self.old.seen session.old.txn).public (session_at session.old))
             session.old session.new self.old self.new result }
         ensures kept { IsKept self.new.seen.public session.new }
         ensures still { IsStill session.old session.new self.old self.new result }
@@ -153,7 +155,8 @@ impl Db {
     #[tactic(auto, using(crate::proofs::Answering::says_bye))]
     pub(super) fn say_bye(&mut self, session: &mut Session) -> Result<Reply, Fault>
         requires kept { IsKept self.old.seen.public session.old }
-        ensures answered { IsAnswered (bye (session_at session.old)) session.old session.new self.old self.new result }
+        ensures answered { IsAnswered (bye (session_at session.old))
+            session.old session.new self.old self.new result }
         ensures kept { IsKept self.new.seen.public session.new }
         ensures still { IsStill session.old session.new self.old self.new result }
     {

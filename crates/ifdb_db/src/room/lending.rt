@@ -6,7 +6,7 @@ ghost use Rattle.ifdb_db.specs.Kept.{IsKept};
 ghost use Rattle.ifdb_db.specs.Lent.{IsLent, MayComeBack, with_client};
 ghost use Rattle.ifdb_db.specs.Looks.{IsLookOf, IsSightOf};
 ghost use Rattle.ifdb_db.specs.Room.{client_in};
-ghost use Rattle.ifdb_db.specs.RoomSteps.{GoesBy, IsReplyTo};
+ghost use Rattle.ifdb_db.specs.RoomSteps.{GoesBy, IsReplyTo, memory_text};
 
 use super::{Room, say};
 use crate::look::{Look, Sight};
@@ -64,12 +64,13 @@ impl Room {
         out: &mut Out,
     ) -> Result<Reply, Session>
         requires { MayComeBack self.old n session }
-        ensures asked { OnOk result (GoesBy (with_client self.old n session) self.new (asks n line.entry)) }
+        ensures asked { OnOk result
+            (GoesBy (with_client self.old n session) self.new (asks n line.entry)) }
         ensures told { IfOk result (IsReplyTo (with_client self.old n session) n line.entry) }
         ensures text { IfOk result (λ r. out.new.text ≡ reply_text None r) }
         ensures err { OnErr result (self.new ≡ self.old) }
         ensures back { IfErr result (λ back. back ≡ session) }
-        ensures memory { OnErr result (out.new.text ≡ reply_text None (Reply.Refused Fault.OutOfMemory)) }
+        ensures memory { OnErr result (out.new.text ≡ memory_text None) }
     {
         self.is_sound();
         let begun = self.put(n, session);
