@@ -19,7 +19,7 @@ use Rattle.ifdb_db.specs.Client.{Open, Client, txn_at}
 use Rattle.ifdb_db.specs.Lent.{IsLent}
 use Rattle.ifdb_db.specs.Reading.{read_line}
 use Rattle.ifdb_db.specs.Room.{Hall, StandsFor, client_in}
-use Rattle.ifdb_db.specs.RoomSteps.{GoesBy, IsReplyTo, IsReplyText}
+use Rattle.ifdb_db.specs.RoomSteps.{GoesBy, IsReplyTo, IsReplyText, memory_text}
 use Rattle.ifdb_db.proofs.RoomLaws.{same_session}
 use Rattle.ifdb_history.specs.declared.entry.Entry.{Entry}
 use Rattle.ifdb_history.specs.declared.entry.Kind.{Kind}
@@ -34,7 +34,7 @@ use Rattle.ifdb_session.specs.Endings.{capped}
 use Rattle.ifdb_session.specs.Standing.{StandsForHistory}
 use Rattle.ifdb_session.specs.declared.shared.Asked.{Asked}
 use Rattle.ifdb_session.specs.declared.shared.Asked.TheVariants as asked
-use Rattle.ifdb_session.specs.Turns.{IsAnswered, IsAsked, IsLentBy, IsLeftOpen, HasCounted, CountsTurn, memory_text}
+use Rattle.ifdb_session.specs.Turns.{IsAnswered, IsAsked, IsLentAfter, IsLentBy, IsLeftOpen, HasCounted, CountsTurn}
 
 -- ---- a history and one more entry
 
@@ -203,13 +203,18 @@ answered_and_counted h old new n line text r before now is_open was is goes told
       (λ i. (committed_so h new.room n line r before now was is goes told st w i, refused_so h new.room n line r before now was is goes told st w i)) counts
 
 -- a line for which there was no memory
-pub not_asked : (n : ℕ) (line : List ℕ) (lent now : Option Client) (old new : SharedRoom) (text : List ℕ) (result : Asked) → new.room ≡ old.room → text ≡ memory_text → now ≡ lent
+pub not_asked : (n : ℕ) (line : List ℕ) (lent now : Option Client) (old new : SharedRoom) (text : List ℕ) (result : Asked) → new.room ≡ old.room → text ≡ memory_text None → now ≡ lent
     → (lent ≡ None → result ≡ asked.Refused) → (lent ≡ None → HasCounted old new false false) → (IsSome lent → result ≡ asked.Kept) → (IsSome lent → new ≡ old)
     → IsAsked n line lent now old new text result
 not_asked n line None now old new text result room told same refused counted kept still =
     subst (IsAsked n line None now old new text) (sym (refused refl)) (room, told, λ st w. counted refl, refl, same)
 not_asked n line (Some c) now old new text result room told same refused counted kept still =
     subst (IsAsked n line (Some c) now old new text) (sym (kept refl)) (still refl, told, same, (c, refl))
+
+-- what is lent of a session that is open
+pub lent_if_open : (h : Hall) (n : ℕ) (is_open : Bool) (now : Option Client) → IsLentAfter h n is_open now → is_open ≡ true → IsLentBy h n now
+lent_if_open h n true now lent e = lent
+lent_if_open h n false now lent e = cc
 
 -- what the room lends
 pub lent_by : (h : Hall) (n : ℕ) (lent : Option Client) → IfSome lent (λ c. c ≡ client_in h n) → IfSome lent IsLent → IsLentBy h n lent

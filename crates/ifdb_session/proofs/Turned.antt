@@ -18,7 +18,7 @@ use Rattle.ifdb_db.specs.Client.{Client}
 use Rattle.ifdb_db.specs.Looks.{Looking, IsLookOf}
 use Rattle.ifdb_db.specs.Reading.{read_line}
 use Rattle.ifdb_db.specs.Room.{Hall, StandsFor}
-use Rattle.ifdb_db.specs.RoomSteps.{GoesBy}
+use Rattle.ifdb_db.specs.RoomSteps.{GoesBy, memory_text}
 use Rattle.ifdb_db.proofs.Looking.{shown_is_told, only_looks}
 use Rattle.ifdb_wire.specs.Text.{reply_text}
 use Rattle.ifdb_history.specs.declared.entry.Entry.{Entry}
@@ -41,7 +41,7 @@ use Rattle.ifdb_session.specs.Seats.{work_of, lines_in, IsToldIn, asked_entry, l
 use Rattle.ifdb_session.specs.declared.seat.Seat.{Seat}
 use Rattle.ifdb_session.specs.declared.shared.SharedRoom.{SharedRoom}
 use Rattle.ifdb_session.specs.Standing.{StandsForHistory}
-use Rattle.ifdb_session.specs.Turns.{with_lent, MayBeBack, IsLentBy, IsNextNumber, IsAnswered, HasCounted, CountsTurn, memory_text}
+use Rattle.ifdb_session.specs.Turns.{with_lent, MayBeBack, IsLentBy, IsNextNumber, IsAnswered, HasCounted, CountsTurn}
 use Rattle.ifdb_session.proofs.Counting.{stands_more, commits_more, line_commits, leaving_commits}
 use Rattle.ifdb_session.proofs.Passes.{prefix-trans, sees_itself, adds_none}
 use Rattle.ifdb_session.proofs.Working.{work_here, works_here, if_later, if_told, if_work, if_log, if_stands, if_back, lent_works, works_more, lines_more, texts_more, told_alone, told_of_none}
@@ -211,7 +211,7 @@ module _ (log : List Entry) (own : List ℕ) (s : Seat) (seated : IsSeated log o
           let le = first.1 in
           subst (λ (st : State). WasOpened st s.number) (sym (ap (after read_line) is ∙ asked_state log s.number (work_of s) line)) (first.0, omega (arith, same, le))
 
-  module _ (line : List ℕ) (later : List Entry) (is : later ≡ log ++ entry_of log s.number (kind.Refused s.number line) ∷ []) (text : List ℕ) (told : text ≡ memory_text)
+  module _ (line : List ℕ) (later : List Entry) (is : later ≡ log ++ entry_of log s.number (kind.Refused s.number line) ∷ []) (text : List ℕ) (told : text ≡ memory_text None)
       (in_room : s.lent ≡ None) (t : Seat) (number : t.number ≡ s.number) (lent : t.lent ≡ None) (work : work_of t ≡ work_of s) where
     no_work : work_of s ≡ []
     no_work = subst (WorksIf log s.number (work_of s)) in_room seated.works
@@ -395,7 +395,7 @@ module _ {X : Type 0} (hall : Turnstile X Entry) (old : Pass X Entry) (turn : Tu
           texts = λ all b. asked_texts log_of (places old) s found.0 line (history new) is room next_room text is_open stands answered now t number lent none all (found.2 all b);
         }
 
-    pub ended_refused : (line text : List ℕ) (t : Seat) → e ≡ entry_of log_of s.number (kind.Refused s.number line) → text ≡ memory_text → s.lent ≡ None
+    pub ended_refused : (line text : List ℕ) (t : Seat) → e ≡ entry_of log_of s.number (kind.Refused s.number line) → text ≡ memory_text None → s.lent ≡ None
         → t.number ≡ s.number → t.lent ≡ None → work_of t ≡ work_of s → Asks hall line text old new s t true
     ended_refused line text t this told in_room number lent work =
         let is = ended.seen ∙ ap (λ x. log_of ++ x ∷ []) this in

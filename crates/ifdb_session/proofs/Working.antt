@@ -14,6 +14,7 @@ use Rattle.ifdb_db.specs.Lent.{IsLabelInside, IsLent, GoesOn, Answers, with_clie
 use Rattle.ifdb_db.specs.Looks.{Looking, Shows}
 use Rattle.ifdb_db.specs.Reading.{read_line}
 use Rattle.ifdb_db.specs.Room.{Hall, IsOver, StandsFor, client_in}
+use Rattle.ifdb_db.specs.RoomSteps.{memory_text}
 use Rattle.ifdb_db.proofs.Lending.{goes_itself, goes_further, over_further, put_there, put_twice, put_itself, stands_answered, client_is_that}
 use Rattle.ifdb_db.proofs.RoomLaws.{at_open, over_at, over_more, same_session}
 use Rattle.ifdb_history.specs.declared.entry.Entry.{Entry}
@@ -23,7 +24,7 @@ use Rattle.ifdb_history.specs.Lines.{work_lines, lines_of, told_in, lines_with, 
 use Rattle.ifdb_history.proofs.Flat.{told_in-append}
 use Rattle.ifdb_session.specs.Seats.{work_of, IsToldIn, IsToldAs, IsWorked, Works, WorksIf, IsLentIf, IsShownAs}
 use Rattle.ifdb_session.specs.declared.seat.Seat.{Seat}
-use Rattle.ifdb_session.specs.Turns.{with_lent, MayBeBack, IsLentBy, memory_text}
+use Rattle.ifdb_session.specs.Turns.{with_lent, MayBeBack, IsLentBy}
 use Rattle.ifdb_session.proofs.Counting.{session_after}
 
 -- ---- in states
@@ -78,17 +79,17 @@ line_leaves st n line c e r at a = record {
 note_leaves : (st : State) (n : ℕ) (w : Note) (c e : Client) (text : List ℕ) → IsHere st n c → IsToldAs w.is_refused w.line c e text → Leaves st n (note_step n w) e text
 note_leaves st n w c e text at t = by w.is_refused t where
   by : (b : Bool) → IsToldAs b w.line c e text → Leaves st n (cond b (refused n) (asks n w.line)) e text
-  by true t = record { here = subst (IsHere st n) (sym t.0) at; log = refl; told = to_itself n memory_text ∙ sym t.1 }
+  by true t = record { here = subst (IsHere st n) (sym t.0) at; log = refl; told = to_itself n (memory_text None) ∙ sym t.1 }
   by false t = subst (Leaves st n (asks n w.line) e) (sym t.2) (line_leaves st n w.line c e t.0 at t.1)
 
 -- an answer that is told, or for which there is no memory
 pub told_as : (line : List ℕ) (c e : Client) (r : Reply) (text : List ℕ) (is_told : Bool) → Answers line c e r → (is_told ≡ true → text ≡ reply_text None r)
-    → (is_told ≡ false → text ≡ memory_text) → (is_told ≡ false → IsUnbounded r) → IsToldAs (not is_told) line c e text
+    → (is_told ≡ false → text ≡ memory_text None) → (is_told ≡ false → IsUnbounded r) → IsToldAs (not is_told) line c e text
 told_as line c e r text true a so none long = (r, a, so refl)
 told_as line c e r text false a so none long = (a.still (long refl), none refl)
 
 -- so it is with a look's
-pub shown_as : (x : Looking) (r : Reply) (text : List ℕ) (is_told : Bool) → Shows x r → (is_told ≡ true → text ≡ reply_text None r) → (is_told ≡ false → text ≡ memory_text) → IsShownAs x text
+pub shown_as : (x : Looking) (r : Reply) (text : List ℕ) (is_told : Bool) → Shows x r → (is_told ≡ true → text ≡ reply_text None r) → (is_told ≡ false → text ≡ memory_text None) → IsShownAs x text
 shown_as x r text true s so none = inl (r, s, so refl)
 shown_as x r text false s so none = inr (none refl)
 

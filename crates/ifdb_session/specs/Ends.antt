@@ -1,12 +1,13 @@
 -- How a turn ends.
-use Rattle.std.specs.Prelude.{◌≡◌, [], ◌∷◌, ◌++◌, length}
+use Rattle.std.specs.Prelude.{◌≡◌, ℕ, [], ◌∷◌, ◌++◌, length}
 use Rattle.ifdb_turn.specs.declared.turn.Turn.{Turn}
 use Rattle.ifdb_turn.specs.declared.turnstile.Pass.{Pass}
 use Rattle.ifdb_turn.specs.Passes.{history, places, shares, BelongsTo, IsOrderly}
 use Rattle.ifdb_turn.specs.Turns.{turnstile_of, pass_of}
 use Rattle.ifdb_db.specs.Reading.{read_line}
 use Rattle.ifdb_history.specs.declared.entry.Entry.{Entry}
-use Rattle.ifdb_history.specs.History.{IsRight}
+use Rattle.ifdb_history.specs.declared.entry.Kind.{Kind}
+use Rattle.ifdb_history.specs.History.{entry_of, IsRight}
 
 -- the turn of a pass has ended with this entry
 pub record EndsWith {X : Type 0} (turn : Turn X Entry) (pass : Pass X Entry) (e : Entry) : Type 0 where
@@ -15,6 +16,10 @@ pub record EndsWith {X : Type 0} (turn : Turn X Entry) (pass : Pass X Entry) (e 
   pub seen : history pass ≡ history (pass_of turn) ++ e ∷ []
   pub own : places pass ≡ places (pass_of turn) ++ length (history (pass_of turn)) ∷ []
   pub same : shares pass ≡ shares (pass_of turn)
+
+-- it has ended with the entry that has this kind and is of this session
+abbrev pub EndsOf : {X : Type 0} → Turn X Entry → Pass X Entry → ℕ → Kind → Type 0
+EndsOf turn pass n kind = EndsWith turn pass (entry_of (history (pass_of turn)) n kind)
 
 -- the turn of a pass has ended with no entry
 pub record EndsBare {X : Type 0} (turn : Turn X Entry) (pass : Pass X Entry) : Type 0 where

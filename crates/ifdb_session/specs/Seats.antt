@@ -6,6 +6,7 @@ use Rattle.ifdb_wire.specs.declared.reply.Reply.{Reply}
 use Rattle.ifdb_wire.specs.Text.{reply_text}
 use Rattle.ifdb_model.specs.Run.{session_of}
 use Rattle.ifdb_history.specs.declared.entry.Entry.{Entry}
+use Rattle.ifdb_history.specs.declared.entry.Kind.{Kind}
 use Rattle.ifdb_history.specs.declared.entry.Kind.TheVariants as kind
 use Rattle.ifdb_history.specs.declared.entry.Note.{Note}
 use Rattle.ifdb_history.specs.History.{after, entry_of, Holds, IsShut}
@@ -15,7 +16,7 @@ use Rattle.ifdb_db.specs.Lent.{IsLent, Answers}
 use Rattle.ifdb_db.specs.Looks.{Looking, Shows}
 use Rattle.ifdb_db.specs.Reading.{read_line}
 use Rattle.ifdb_db.specs.Room.{IsOver}
-use Rattle.ifdb_session.specs.Turns.{memory_text}
+use Rattle.ifdb_db.specs.RoomSteps.{memory_text}
 use Rattle.ifdb_session.specs.declared.seat.Seat.{Seat}
 
 -- what a reader had read, and whether it was refused
@@ -39,19 +40,27 @@ IsToldIn h s text = IsToldWith read_line s.number h (work_of s) text
 
 -- ---- the entries of a turn that brings work along
 
+-- a line that a session asks, and what it did away from the room
+abbrev pub asked_kind : ℕ → List (Reading × Bool) → List ℕ → Kind
+asked_kind n items line = kind.Asked n (notes items) line
+
+-- a session that leaves, and the same of it
+abbrev pub left_kind : ℕ → List (Reading × Bool) → Kind
+left_kind n items = kind.Left n (notes items)
+
 -- a line is asked behind it
 abbrev pub asked_entry : List Entry → ℕ → List (Reading × Bool) → List ℕ → Entry
-asked_entry h n items line = entry_of h n (kind.Asked n (notes items) line)
+asked_entry h n items line = entry_of h n (asked_kind n items line)
 
 -- the session leaves behind it
 abbrev pub left_entry : List Entry → ℕ → List (Reading × Bool) → Entry
-left_entry h n items = entry_of h n (kind.Left n (notes items))
+left_entry h n items = entry_of h n (left_kind n items)
 
 -- ---- what a lent session did
 
 -- by a line it came from c to e, and was told this text; there was no memory, or it answered from itself alone
 abbrev pub IsToldAs : Bool → List ℕ → Client → Client → List ℕ → Type 0
-IsToldAs true line c e text = (e ≡ c) × (text ≡ memory_text)
+IsToldAs true line c e text = (e ≡ c) × (text ≡ memory_text None)
 IsToldAs false line c e text = (r : Reply) × Answers line c e r × (text ≡ reply_text None r)
 
 -- by this work it came from c to e
@@ -114,4 +123,4 @@ IsAskedAlone line old new text false = new ≡ old
 
 -- it was answered with this text, or there was no memory for the answer
 abbrev pub IsShownAs : Looking → List ℕ → Type 0
-IsShownAs x text = ((r : Reply) × Shows x r × (text ≡ reply_text None r)) ⊎ (text ≡ memory_text)
+IsShownAs x text = ((r : Reply) × Shows x r × (text ≡ reply_text None r)) ⊎ (text ≡ memory_text None)

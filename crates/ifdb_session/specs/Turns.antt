@@ -1,14 +1,11 @@
 -- What the room does in a turn, whatever state it stands for.
 use Rattle.std.specs.Prelude.{◌≡◌, ℕ, ◌+◌, Bool, true, false, List, [], length, Option, Some, None}
-use Rattle.ifdb_wire.specs.declared.fault.Fault.TheVariants as fault
-use Rattle.ifdb_wire.specs.declared.reply.Reply.TheVariants as reply
-use Rattle.ifdb_wire.specs.Text.{reply_text}
 use Rattle.ifdb_model.specs.Run.{State, session_of, asks}
 use Rattle.ifdb_db.specs.Reading.{read_line}
 use Rattle.ifdb_db.specs.Client.{Client}
 use Rattle.ifdb_db.specs.Lent.{IsLent, MayComeBack, with_client}
 use Rattle.ifdb_db.specs.Room.{Hall, StandsFor, client_in}
-use Rattle.ifdb_db.specs.RoomSteps.{GoesBy, IsReplyText}
+use Rattle.ifdb_db.specs.RoomSteps.{GoesBy, IsReplyText, memory_text}
 use Rattle.ifdb_history.specs.declared.entry.Kind.{Kind}
 use Rattle.ifdb_history.specs.declared.entry.Kind.TheVariants as kind
 use Rattle.ifdb_session.specs.declared.shared.Asked.{Asked}
@@ -42,6 +39,11 @@ abbrev pub IsLentBy : Hall → ℕ → Option Client → Type 0
 IsLentBy h n None = Unit {0}
 IsLentBy h n (Some c) = (c ≡ client_in h n) × IsLent c
 
+-- so it is with a session that is open still; one that is over is lent no more
+abbrev pub IsLentAfter : Hall → ℕ → Bool → Option Client → Type 0
+IsLentAfter h n true now = IsLentBy h n now
+IsLentAfter h n false now = now ≡ None
+
 -- ---- what is counted
 
 -- one entry more is counted, and a commit or a refused COMMIT if it is so
@@ -56,10 +58,6 @@ CountsTurn h x old new = (st : State) → StandsFor h st → HasCounted old new 
 
 -- ---- a line
 
--- what refuses a line for which there is no memory
-abbrev pub memory_text : List ℕ
-memory_text = reply_text None (reply.Refused fault.OutOfMemory)
-
 -- a line was answered with this text
 abbrev pub IsAnswered : ℕ → List ℕ → Hall → Hall → List ℕ → Bool → Type 0
 IsAnswered n line h g text is_open = GoesBy h g (asks n line) × IsReplyText h n line None text × IsLeftOpen g n is_open
@@ -67,12 +65,9 @@ IsAnswered n line h g text is_open = GoesBy h g (asks n line) × IsReplyText h n
 -- So it was, by a session that was lent or not; the room has lent it again, if it could be. Or there was no memory for the
 -- line: in the room it is counted, and a lent session stays as it is.
 abbrev pub IsAsked : ℕ → List ℕ → Option Client → Option Client → SharedRoom → SharedRoom → List ℕ → Asked → Type 0
-IsAsked n line lent now old new text asked.Open =
-    IsAnswered n line (with_lent old.room n lent) new.room text true
-    × CountsTurn (with_lent old.room n lent) (kind.Asked n [] line) old new × IsLentBy new.room n now
-IsAsked n line lent now old new text asked.Over =
-    IsAnswered n line (with_lent old.room n lent) new.room text false
-    × CountsTurn (with_lent old.room n lent) (kind.Asked n [] line) old new × (now ≡ None)
+IsAsked n line lent now old new text (asked.Done is_open) =
+    IsAnswered n line (with_lent old.room n lent) new.room text is_open
+    × CountsTurn (with_lent old.room n lent) (kind.Asked n [] line) old new × IsLentAfter new.room n is_open now
 IsAsked n line lent now old new text asked.Refused =
-    (new.room ≡ old.room) × (text ≡ memory_text) × CountsTurn old.room (kind.Refused n line) old new × (lent ≡ None) × (now ≡ None)
-IsAsked n line lent now old new text asked.Kept = (new ≡ old) × (text ≡ memory_text) × (now ≡ lent) × ((c : Client) × (lent ≡ Some c))
+    (new.room ≡ old.room) × (text ≡ memory_text None) × CountsTurn old.room (kind.Refused n line) old new × (lent ≡ None) × (now ≡ None)
+IsAsked n line lent now old new text asked.Kept = (new ≡ old) × (text ≡ memory_text None) × (now ≡ lent) × ((c : Client) × (lent ≡ Some c))

@@ -53,16 +53,19 @@ pub fn serve_link<R: Wait, K: Link>(
     requires orderly { IsOrderly (IsRight read_line) pass.old }
     requires limit { limit ≤ 2 ^ 40 }
     ensures sees { Sees hall.now pass.old pass.new }
-    ensures served { result ≢ Ending.OutOfMemory → (n : ℕ) × Served result limit n pass.old pass.new (record {
-      left = K.left link.old;
-      left_now = K.left link.new;
-      written = K.written link.old;
-      written_now = K.written link.new;
-    }) }
+    ensures served { result ≢ Ending.OutOfMemory
+        → (n : ℕ) × Served result limit n pass.old pass.new (record {
+          left = K.left link.old;
+          left_now = K.left link.new;
+          written = K.written link.old;
+          written_now = K.written link.new;
+        }) }
     ensures unserved { result ≡ Ending.OutOfMemory → link.new ≡ link.old }
     ensures unopened { result ≡ Ending.OutOfMemory → places pass.new ≡ places pass.old }
-    ensures read_cause { result ≡ Ending.LinkRead → Rose (K.Source.faults link.old) (K.Source.faults link.new) }
-    ensures write_cause { result ≡ Ending.LinkWrite → Rose (K.Sink.faults link.old) (K.Sink.faults link.new) }
+    ensures read_cause { result ≡ Ending.LinkRead
+        → Rose (K.Source.faults link.old) (K.Source.faults link.new) }
+    ensures write_cause { result ≡ Ending.LinkWrite
+        → Rose (K.Sink.faults link.old) (K.Sink.faults link.new) }
 {
     let Ok(mut reader) = LineReader::new(alloc, limit) else {
         return Ending::OutOfMemory;
@@ -182,10 +185,14 @@ fn answer<R: Wait, K: Link>(
     requires pass { BelongsTo hall.now pass.old }
     requires orderly { IsOrderly (IsRight read_line) pass.old }
     requires seated { IsSeated (history pass.old) (places pass.old) seat.old }
-    ensures asks { Asks hall.now reader.now.text out.new.text pass.old pass.new seat.old seat.new result.is_open }
-    ensures written { result.is_written ≡ true → Appends (K.written link.old) (K.written link.new) out.new.text }
-    ensures unwritten { result.is_written ≡ false → WritesShort (K.written link.old) (K.written link.new) out.new.text }
-    ensures cause { result.is_written ≡ false → Rose (K.Sink.faults link.old) (K.Sink.faults link.new) }
+    ensures asks { Asks hall.now reader.now.text out.new.text
+        pass.old pass.new seat.old seat.new result.is_open }
+    ensures written { result.is_written ≡ true
+        → Appends (K.written link.old) (K.written link.new) out.new.text }
+    ensures unwritten { result.is_written ≡ false
+        → WritesShort (K.written link.old) (K.written link.new) out.new.text }
+    ensures cause { result.is_written ≡ false
+        → Rose (K.Sink.faults link.old) (K.Sink.faults link.new) }
     ensures later { K.Sink.faults link.old ≤ K.Sink.faults link.new }
     ensures left { K.left link.new ≡ K.left link.old }
     ensures reads { K.Source.faults link.new ≡ K.Source.faults link.old }
@@ -220,8 +227,10 @@ fn ask<R: Wait>(
 
 // Tells a connection that its line is too long.
 fn refuse_long<K: Link>(out: &mut Out, link: &mut K) -> Result<(), Failed>
-    ensures ok { OnOk result (Appends (K.written link.old) (K.written link.new) (reply_text None (Reply.Refused Fault.TooLong))) }
-    ensures err { OnErr result (WritesShort (K.written link.old) (K.written link.new) (reply_text None (Reply.Refused Fault.TooLong))) }
+    ensures ok { OnOk result (Appends (K.written link.old) (K.written link.new)
+        (reply_text None (Reply.Refused Fault.TooLong))) }
+    ensures err { OnErr result (WritesShort (K.written link.old) (K.written link.new)
+        (reply_text None (Reply.Refused Fault.TooLong))) }
     ensures cause { HasCause (K.Sink.faults link.old) (K.Sink.faults link.new) result }
     ensures left { K.left link.new ≡ K.left link.old }
     ensures reads { K.Source.faults link.new ≡ K.Source.faults link.old }

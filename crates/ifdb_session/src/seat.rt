@@ -2,8 +2,8 @@
 ghost use Rattle.std.specs.Prelude.{◌≡◌, [], true, false, None};
 ghost use Rattle.ifdb_wire.specs.Text.{reply_text, IsUnbounded};
 ghost use Rattle.ifdb_db.specs.Lent.{IsLent};
+ghost use Rattle.ifdb_db.specs.RoomSteps.{memory_text};
 ghost use Rattle.ifdb_session.specs.Seats.{IsAskedAlone, IsAskedOf, IsLentIf, IsShownAs};
-ghost use Rattle.ifdb_session.specs.Turns.{memory_text};
 
 use ifdb_db::{Look, Session};
 use ifdb_history::GhostList;
@@ -86,7 +86,7 @@ pub(crate) fn show(look: Look<'_>, out: &mut Out)
 // Tells a reply on a connection. False is want of memory, which is told in its place.
 fn tell(out: &mut Out, reply: &Reply) -> bool
     ensures told { result ≡ true → out.new.text ≡ reply_text None reply.now }
-    ensures memory { result ≡ false → out.new.text ≡ memory_text }
+    ensures memory { result ≡ false → out.new.text ≡ memory_text None }
     ensures unbounded { result ≡ false → IsUnbounded reply.now }
 {
     out.speak_for(None);

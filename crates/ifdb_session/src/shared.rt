@@ -3,12 +3,12 @@ ghost use Rattle.std.specs.Prelude.{◌≡◌, [], false, List, None, IfErr, IfO
 ghost use Rattle.ifdb_wire.specs.Text.{reply_text};
 ghost use Rattle.ifdb_model.specs.Run.{asks, leaves, opens};
 ghost use Rattle.ifdb_db.specs.Looks.{IsLookOf};
-ghost use Rattle.ifdb_db.specs.RoomSteps.{GoesBy, IsReplyTo};
+ghost use Rattle.ifdb_db.specs.RoomSteps.{GoesBy, IsReplyTo, memory_text};
 ghost use Rattle.ifdb_history.specs.declared.entry.Kind.TheVariants.{Opened as OpenedKind, Left as LeftKind};
 ghost use Rattle.ifdb_session.specs.Counts.{counts_of, IsGlance};
 ghost use Rattle.ifdb_session.specs.Endings.{capped};
 ghost use Rattle.ifdb_session.specs.Standing.{StandsForHistory};
-ghost use Rattle.ifdb_session.specs.Turns.{CountsTurn, HasCounted, IsAsked, IsNextNumber, MayBeBack, memory_text, with_lent};
+ghost use Rattle.ifdb_session.specs.Turns.{CountsTurn, HasCounted, IsAsked, IsNextNumber, MayBeBack, with_lent};
 
 use crate::OutOfMemory;
 use crate::counts::{Counts, Glance, counted};
@@ -34,10 +34,11 @@ pub struct SharedRoom {
 /// What became of a line that a session asked.
 #[derive(Clone, Copy, Debug, PartialEq, Eq)]
 pub(crate) enum Asked {
-    /// It was answered, and the session is open still.
-    Open,
-    /// It was answered, and the session is over.
-    Over,
+    /// It was answered.
+    Done {
+        /// Whether the session is open still.
+        is_open: bool,
+    },
     /// There was no memory for it.
     Refused,
     /// There was no memory for it, and its session is lent as before: nothing is counted.
@@ -142,17 +143,18 @@ impl SharedRoom {
         self.commits = counted(self.commits, before.has_committed(after, &reply));
         self.refused = counted(self.refused, before.has_refused(after, &reply));
         if !self.room.is_open(n) {
-            return Asked::Over;
+            return Asked::Done { is_open: false };
         }
         *lent = self.room.lend(n);
-        Asked::Open
+        Asked::Done { is_open: true }
     }
 
     /// Drops a session without BYE, which comes back if it was lent.
     pub(crate) fn leave(&mut self, n: u64, lent: Option<Session>)
         requires { MayBeBack self.old.room n lent }
         ensures left { GoesBy (with_lent self.old.room n lent) self.new.room (leaves n) }
-        ensures counted { CountsTurn (with_lent self.old.room n lent) (LeftKind n []) self.old self.new }
+        ensures counted { CountsTurn (with_lent self.old.room n lent) (LeftKind n [])
+            self.old self.new }
     {
         match lent {
             None => self.room.leave(n),
@@ -208,7 +210,7 @@ fn tell(
     ensures back { OnOk result (lent.new ≡ None) }
     ensures err { OnErr result (room.new ≡ room.old) }
     ensures kept { OnErr result (lent.new ≡ lent.old) }
-    ensures memory { OnErr result (out.new.text ≡ memory_text) }
+    ensures memory { OnErr result (out.new.text ≡ memory_text None) }
 {
     let Some(session) = lent.take() else {
         return tell_there(room, n, line, out);
@@ -233,7 +235,7 @@ fn tell_there(
     ensures told { IfOk result (IsReplyTo room.old n line.entry) }
     ensures text { IfOk result (λ r. out.new.text ≡ reply_text None r) }
     ensures err { OnErr result (room.new ≡ room.old) }
-    ensures memory { OnErr result (out.new.text ≡ memory_text) }
+    ensures memory { OnErr result (out.new.text ≡ memory_text None) }
 {
     out.speak_for(None);
     let Ok(reply) = room.reply_read(n, line) else {

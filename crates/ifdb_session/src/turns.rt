@@ -7,9 +7,10 @@ ghost use Rattle.ifdb_history.specs.History.{after, entry_of, opening_entry, IsR
 ghost use Rattle.ifdb_history.specs.Lines.{lines_of, IsTold};
 ghost use Rattle.ifdb_history.specs.declared.entry.Kind.TheVariants.{Looked as LookedKind, Refused as RefusedKind};
 ghost use Rattle.ifdb_session.specs.Standing.{StandsForHistory, root_of};
-ghost use Rattle.ifdb_session.specs.Ends.{EndsBare, EndsWith};
+ghost use Rattle.ifdb_session.specs.Ends.{EndsBare, EndsOf, EndsWith};
 ghost use Rattle.ifdb_session.specs.Passes.{Sees, Adds, Asks, IsNew};
-ghost use Rattle.ifdb_session.specs.Seats.{asked_entry, left_entry, lines_in, IsSeated, IsToldIn};
+ghost use Rattle.ifdb_session.specs.Seats.{asked_entry, asked_kind, left_entry, left_kind};
+ghost use Rattle.ifdb_session.specs.Seats.{lines_in, IsSeated, IsToldIn};
 
 use crate::seat::{Seat, show};
 use crate::shared::Asked;
@@ -69,15 +70,10 @@ pub(crate) fn ask_in_turn<R: Wait>(
         Err(line) => line,
     };
     match turn.object().ask(n, &mut seat.lent, line, out) {
-        Asked::Open => {
+        Asked::Done { is_open } => {
             done_asked::<Brand>(turn, n, &seat.work, reader.text());
             seat.work = GhostList::new();
-            true
-        }
-        Asked::Over => {
-            done_asked::<Brand>(turn, n, &seat.work, reader.text());
-            seat.work = GhostList::new();
-            false
+            is_open
         }
         Asked::Refused => {
             done_refused::<Brand>(turn, n, reader.text());
@@ -148,7 +144,7 @@ fn done_asked<N: NamedEntry<Entry>>(
     requires turn { IsTurn turn }
     requires entry { let e = asked_entry (history (pass_of turn)) n work.now.items line.now in
         (N.entry ≡ Some e) × AddsEntry StandsForHistory (IsRight read_line) root_of turn e }
-    ensures { EndsWith turn.entry turn.exit.0.now (asked_entry (history (pass_of turn.entry)) n work.now.items line.now) }
+    ensures { EndsOf turn.entry turn.exit.0.now n (asked_kind n work.now.items line.now) }
 {
     turn.done::<N>();
 }
@@ -158,7 +154,7 @@ fn done_looked<N: NamedEntry<Entry>>(turn: Turn<'_, SharedRoom>, n: u64, line: &
     requires turn { IsTurn turn }
     requires entry { let e = entry_of (history (pass_of turn)) n (LookedKind n line.now) in
         (N.entry ≡ Some e) × AddsEntry StandsForHistory (IsRight read_line) root_of turn e }
-    ensures { EndsWith turn.entry turn.exit.0.now (entry_of (history (pass_of turn.entry)) n (LookedKind n line.now)) }
+    ensures { EndsOf turn.entry turn.exit.0.now n (LookedKind n line.now) }
 {
     turn.done::<N>();
 }
@@ -168,7 +164,7 @@ fn done_refused<N: NamedEntry<Entry>>(turn: Turn<'_, SharedRoom>, n: u64, line: 
     requires turn { IsTurn turn }
     requires entry { let e = entry_of (history (pass_of turn)) n (RefusedKind n line.now) in
         (N.entry ≡ Some e) × AddsEntry StandsForHistory (IsRight read_line) root_of turn e }
-    ensures { EndsWith turn.entry turn.exit.0.now (entry_of (history (pass_of turn.entry)) n (RefusedKind n line.now)) }
+    ensures { EndsOf turn.entry turn.exit.0.now n (RefusedKind n line.now) }
 {
     turn.done::<N>();
 }
@@ -182,7 +178,7 @@ fn done_left<N: NamedEntry<Entry>>(
     requires turn { IsTurn turn }
     requires entry { let e = left_entry (history (pass_of turn)) n work.now.items in
         (N.entry ≡ Some e) × AddsEntry StandsForHistory (IsRight read_line) root_of turn e }
-    ensures { EndsWith turn.entry turn.exit.0.now (left_entry (history (pass_of turn.entry)) n work.now.items) }
+    ensures { EndsOf turn.entry turn.exit.0.now n (left_kind n work.now.items) }
 {
     turn.done::<N>();
 }

@@ -1,4 +1,4 @@
-use Rattle.std.proofs.Common.{rules, ◌<◌, ◌∙◌, ◌∷◌, [], true, false, inr, refl, sym, ap, subst}
+use Rattle.std.proofs.Common.{rules, ◌<◌, ◌∙◌, ◌∷◌, [], true, inr, refl, sym, ap, subst}
 use Rattle.std.proofs.lemmas.List.{map-append}
 use Rattle.ifdb_turn.specs.Passes.{history, places}
 use Rattle.ifdb_turn.specs.Places.{times}
@@ -11,6 +11,7 @@ use Rattle.ifdb_session.specs.Standing.{StandsForHistory}
 use Rattle.ifdb_session.specs.Turns.{IsAsked}
 use Rattle.ifdb_session.specs.declared.shared.Asked.TheVariants as asked
 use Rattle.ifdb_session.specs.declared.shared.SharedRoom.{SharedRoom}
+use Rattle.ifdb_session.proofs.Counting.{lent_if_open}
 use Rattle.ifdb_session.proofs.Turned.{seat_found, may_be_back, may_ask, may_look, may_refuse, ended_asked, ended_looked, ended_refused, bare_asked}
 use Rattle.ifdb_session.proofs.turns.ask_in_turn.Goals as goal
 
@@ -32,22 +33,9 @@ done_asked-requires-clause-entry g c =
     let same = c.object-2.ensures.value ∙ c.in-Err.ensures.err ∙ c.object.ensures.value in
     let stands = subst (λ (z : SharedRoom). StandsForHistory z log) (sym same) e.stands in
     let found = seat_found (history c.args.pass.now) log (places c.args.pass.now) s c.requires.seated e.begins e.orderly.0 e.own in
-    let line = c.in-Err.ensures.back ∙ c.new-line.ensures ∙ c.text.ensures ∙ sym c.text-in-Open.ensures in
-    let a = subst (λ l. IsAsked s.number l s.lent c.ask.new.lent c.object-2.result.now c.ask.new.self c.ask.new.out.text asked.Open) line c.in-Open.ensures in
-    let m = may_ask log (places c.args.pass.now) s found.0 c.object-2.result.now c.ask.new.self stands c.text-in-Open.result.now a.0.0 a.1 in
-    (refl, (m.0, (m.1, inr (subst (λ l. 0 < times (root_in log s.number) l) (sym e.places) m.2))))
-
-pub done_asked-requires-in-Over-clause-entry : goal.done_asked-requires-in-Over-clause-entry
-done_asked-requires-in-Over-clause-entry g c =
-    let e = c.enter-turn.ensures in
-    let s = c.args.seat.now in
-    let log = history (pass_of c.enter-turn.result) in
-    let same = c.object-2.ensures.value ∙ c.in-Err.ensures.err ∙ c.object.ensures.value in
-    let stands = subst (λ (z : SharedRoom). StandsForHistory z log) (sym same) e.stands in
-    let found = seat_found (history c.args.pass.now) log (places c.args.pass.now) s c.requires.seated e.begins e.orderly.0 e.own in
-    let line = c.in-Err.ensures.back ∙ c.new-line.ensures ∙ c.text.ensures ∙ sym c.text-in-Over.ensures in
-    let a = subst (λ l. IsAsked s.number l s.lent c.ask.new.lent c.object-2.result.now c.ask.new.self c.ask.new.out.text asked.Over) line c.in-Over.ensures in
-    let m = may_ask log (places c.args.pass.now) s found.0 c.object-2.result.now c.ask.new.self stands c.text-in-Over.result.now a.0.0 a.1 in
+    let line = c.in-Err.ensures.back ∙ c.new-line.ensures ∙ c.text.ensures ∙ sym c.text-in-Done.ensures in
+    let a = subst (λ l. IsAsked s.number l s.lent c.ask.new.lent c.object-2.result.now c.ask.new.self c.ask.new.out.text (asked.Done c.in-Done.is_open)) line c.in-Done.ensures in
+    let m = may_ask log (places c.args.pass.now) s found.0 c.object-2.result.now c.ask.new.self stands c.text-in-Done.result.now a.0.0 a.1 in
     (refl, (m.0, (m.1, inr (subst (λ l. 0 < times (root_in log s.number) l) (sym e.places) m.2))))
 
 pub done_refused-requires-clause-entry : goal.done_refused-requires-clause-entry
@@ -63,8 +51,8 @@ done_refused-requires-clause-entry g c =
     let m = may_refuse log (places c.args.pass.now) s found.0 c.object-2.result.now c.ask.new.self stands c.text-in-Refused.result.now a.0 a.2 in
     (refl, (m.0, (m.1, inr (subst (λ l. 0 < times (root_in log s.number) l) (sym e.places) m.2))))
 
-pub returns-in-Open : goal.returns-in-Open
-returns-in-Open g c =
+pub returns-in-Done : goal.returns-in-Done
+returns-in-Done g c =
     let e = c.enter-turn.ensures in
     let s = c.args.seat.now in
     let log = history (pass_of c.enter-turn.result) in
@@ -72,26 +60,11 @@ returns-in-Open g c =
     let stands = subst (λ (z : SharedRoom). StandsForHistory z log) (sym same) e.stands in
     let found = seat_found (history c.args.pass.now) log (places c.args.pass.now) s c.requires.seated e.begins e.orderly.0 e.own in
     let line = c.in-Err.ensures.back ∙ c.new-line.ensures ∙ c.text.ensures in
-    let a = subst (λ l. IsAsked s.number l s.lent c.ask.new.lent c.object-2.result.now c.ask.new.self c.ask.new.out.text asked.Open) line c.in-Open.ensures in
+    let a = subst (λ l. IsAsked s.number l s.lent c.ask.new.lent c.object-2.result.now c.ask.new.self c.ask.new.out.text (asked.Done c.in-Done.is_open)) line c.in-Done.ensures in
     let x = ended_asked c.args.hall.now c.args.pass.now _ _ _ c.done_asked.ensures e.turnstile e.begins e.places e.shares s c.requires.seated e.orderly.0 e.own
-    c.args.reader.now.text c.ask.new.out.text c.object-2.result.now.room c.ask.new.self.room true c.ask.new.lent
+    c.args.reader.now.text c.ask.new.out.text c.object-2.result.now.room c.ask.new.self.room c.in-Done.is_open c.ask.new.lent
     (record { alloc = s.alloc; number = s.number; lent = c.ask.new.lent; work = c.new-seat.result })
-    (ap (asked_entry log s.number s.work.items) c.text-in-Open.ensures) stands.room a.0 (λ _. a.2) refl refl (ap notes c.new-seat.ensures) in search rules
-
-pub returns-in-Over : goal.returns-in-Over
-returns-in-Over g c =
-    let e = c.enter-turn.ensures in
-    let s = c.args.seat.now in
-    let log = history (pass_of c.enter-turn.result) in
-    let same = c.object-2.ensures.value ∙ c.in-Err.ensures.err ∙ c.object.ensures.value in
-    let stands = subst (λ (z : SharedRoom). StandsForHistory z log) (sym same) e.stands in
-    let found = seat_found (history c.args.pass.now) log (places c.args.pass.now) s c.requires.seated e.begins e.orderly.0 e.own in
-    let line = c.in-Err.ensures.back ∙ c.new-line.ensures ∙ c.text.ensures in
-    let a = subst (λ l. IsAsked s.number l s.lent c.ask.new.lent c.object-2.result.now c.ask.new.self c.ask.new.out.text asked.Over) line c.in-Over.ensures in
-    let x = ended_asked c.args.hall.now c.args.pass.now _ _ _ c.done_asked-in-Over.ensures e.turnstile e.begins e.places e.shares s c.requires.seated e.orderly.0 e.own
-    c.args.reader.now.text c.ask.new.out.text c.object-2.result.now.room c.ask.new.self.room false c.ask.new.lent
-    (record { alloc = s.alloc; number = s.number; lent = c.ask.new.lent; work = c.new-seat-in-Over.result })
-    (ap (asked_entry log s.number s.work.items) c.text-in-Over.ensures) stands.room a.0 (λ o. cc) refl refl (ap notes c.new-seat-in-Over.ensures) in search rules
+    (ap (asked_entry log s.number s.work.items) c.text-in-Done.ensures) stands.room a.0 (lent_if_open c.ask.new.self.room s.number c.in-Done.is_open c.ask.new.lent a.2) refl refl (ap notes c.new-seat.ensures) in search rules
 
 pub returns-in-Refused : goal.returns-in-Refused
 returns-in-Refused g c =
