@@ -1,6 +1,6 @@
 -- How the program may end.
 use Rattle.ifdb.specs.declared.top.Status.{Status}
-use Rattle.ifdb.specs.declared.top.Status.TheVariants.{Done, Usage, ReadFault, WriteFault, OutOfMemory, TooLarge, SiteFault}
+use Rattle.ifdb.specs.declared.top.Status.TheVariants.{Done, Usage, WriteFault, OutOfMemory, SiteFault}
 
 -- where nothing had a fault, and a script keeps to its limit, the program ends in one of these two ways
 abbrev pub EndsWell : Status → Type 0

@@ -61,27 +61,34 @@ pub fn top<T: AllocGlobal + Threads + Wait + Sync, R: Source, W: Sink, S: Site>(
 
     // Faults of a script, and what was written before them.
     ensures read { result ≡ Status.ReadFault → Rose (R.faults input.old) (R.faults input.new) }
-    ensures read_front { (limit : ℕ) → IsRun limit words.now → result ≡ Status.ReadFault → RanFront (λ n. n ≤ limit)
+    ensures read_front { (limit : ℕ) → IsRun limit words.now → result ≡ Status.ReadFault
+        → RanFront (λ n. n ≤ limit)
         (R.left input.old) (R.left input.new) (W.written output.old) (W.written output.new) }
     ensures write { result ≡ Status.WriteFault → Rose (W.faults output.old) (W.faults output.new) }
-    ensures write_front { (limit : ℕ) → IsRun limit words.now → result ≡ Status.WriteFault → RanCut limit
+    ensures write_front { (limit : ℕ) → IsRun limit words.now → result ≡ Status.WriteFault
+        → RanCut limit
         (R.left input.old) (R.left input.new) (W.written output.old) (W.written output.new) }
-    ensures too_large { (limit : ℕ) → IsRun limit words.now → result ≡ Status.TooLarge → RanFront (λ n. n ≡ limit + 1)
+    ensures too_large { (limit : ℕ) → IsRun limit words.now → result ≡ Status.TooLarge
+        → RanFront (λ n. n ≡ limit + 1)
         (R.left input.old) (R.left input.new) (W.written output.old) (W.written output.new) }
     ensures memory { NeedsNoSite words.now → result ≡ Status.OutOfMemory
         → (input.new ≡ input.old) × (output.new ≡ output.old) }
     ensures complete { ¬ IsRefused words.now → ¬ Rose (R.faults input.old) (R.faults input.new)
-        → ¬ Rose (W.faults output.old) (W.faults output.new) → ¬ Rose (S.faults site.old) (S.faults site.new)
+        → ¬ Rose (W.faults output.old) (W.faults output.new)
+        → ¬ Rose (S.faults site.old) (S.faults site.new)
         → result ≢ Status.TooLarge → EndsWell result }
 
     // The service.
     ensures served { (s : ServiceWords) → IsServe s words.now → result ≡ Status.Done
-        → IsDone S.Site S.Door.Door S.Door.Link.Source S.Door.Link.Sink W.Sink s site.old site.new output.old output.new }
+        → IsDone S.Site S.Door.Door S.Door.Link.Source S.Door.Link.Sink W.Sink s
+        site.old site.new output.old output.new }
     ensures served_cut { (s : ServiceWords) → IsServe s words.now → result ≡ Status.WriteFault
-        → IsCut S.Site S.Door.Door S.Door.Link.Source S.Door.Link.Sink W.Sink s site.old site.new output.old output.new }
+        → IsCut S.Site S.Door.Door S.Door.Link.Source S.Door.Link.Sink W.Sink s
+        site.old site.new output.old output.new }
     ensures unserved { (s : ServiceWords) → IsServe s words.now → result ≡ Status.OutOfMemory
-        → ((site.new ≡ site.old) × (output.new ≡ output.old)) ⊎ IsUnserved S.Site S.Door.Door S.Door.Link.Source S.Door.Link.Sink W.Sink
-        s site.old site.new output.old output.new }
+        → ((site.new ≡ site.old) × (output.new ≡ output.old))
+        ⊎ IsUnserved S.Site S.Door.Door S.Door.Link.Source S.Door.Link.Sink W.Sink s
+        site.old site.new output.old output.new }
     ensures site { result ≡ Status.SiteFault → Rose (S.faults site.old) (S.faults site.new) }
     ensures no_doors { (s : ServiceWords) → IsServe s words.now → result ≡ Status.SiteFault
         → GivesNone S.Site s site.old site.new × (output.new ≡ output.old) }
@@ -155,13 +162,15 @@ fn made(alloc: Global, text: Text) -> Result<Vec<u8>, OutOfMemory>
 fn run<R: Source, W: Sink>(alloc: Global, input: &mut R, output: &mut W, limit: u64) -> Status
     requires { limit ≤ 2 ^ 40 }
     ensures done { result ≡ Status.Done
-        → RanWhole limit (R.left input.old) (R.left input.new) (W.written output.old) (W.written output.new) }
+        → RanWhole limit
+        (R.left input.old) (R.left input.new) (W.written output.old) (W.written output.new) }
     ensures read { result ≡ Status.ReadFault → Rose (R.faults input.old) (R.faults input.new) }
     ensures read_front { result ≡ Status.ReadFault → RanFront (λ n. n ≤ limit)
         (R.left input.old) (R.left input.new) (W.written output.old) (W.written output.new) }
     ensures write { result ≡ Status.WriteFault → Rose (W.faults output.old) (W.faults output.new) }
     ensures write_front { result ≡ Status.WriteFault
-        → RanCut limit (R.left input.old) (R.left input.new) (W.written output.old) (W.written output.new) }
+        → RanCut limit
+        (R.left input.old) (R.left input.new) (W.written output.old) (W.written output.new) }
     ensures too_large { result ≡ Status.TooLarge → RanFront (λ n. n ≡ limit + 1)
         (R.left input.old) (R.left input.new) (W.written output.old) (W.written output.new) }
     ensures memory { result ≡ Status.OutOfMemory → (input.new ≡ input.old) × (output.new ≡ output.old) }
@@ -187,14 +196,18 @@ fn serve<T: AllocGlobal + Threads + Wait + Sync, W: Sink, S: Site>(
 ) -> Status
     requires { IsService service }
     ensures done { result ≡ Status.Done
-        → IsDone S.Site S.Door.Door S.Door.Link.Source S.Door.Link.Sink W.Sink service site.old site.new output.old output.new }
+        → IsDone S.Site S.Door.Door S.Door.Link.Source S.Door.Link.Sink W.Sink service
+        site.old site.new output.old output.new }
     ensures write { result ≡ Status.WriteFault → Rose (W.faults output.old) (W.faults output.new) }
     ensures cut { result ≡ Status.WriteFault
-        → IsCut S.Site S.Door.Door S.Door.Link.Source S.Door.Link.Sink W.Sink service site.old site.new output.old output.new }
+        → IsCut S.Site S.Door.Door S.Door.Link.Source S.Door.Link.Sink W.Sink service
+        site.old site.new output.old output.new }
     ensures site { result ≡ Status.SiteFault → Rose (S.faults site.old) (S.faults site.new) }
-    ensures no_doors { result ≡ Status.SiteFault → GivesNone S.Site service site.old site.new × (output.new ≡ output.old) }
-    ensures memory { result ≡ Status.OutOfMemory → IsUnserved S.Site S.Door.Door S.Door.Link.Source S.Door.Link.Sink W.Sink
-        service site.old site.new output.old output.new }
+    ensures no_doors { result ≡ Status.SiteFault
+        → GivesNone S.Site service site.old site.new × (output.new ≡ output.old) }
+    ensures memory { result ≡ Status.OutOfMemory
+        → IsUnserved S.Site S.Door.Door S.Door.Link.Source S.Door.Link.Sink W.Sink service
+        site.old site.new output.old output.new }
     ensures ends { IsServeEnd result }
     ensures output_later { W.faults output.old ≤ W.faults output.new }
     ensures site_later { S.faults site.old ≤ S.faults site.new }

@@ -3,12 +3,10 @@ use Rattle.std.proofs.Common.{◌≡◌, ℕ, ◌+◌, ◌<◌, ◌≤◌, Bool,
 use Rattle.std.specs.Prelude.{option_to_list}
 use Rattle.std.specs.List.{flat_map}
 use Rattle.std.proofs.lemmas.List.{map-append, length-append}
-use Rattle.std.proofs.lemmas.List.Concat.{flat_map-append}
 use Rattle.std.proofs.lemmas.List.Elements.{filter-append}
 use Rattle.ifdb_wire.specs.declared.reply.Reply.{Reply}
 use Rattle.ifdb_model.specs.Log.{content_of}
-use Rattle.ifdb_model.specs.Step.{Reader}
-use Rattle.ifdb_model.specs.Run.{State, Step, Told, next, told, run, replies, opening}
+use Rattle.ifdb_model.specs.Run.{State, Told, run, replies, opening}
 use Rattle.ifdb_model.specs.Script.{lines_of, line_steps, steps_of}
 use Rattle.ifdb_model.specs.Session.{Seen}
 use Rattle.ifdb_model.proofs.Runs.{run-append, replies-append}

@@ -7,7 +7,7 @@ use Rattle.ifdb_wire.specs.declared.fault.Fault.TheVariants as fault
 use Rattle.ifdb_wire.specs.declared.reply.Reply.{Reply}
 use Rattle.ifdb_wire.specs.declared.reply.Reply.TheVariants as reply
 use Rattle.ifdb_wire.specs.Script as script
-use Rattle.ifdb_wire.specs.Script.{without_return, session_number, digits_number, asks_of, split_at, short_line, script_line}
+use Rattle.ifdb_wire.specs.Script.{without_return, session_number, asks_of, split_at, short_line}
 use Rattle.ifdb_wire.proofs.Numbers.{digits_number_some}
 use Rattle.ifdb_model.specs.Step.{Reader}
 use Rattle.ifdb_model.specs.Run.{State, Step, opens, asks, refused, long, stray, leaves, Told, tell, outcome_of, next, told, replies}

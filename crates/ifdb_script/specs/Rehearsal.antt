@@ -1,9 +1,9 @@
 -- What a run of a script comes to, in numbers.
-use Rattle.std.specs.Prelude.{ℕ, Bool, true, false, List, [], ◌++◌, filter, length, map, codes, decimal}
+use Rattle.std.specs.Prelude.{ℕ, Bool, true, false, List, ◌++◌, filter, length, map, codes, decimal}
 use Rattle.ifdb_wire.specs.declared.reply.Reply.{Reply}
 use Rattle.ifdb_wire.specs.declared.reply.Reply.TheVariants as reply
 use Rattle.ifdb_model.specs.Log.{content_of}
-use Rattle.ifdb_model.specs.Run.{State, Told, opening, run, replies}
+use Rattle.ifdb_model.specs.Run.{Told, opening, run, replies}
 use Rattle.ifdb_model.specs.Script.{lines_of, steps_of}
 use Rattle.ifdb_db.specs.Reading.{read_line}
 use Rattle.ifdb_script.specs.declared.rehearsed.Rehearsed.{Rehearsed}

@@ -1,9 +1,9 @@
 -- How a rehearsal goes on, line by line.
-use Rattle.std.specs.Prelude.{◌≡◌, ℕ, ◌+◌, ◌≤◌, ◌<◌, ◌^◌, Bool, List, [], length, map, Option, Some, None, option_to_list, if◌then◌else◌}
+use Rattle.std.specs.Prelude.{◌≡◌, ℕ, ◌+◌, ◌≤◌, ◌<◌, ◌^◌, Bool, List, length, map, Option, Some, None, option_to_list, if◌then◌else◌}
 use Rattle.ifdb_wire.specs.declared.reply.Reply.{Reply}
 use Rattle.ifdb_model.specs.Log.{content_of}
 use Rattle.ifdb_model.specs.Run.{State, Step, Told, run, replies}
-use Rattle.ifdb_model.specs.Script.{lines_of, line_steps, steps_of}
+use Rattle.ifdb_model.specs.Script.{lines_of, steps_of}
 use Rattle.ifdb_db.specs.Reading.{read_line}
 use Rattle.ifdb_db.specs.Room.{Hall, StandsFor}
 use Rattle.ifdb_script.specs.declared.rehearsed.Rehearsed.{Rehearsed}

@@ -14,8 +14,10 @@ pub(crate) fn write_numbered<W: Sink>(
     name: &[u8],
     number: u64,
 ) -> Result<(), Failed>
-    ensures ok { OnOk result (Appends (W.written output.old) (W.written output.new) (numbered_line name.now number)) }
-    ensures err { OnErr result (WritesShort (W.written output.old) (W.written output.new) (numbered_line name.now number)) }
+    ensures ok { OnOk result (Appends (W.written output.old) (W.written output.new)
+        (numbered_line name.now number)) }
+    ensures err { OnErr result (WritesShort (W.written output.old) (W.written output.new)
+        (numbered_line name.now number)) }
     ensures cause { HasCause (W.faults output.old) (W.faults output.new) result }
 {
     let mut buffer = Buffer::new();

@@ -28,16 +28,19 @@ pub fn serve<R: Threads + Wait + Sync, W: Sink, S: Site>(
     service: Service,
 ) -> ServiceEnd
     requires { IsService service }
-    ensures done { result ≡ ServiceEnd.Done → IsDone S.Site S.Door.Door S.Door.Link.Source S.Door.Link.Sink W.Sink
-        service site.old site.new output.old output.new }
+    ensures done { result ≡ ServiceEnd.Done
+        → IsDone S.Site S.Door.Door S.Door.Link.Source S.Door.Link.Sink W.Sink service
+        site.old site.new output.old output.new }
     ensures write { result ≡ ServiceEnd.WriteFault → Rose (W.faults output.old) (W.faults output.new) }
-    ensures cut { result ≡ ServiceEnd.WriteFault → IsCut S.Site S.Door.Door S.Door.Link.Source S.Door.Link.Sink W.Sink
-        service site.old site.new output.old output.new }
+    ensures cut { result ≡ ServiceEnd.WriteFault
+        → IsCut S.Site S.Door.Door S.Door.Link.Source S.Door.Link.Sink W.Sink service
+        site.old site.new output.old output.new }
     ensures site { result ≡ ServiceEnd.SiteFault → Rose (S.faults site.old) (S.faults site.new) }
     ensures no_doors { result ≡ ServiceEnd.SiteFault → GivesNone S.Site service site.old site.new }
     ensures silent { result ≡ ServiceEnd.SiteFault → output.new ≡ output.old }
-    ensures memory { result ≡ ServiceEnd.OutOfMemory → IsUnserved S.Site S.Door.Door S.Door.Link.Source S.Door.Link.Sink W.Sink
-        service site.old site.new output.old output.new }
+    ensures memory { result ≡ ServiceEnd.OutOfMemory
+        → IsUnserved S.Site S.Door.Door S.Door.Link.Source S.Door.Link.Sink W.Sink service
+        site.old site.new output.old output.new }
     ensures output_later { W.faults output.old ≤ W.faults output.new }
     ensures site_later { S.faults site.old ≤ S.faults site.new }
 {

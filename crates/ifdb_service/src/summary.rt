@@ -15,8 +15,10 @@ pub(crate) fn write_summary<W: Sink>(
     counts: Counts,
     faults: u64,
 ) -> Result<(), Failed>
-    ensures ok { OnOk result (Appends (W.written output.old) (W.written output.new) (summary_text counts faults)) }
-    ensures err { OnErr result (WritesShort (W.written output.old) (W.written output.new) (summary_text counts faults)) }
+    ensures ok { OnOk result (Appends (W.written output.old) (W.written output.new)
+        (summary_text counts faults)) }
+    ensures err { OnErr result (WritesShort (W.written output.old) (W.written output.new)
+        (summary_text counts faults)) }
     ensures cause { HasCause (W.faults output.old) (W.faults output.new) result }
 {
     write_numbered(output, b"sessions", counts.sessions)?;

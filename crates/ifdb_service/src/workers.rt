@@ -91,7 +91,8 @@ pub(crate) fn send<R: Threads + Wait + Sync, D: Door + Send + Drop>(
     workers: &mut Vec<Worker<D, SessionHost<'_, R, D::Link>>>,
 )
     requires { All (IsFresh D.Door hall.now limit) workers.old.items }
-    ensures { AllWorked (Worked D.Door (hosts D.Link.Source D.Link.Sink)) workers.old.items workers.new.items }
+    ensures { AllWorked (Worked D.Door (hosts D.Link.Source D.Link.Sink))
+        workers.old.items workers.new.items }
 {
     let _ = hall;
     let _ = limit;
