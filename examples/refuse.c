@@ -5,6 +5,8 @@
 #include <errno.h>
 #include <stdio.h>
 #include <stdlib.h>
+#include <sys/syscall.h>
+#include <unistd.h>
 
 static long asked, wanted = -1;
 
@@ -14,8 +16,17 @@ __attribute__((constructor)) static void begin(void) {
   asked = 0;
 }
 
-__attribute__((destructor)) static void end(void) {
+static void tell(void) {
   if (wanted == 0) dprintf(2, "%ld\n", asked);
+}
+
+__attribute__((destructor)) static void end(void) { tell(); }
+
+/* A program that ends so runs no destructor. */
+void _exit(int status) {
+  tell();
+  syscall(SYS_exit_group, status);
+  __builtin_unreachable();
 }
 
 static int is_refused(void) {
