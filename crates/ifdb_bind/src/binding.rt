@@ -1,6 +1,6 @@
 // Binding: a request with numbers for its names.
-ghost use Rattle.std.specs.Prelude.{◌≡◌, ◌⊎◌, Ok, Err, IfOk, IfErr};
-ghost use Rattle.ifdb_wire.specs.declared.fault.Fault.TheVariants.{OutOfMemory as NoMemory};
+ghost use Rattle.std.specs.Prelude.{◌≡◌, Ok, IfOk};
+ghost use Rattle.ifdb_wire.specs.Refused.{RefusedAs};
 ghost use Rattle.ifdb_catalog.specs.Binding.{bound};
 
 use crate::inserts::{NewRows, insert};
@@ -30,7 +30,7 @@ pub fn bind(
     request: Request,
 ) -> Result<Bound, Fault>
     ensures bound { IfOk result (λ b. bound catalog.now asker request ≡ Ok b) }
-    ensures refused { IfErr result (λ fault. (fault ≡ NoMemory) ⊎ (bound catalog.now asker request ≡ Err fault)) }
+    ensures refused { RefusedAs (bound catalog.now asker request) result }
 {
     match request {
         Request::CreatePrincipal { name, key } => create_principal(catalog, asker, name, key),

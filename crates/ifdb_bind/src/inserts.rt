@@ -2,6 +2,7 @@
 ghost use Rattle.std.specs.Prelude.{◌≡◌, ◌⊎◌, ◌&&◌, true, false, [], map, Ok, Err, IfOk, IfErr};
 ghost use Rattle.std.specs.List.{list_all};
 ghost use Rattle.ifdb_wire.specs.declared.fault.Fault.TheVariants.{OutOfMemory as NoMemory, TypeMismatch};
+ghost use Rattle.ifdb_wire.specs.Refused.{RefusedAs};
 ghost use Rattle.ifdb_bound.specs.Expressions.{value_at};
 ghost use Rattle.ifdb_catalog.specs.Binding.{insert};
 ghost use Rattle.ifdb_catalog.specs.Scope.{kinds_of};
@@ -37,7 +38,7 @@ pub(crate) fn insert(
     new: NewRows,
 ) -> Result<Bound, Fault>
     ensures bound { IfOk result (λ b. insert catalog.now table.now new.columns new.rows new.tags ≡ Ok b) }
-    ensures refused { IfErr result (λ fault. (fault ≡ NoMemory) ⊎ (insert catalog.now table.now new.columns new.rows new.tags ≡ Err fault)) }
+    ensures refused { RefusedAs (insert catalog.now table.now new.columns new.rows new.tags) result }
 {
     let NewRows {
         columns,

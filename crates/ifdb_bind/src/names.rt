@@ -1,12 +1,13 @@
 // Binding of CREATE PRINCIPAL, CREATE TAG, GRANT, REVOKE and SET LABEL.
-ghost use Rattle.std.specs.Prelude.{◌≡◌, ◌⊎◌, Ok, Err, true, IfOk, IfErr};
+ghost use Rattle.std.specs.Prelude.{◌≡◌, Ok, true, IfOk};
 ghost use Rattle.std.specs.Option.{ok_or};
 ghost use Rattle.ifdb_label.specs.Tags.{are_compound};
-ghost use Rattle.ifdb_wire.specs.declared.fault.Fault.TheVariants.{OutOfMemory as NoMemory, UnknownName};
+ghost use Rattle.ifdb_wire.specs.declared.fault.Fault.TheVariants.{UnknownName};
+ghost use Rattle.ifdb_wire.specs.Refused.{RefusedAs};
 ghost use Rattle.ifdb_catalog.specs.Public.{principal_named, tag_named};
 ghost use Rattle.ifdb_catalog.specs.Definitions.{tag_kind};
 ghost use Rattle.ifdb_catalog.specs.Statements.{are_tags, label_named, tags_named};
-ghost use Rattle.ifdb_select.specs.Lacks.{Lacks};
+ghost use Rattle.ifdb_select.specs.Lacks.{RefusedUnless};
 ghost use Rattle.ifdb_catalog.specs.Binding.{create_principal, create_tag, grant, revoke, set_label};
 
 use ifdb_bound::{Bound, Change, TagList};
@@ -52,7 +53,7 @@ pub(crate) fn create_tag(
     tag: NewTag,
 ) -> Result<Bound, Fault>
     ensures bound { IfOk result (λ b. create_tag catalog.now asker tag.name tag.compound tag.parents ≡ Ok b) }
-    ensures refused { IfErr result (λ fault. (fault ≡ NoMemory) ⊎ (create_tag catalog.now asker tag.name tag.compound tag.parents ≡ Err fault)) }
+    ensures refused { RefusedAs (create_tag catalog.now asker tag.name tag.compound tag.parents) result }
 {
     let NewTag {
         name,
@@ -108,7 +109,7 @@ pub(crate) fn revoke(
 #[tactic(auto, unfolding(ifdb_catalog::specs::Check::judged))]
 pub(crate) fn set_label(alloc: Global, catalog: &Catalog, tags: &[Name]) -> Result<Bound, Fault>
     ensures bound { IfOk result (λ b. set_label catalog.now tags.now ≡ Ok b) }
-    ensures refused { IfErr result (λ fault. (fault ≡ NoMemory) ⊎ (set_label catalog.now tags.now ≡ Err fault)) }
+    ensures refused { RefusedAs (set_label catalog.now tags.now) result }
 {
     let label = label_named(alloc, catalog, tags)?;
     Ok(Bound::SetLabel { label })
@@ -118,7 +119,7 @@ pub(crate) fn set_label(alloc: Global, catalog: &Catalog, tags: &[Name]) -> Resu
 pub(crate) fn label_named(alloc: Global, catalog: &Catalog, names: &[Name]) -> Result<Label, Fault>
     ensures known { IfOk result (λ _. are_tags catalog.now names.now ≡ true) }
     ensures label { IfOk result (λ label. label ≡ label_named catalog.now names.now) }
-    ensures lacks { IfErr result (λ fault. Lacks fault (are_tags catalog.now names.now)) }
+    ensures lacks { RefusedUnless (are_tags catalog.now names.now) result }
 {
     let tags = tags_named(alloc, catalog, names)?;
     Ok(Label::reduce(alloc, catalog.tags(), tags.items())?)
@@ -142,7 +143,7 @@ fn principal_named(catalog: &Catalog, name: &Name) -> Result<Principal, Fault>
 fn tags_named(alloc: Global, catalog: &Catalog, names: &[Name]) -> Result<TagList, Fault>
     ensures known { IfOk result (λ _. are_tags catalog.now names.now ≡ true) }
     ensures tags { IfOk result (λ tags. tags ≡ tags_named catalog.now names.now) }
-    ensures lacks { IfErr result (λ fault. Lacks fault (are_tags catalog.now names.now)) }
+    ensures lacks { RefusedUnless (are_tags catalog.now names.now) result }
 {
     let mut tags = TagList::new(alloc);
     for name in names {

@@ -2,13 +2,14 @@
 ghost use Rattle.std.specs.Prelude.{◌≡◌, ◌⊎◌, true, false, map, slice_get, Ok, Err, IfOk, IfErr};
 ghost use Rattle.std.specs.Option.{ok_or};
 ghost use Rattle.std.specs.List.{list_all, list_any};
-ghost use Rattle.ifdb_wire.specs.declared.fault.Fault.TheVariants.{NotATable, OutOfMemory as NoMemory, UnknownName};
+ghost use Rattle.ifdb_wire.specs.declared.fault.Fault.TheVariants.{NotATable, UnknownName};
+ghost use Rattle.ifdb_wire.specs.Refused.{RefusedAs};
 ghost use Rattle.ifdb_catalog.specs.Public.{table_at};
 ghost use Rattle.ifdb_catalog.specs.Binding.{create_table};
 ghost use Rattle.ifdb_catalog.specs.Definitions.{bound_foreign, foreign_fits, is_known_foreign, names_twice, refers_to_view, same_kinds};
 ghost use Rattle.ifdb_catalog.specs.Statements.{is_column_of, place_at, place_named, table_number};
 ghost use Rattle.ifdb_catalog.specs.Queries.{is_view, is_relation};
-ghost use Rattle.ifdb_select.specs.Lacks.{Lacks};
+ghost use Rattle.ifdb_select.specs.Lacks.{Lacks, RefusedUnless};
 
 use ifdb_bound::{Bound, Change, Foreign, Foreigns, Places, Relation, Schema};
 use ifdb_catalog::Catalog;
@@ -40,8 +41,7 @@ pub(crate) fn create_table(
     table: NewTable,
 ) -> Result<Bound, Fault>
     ensures bound { IfOk result (λ b. create_table catalog.now asker table.name table.columns table.key table.foreign ≡ Ok b) }
-    ensures refused { IfErr result
-        (λ fault. (fault ≡ NoMemory) ⊎ (create_table catalog.now asker table.name table.columns table.key table.foreign ≡ Err fault)) }
+    ensures refused { RefusedAs (create_table catalog.now asker table.name table.columns table.key table.foreign) result }
 {
     let NewTable {
         name,
@@ -89,7 +89,7 @@ pub(crate) fn column_place(columns: &[Column], name: &Name) -> Result<usize, Fau
 fn column_places(alloc: Global, columns: &[Column], names: &[Name]) -> Result<Places, Fault>
     ensures known { IfOk result (λ _. list_all (is_column_of columns.now) names.now ≡ true) }
     ensures places { IfOk result (λ places. places ≡ map (place_at columns.now) names.now) }
-    ensures lacks { IfErr result (λ fault. Lacks fault (list_all (is_column_of columns.now) names.now)) }
+    ensures lacks { RefusedUnless (list_all (is_column_of columns.now) names.now) result }
 {
     let mut places = Places::new(alloc);
     for name in names {

@@ -1,9 +1,9 @@
 // Binding of CREATE VIEW.
-ghost use Rattle.std.specs.Prelude.{◌≡◌, ◌⊎◌, ◌++◌, ◌∷◌, [], false, Ok, Err, IfOk, IfErr, OnOk};
+ghost use Rattle.std.specs.Prelude.{◌≡◌, ◌++◌, ◌∷◌, [], false, Ok, IfOk, OnOk};
 ghost use Rattle.std.specs.Option.{IfSome, is_some};
 ghost use Rattle.std.specs.List.{list_all, list_any};
 ghost use Rattle.ifdb_syntax.specs.declared.select.Source.{Source};
-ghost use Rattle.ifdb_wire.specs.declared.fault.Fault.TheVariants.{OutOfMemory as NoMemory};
+ghost use Rattle.ifdb_wire.specs.Refused.{RefusedAs};
 ghost use Rattle.ifdb_catalog.specs.Binding.{create_view};
 ghost use Rattle.ifdb_catalog.specs.Definitions.{given, is_given, names_fit};
 ghost use Rattle.ifdb_catalog.specs.Queries.{is_relation, is_view, output};
@@ -53,7 +53,7 @@ pub(crate) fn create_view(
     view: NewView,
 ) -> Result<Bound, Fault>
     ensures bound { IfOk result (λ b. create_view catalog.now asker view.name view.select view.tags ≡ Ok b) }
-    ensures refused { IfErr result (λ fault. (fault ≡ NoMemory) ⊎ (create_view catalog.now asker view.name view.select view.tags ≡ Err fault)) }
+    ensures refused { RefusedAs (create_view catalog.now asker view.name view.select view.tags) result }
 {
     if catalog.relation(&view.name).is_some() {
         return Err(Fault::Taken);
@@ -85,8 +85,7 @@ fn view_body(
     requires { is_relation catalog.now view.now.name ≡ false }
     ensures bound { IfOk result
         (λ body. create_view catalog.now _asker view.now.name view.now.select view.now.tags ≡ Ok (view_of _asker view.now.name body)) }
-    ensures refused { IfErr result
-        (λ fault. (fault ≡ NoMemory) ⊎ (create_view catalog.now _asker view.now.name view.now.select view.now.tags ≡ Err fault)) }
+    ensures refused { RefusedAs (create_view catalog.now _asker view.now.name view.now.select view.now.tags) result }
 {
     let scope = scope_of(alloc, catalog, view.select.sources.items())?;
     body_over(alloc, catalog, scope.items(), _asker, view)
@@ -104,8 +103,7 @@ fn body_over(
     requires scope { scope.now ≡ scope_of catalog.now view.now.select.sources }
     ensures bound { IfOk result
         (λ body. create_view catalog.now _asker view.now.name view.now.select view.now.tags ≡ Ok (view_of _asker view.now.name body)) }
-    ensures refused { IfErr result
-        (λ fault. (fault ≡ NoMemory) ⊎ (create_view catalog.now _asker view.now.name view.now.select view.now.tags ≡ Err fault)) }
+    ensures refused { RefusedAs (create_view catalog.now _asker view.now.name view.now.select view.now.tags) result }
 {
     let select = bound_select(alloc, catalog, scope, &view.select)?;
     let declassifying = label_named(alloc, catalog, view.tags.items())?;

@@ -1,16 +1,16 @@
 // Binding of UPDATE and DELETE.
-ghost use Rattle.std.specs.Prelude.{◌≡◌, ◌⊎◌, ◌&&◌, ◌∷◌, [], true, map, Ok, Err, IfOk, IfErr};
+ghost use Rattle.std.specs.Prelude.{◌≡◌, ◌&&◌, ◌∷◌, [], true, map, Ok, IfOk};
 ghost use Rattle.std.specs.List.{list_all, list_any};
 ghost use Rattle.ifdb_syntax.specs.declared.request.Assignment.{Assignment};
 ghost use Rattle.ifdb_bound.specs.Kinds.{where_fits};
-ghost use Rattle.ifdb_wire.specs.declared.fault.Fault.TheVariants.{OutOfMemory as NoMemory};
+ghost use Rattle.ifdb_wire.specs.Refused.{RefusedAs};
 ghost use Rattle.ifdb_catalog.specs.Binding.{delete, update};
 ghost use Rattle.ifdb_catalog.specs.Queries.{are_distinct};
 ghost use Rattle.ifdb_catalog.specs.Public.{table_at};
 ghost use Rattle.ifdb_catalog.specs.Scope.{kinds_in};
 ghost use Rattle.ifdb_catalog.specs.Statements.{assignment_fits, bound_assignment, is_known_assignment, label_named};
 ghost use Rattle.ifdb_catalog.specs.Terms.{bound_where};
-ghost use Rattle.ifdb_select.specs.Lacks.{Lacks};
+ghost use Rattle.ifdb_select.specs.Lacks.{RefusedUnless};
 ghost use Rattle.ifdb_bind.specs.Written.{are_known, is_of_key};
 
 use crate::names::label_named;
@@ -36,7 +36,7 @@ pub(crate) fn delete<'a>(
     cond: &Option<Cond>,
 ) -> Result<Bound, Fault>
     ensures bound { IfOk result (λ b. delete catalog.now table.now cond.now ≡ Ok b) }
-    ensures refused { IfErr result (λ fault. (fault ≡ NoMemory) ⊎ (delete catalog.now table.now cond.now ≡ Err fault)) }
+    ensures refused { RefusedAs (delete catalog.now table.now cond.now) result }
 {
     let relation = relation_named(catalog, table)?;
     let target = source(alloc, catalog, table, relation)?;
@@ -82,8 +82,7 @@ pub(crate) fn update<'a>(
 ) -> Result<Bound, Fault>
     ensures bound { IfOk result
         (λ b. update catalog.now table.now changes.entry.assignments.now changes.entry.cond.now changes.entry.tags.now ≡ Ok b) }
-    ensures refused { IfErr result
-        (λ fault. (fault ≡ NoMemory) ⊎ (update catalog.now table.now changes.entry.assignments.now changes.entry.cond.now changes.entry.tags.now ≡ Err fault)) }
+    ensures refused { RefusedAs (update catalog.now table.now changes.entry.assignments.now changes.entry.cond.now changes.entry.tags.now) result }
 {
     let relation = relation_named(catalog, table)?;
     let target = source(alloc, catalog, table, relation)?;
@@ -123,8 +122,7 @@ fn known_changes(
         (λ known. known.assignments ≡ map (bound_assignment target.now.columns (target.now ∷ [])) changes.entry.assignments.now) }
     ensures cond { IfOk result (λ known. known.cond ≡ bound_where (target.now ∷ []) changes.entry.cond.now) }
     ensures given { IfOk result (λ known. known.given ≡ label_named catalog.now changes.entry.tags.now) }
-    ensures lacks { IfErr result (λ fault.
-        Lacks fault (are_known catalog.now target.now changes.entry.assignments.now changes.entry.cond.now changes.entry.tags.now)) }
+    ensures lacks { RefusedUnless (are_known catalog.now target.now changes.entry.assignments.now changes.entry.cond.now changes.entry.tags.now) result }
 {
     let assignments = bound_assignments(alloc, target, changes.assignments)?;
     let cond = bound_where(alloc, from_ref(target), changes.cond)?;
@@ -144,7 +142,7 @@ fn bound_assignments(
 ) -> Result<BoundAssignments, Fault>
     ensures known { IfOk result (λ _. list_all (is_known_assignment target.now.columns (target.now ∷ [])) assignments.now ≡ true) }
     ensures trees { IfOk result (λ trees. trees ≡ map (bound_assignment target.now.columns (target.now ∷ [])) assignments.now) }
-    ensures lacks { IfErr result (λ fault. Lacks fault (list_all (is_known_assignment target.now.columns (target.now ∷ [])) assignments.now)) }
+    ensures lacks { RefusedUnless (list_all (is_known_assignment target.now.columns (target.now ∷ [])) assignments.now) result }
 {
     let mut trees = BoundAssignments::new(alloc);
     for assignment in assignments {
@@ -161,7 +159,7 @@ fn bound_assignment(
 ) -> Result<BoundAssignment, Fault>
     ensures known { IfOk result (λ _. is_known_assignment target.now.columns (target.now ∷ []) assignment.now ≡ true) }
     ensures tree { IfOk result (λ tree. tree ≡ bound_assignment target.now.columns (target.now ∷ []) assignment.now) }
-    ensures lacks { IfErr result (λ fault. Lacks fault (is_known_assignment target.now.columns (target.now ∷ []) assignment.now)) }
+    ensures lacks { RefusedUnless (is_known_assignment target.now.columns (target.now ∷ []) assignment.now) result }
 {
     let Some(column) = target.place(&assignment.column) else {
         return Err(Fault::UnknownName);

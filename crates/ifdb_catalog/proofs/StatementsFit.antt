@@ -11,7 +11,7 @@ use Rattle.ifdb_syntax.specs.declared.request.ForeignKey.{ForeignKey}
 use Rattle.ifdb_bound.specs.declared.schema.Schema.{Schema}
 use Rattle.ifdb_catalog.specs.Public.{Public, table_named}
 use Rattle.ifdb_catalog.specs.Scope.{Scope, kinds_of, kinds_in, relation_columns, table_scope}
-use Rattle.ifdb_catalog.specs.Queries.{is_view, is_view_of}
+use Rattle.ifdb_catalog.specs.Queries.{is_view}
 use Rattle.ifdb_catalog.specs.Queries as queries
 use Rattle.ifdb_catalog.specs.Statements.{table_number, schema_named, columns_named, place_at, is_column_of, row_fits, arranged, values_fit, assigns_key, bound_assignment}
 use Rattle.ifdb_catalog.specs.Definitions.{is_known_foreign, refers_to_view, bound_foreign, foreign_fits}

@@ -19,12 +19,12 @@ use ifdb_store::Store;
 pub struct LaterWrite<'a> {
     /// The slot.
     pub slot: &'a Slot,
-    /// The stamp of the last commit that wrote it.
+    /// The stamp of a commit after the BEGIN that wrote it.
     pub stamp: u64,
 }
 
 /// A slot that a commit after the BEGIN wrote and that meets one's own writes: it is of the key of one of them, at a label that flows to
-/// the write's. It is one of the last commit that wrote such a slot.
+/// the write's. `None` exactly where no such slot was written; which one it is of several is left open.
 ///
 /// Takes no memory. Costs a binary search among one's own writes for each slot that was written since the BEGIN; without writes of one's
 /// own, it looks at no commit.

@@ -1,9 +1,7 @@
 -- What a step of the machine does to a room, and what a line of a session does.
 use Rattle.std.specs.Prelude.{◌≡◌, ℕ, ◌-◌, true, List, slice_set, Option, Result, Ok, Err}
 use Rattle.ifdb_wire.specs.declared.fault.Fault.{Fault}
-use Rattle.ifdb_wire.specs.declared.fault.Fault.TheVariants as fault
 use Rattle.ifdb_wire.specs.declared.reply.Reply.{Reply}
-use Rattle.ifdb_wire.specs.declared.reply.Reply.TheVariants as reply
 use Rattle.ifdb_wire.specs.Text.{IsUnbounded, reply_text}
 use Rattle.ifdb_model.specs.Step.{bye}
 use Rattle.ifdb_model.specs.Run.{State, Step, next, outcome_of}
@@ -26,10 +24,6 @@ IsReplyTo h n line r = (st : State) → StandsFor h st → r ≡ (outcome_of rea
 -- the text of that reply: in a script told to a session of the number `shown`, on a connection without a number
 abbrev pub IsReplyText : Hall → ℕ → List ℕ → Option ℕ → List ℕ → Type 0
 IsReplyText h n line shown text = (st : State) → StandsFor h st → text ≡ reply_text shown (outcome_of read_line st n line).reply
-
--- what is told where there was no memory
-abbrev pub memory_text : Option ℕ → List ℕ
-memory_text shown = reply_text shown (reply.Refused fault.OutOfMemory)
 
 -- ---- by what the room holds
 

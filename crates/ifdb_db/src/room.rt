@@ -3,12 +3,12 @@ ghost use Rattle.std.specs.Prelude.{◌≡◌, ◌↔◌, ◌≤◌, ◌^◌, �
 ghost use Rattle.std.specs.Prelude.{IfOk, IfSome, IsSome, IsTrue, OnErr, OnOk, length};
 ghost use Rattle.std.specs.Option.{is_some};
 ghost use Rattle.ifdb_wire.specs.declared.reply.Reply.TheVariants as reply;
-ghost use Rattle.ifdb_wire.specs.Text.{reply_text, IsUnbounded};
+ghost use Rattle.ifdb_wire.specs.Text.{IsUnbounded, memory_text, reply_text};
 ghost use Rattle.ifdb_catalog.specs.Public.{tags_of};
 ghost use Rattle.ifdb_model.specs.Run.{asks, leaves, opening, opens};
 ghost use Rattle.ifdb_db.specs.Client.{new_client};
 ghost use Rattle.ifdb_db.specs.Room.{StandsFor, IsSoundRoom, client_in, was_opened};
-ghost use Rattle.ifdb_db.specs.RoomSteps.{GoesBy, IsAskedIn, IsLeftBy, IsReplyText, IsReplyTo, memory_text};
+ghost use Rattle.ifdb_db.specs.RoomSteps.{GoesBy, IsAskedIn, IsLeftBy, IsReplyText, IsReplyTo};
 
 mod lending;
 

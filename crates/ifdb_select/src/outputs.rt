@@ -1,10 +1,10 @@
 // The output names of a SELECT, and what ORDER BY sorts by.
-ghost use Rattle.std.specs.Prelude.{◌≡◌, ◌++◌, ◌+◌, ◌-◌, ◌^◌, ◌<◌, ◌&&◌, nat_le, if◌then◌else◌, Some, None, true, map, flat_map, length, option_copied, IfOk, IfErr, OnOk};
+ghost use Rattle.std.specs.Prelude.{◌≡◌, ◌++◌, ◌+◌, ◌-◌, ◌^◌, ◌<◌, ◌&&◌, nat_le, if◌then◌else◌, Some, None, true, map, flat_map, length, option_copied, IfOk, OnOk};
 ghost use Rattle.std.specs.List.{list_all, list_any};
 ghost use Rattle.ifdb_catalog.specs.Queries.{all_names, bound_order, is_known_order, is_output, name_or, order_place, output_names, outputs_named};
 ghost use Rattle.ifdb_catalog.specs.Scope.{the_one};
 ghost use Rattle.ifdb_catalog.specs.Terms.{ref_of};
-ghost use Rattle.ifdb_select.specs.Lacks.{Lacks};
+ghost use Rattle.ifdb_select.specs.Lacks.{RefusedUnless};
 
 use crate::OutOfMemory;
 use crate::named::Named;
@@ -138,7 +138,7 @@ pub(crate) fn bound_orders(
 ) -> Result<OrderKeys, Fault>
     ensures known { IfOk result (λ _. list_all (is_known_order names.now) orders.now ≡ true) }
     ensures keys { IfOk result (λ keys. keys ≡ map (bound_order names.now) orders.now) }
-    ensures lacks { IfErr result (λ fault. Lacks fault (list_all (is_known_order names.now) orders.now)) }
+    ensures lacks { RefusedUnless (list_all (is_known_order names.now) orders.now) result }
 {
     let mut keys = OrderKeys::new(alloc);
     for order in orders {

@@ -6,7 +6,7 @@ ghost use Rattle.ifdb_wire.specs.declared.fault.Fault.TheVariants.{UnknownName};
 ghost use Rattle.ifdb_catalog.specs.Public.{table_at};
 ghost use Rattle.ifdb_catalog.specs.Scope.{column_at, is_alias, is_column, scope_of};
 ghost use Rattle.ifdb_catalog.specs.Queries.{all_from, bound_item, bound_relation, bound_order, bound_select, bound_source, columns_from, is_known_item, is_known_order, is_relation, output_names, select_is_known, source_from};
-ghost use Rattle.ifdb_select.specs.Lacks.{Lacks};
+ghost use Rattle.ifdb_select.specs.Lacks.{RefusedUnless};
 ghost use Rattle.ifdb_select.specs.Starred.{starred};
 
 use crate::OutOfMemory;
@@ -34,7 +34,7 @@ pub fn scope_of<'a>(
 ) -> Result<Sequence<ScopeSource<'a>>, Fault>
     ensures known { IfOk result (λ _. list_all (λ (x : Source). is_relation catalog.now x.name) sources.now ≡ true) }
     ensures scope { IfOk result (λ scope. scope ≡ scope_of catalog.now sources.now) }
-    ensures lacks { IfErr result (λ fault. Lacks fault (list_all (λ (x : Source). is_relation catalog.now x.name) sources.now)) }
+    ensures lacks { RefusedUnless (list_all (λ (x : Source). is_relation catalog.now x.name) sources.now) result }
 {
     let mut scope = Sequence::new(alloc);
     for from in sources {
@@ -52,7 +52,7 @@ fn bound_sources(
 ) -> Result<BoundSources, Fault>
     ensures known { IfOk result (λ _. list_all (λ (x : Source). is_relation catalog.now x.name) sources.now ≡ true) }
     ensures sources { IfOk result (λ bound. bound ≡ map (bound_source catalog.now) sources.now) }
-    ensures lacks { IfErr result (λ fault. Lacks fault (list_all (λ (x : Source). is_relation catalog.now x.name) sources.now)) }
+    ensures lacks { RefusedUnless (list_all (λ (x : Source). is_relation catalog.now x.name) sources.now) result }
 {
     let mut bound = BoundSources::new(alloc);
     for from in sources {
@@ -104,7 +104,7 @@ fn bound_items(
 ) -> Result<BoundItems, Fault>
     ensures known { IfOk result (λ _. list_all (is_known_item scope.now) items.now ≡ true) }
     ensures trees { IfOk result (λ trees. trees ≡ flat_map (bound_item scope.now) items.now) }
-    ensures lacks { IfErr result (λ fault. Lacks fault (list_all (is_known_item scope.now) items.now)) }
+    ensures lacks { RefusedUnless (list_all (is_known_item scope.now) items.now) result }
 {
     let mut trees = BoundItems::new(alloc);
     for item in items {
@@ -122,7 +122,7 @@ fn add_item(
 ) -> Result<(), Fault>
     ensures known { IfOk result (λ _. is_known_item scope.now item.now ≡ true) }
     ensures trees { OnOk result (trees.new ≡ trees.old ++ bound_item scope.now item.now) }
-    ensures lacks { IfErr result (λ fault. Lacks fault (is_known_item scope.now item.now)) }
+    ensures lacks { RefusedUnless (is_known_item scope.now item.now) result }
 {
     match item {
         Item::All => Ok(add_all(trees, scope, 0)?),
@@ -201,7 +201,7 @@ fn bound_columns(
 ) -> Result<BoundColumns, Fault>
     ensures known { IfOk result (λ _. list_all (is_column scope.now) columns.now ≡ true) }
     ensures columns { IfOk result (λ bound. bound ≡ map (column_at scope.now) columns.now) }
-    ensures lacks { IfErr result (λ fault. Lacks fault (list_all (is_column scope.now) columns.now)) }
+    ensures lacks { RefusedUnless (list_all (is_column scope.now) columns.now) result }
 {
     let mut bound = BoundColumns::new(alloc);
     for column in columns {
@@ -219,7 +219,7 @@ fn order_keys(
 ) -> Result<OrderKeys, Fault>
     ensures known { IfOk result (λ _. list_all (is_known_order (flat_map (output_names scope.now) items.now)) orders.now ≡ true) }
     ensures keys { IfOk result (λ keys. keys ≡ map (bound_order (flat_map (output_names scope.now) items.now)) orders.now) }
-    ensures lacks { IfErr result (λ fault. Lacks fault (list_all (is_known_order (flat_map (output_names scope.now) items.now)) orders.now)) }
+    ensures lacks { RefusedUnless (list_all (is_known_order (flat_map (output_names scope.now) items.now)) orders.now) result }
 {
     match orders {
         [] => Ok(OrderKeys::new(alloc)),
@@ -236,7 +236,7 @@ pub fn bound_select(
 ) -> Result<BoundSelect, Fault>
     ensures known { IfOk result (λ _. select_is_known catalog.now scope.now query.now ≡ true) }
     ensures tree { IfOk result (λ tree. tree ≡ bound_select catalog.now scope.now query.now) }
-    ensures lacks { IfErr result (λ fault. Lacks fault (select_is_known catalog.now scope.now query.now)) }
+    ensures lacks { RefusedUnless (select_is_known catalog.now scope.now query.now) result }
 {
     let sources = bound_sources(alloc, catalog, query.sources.items())?;
     let items = bound_items(alloc, scope, query.items.items())?;

@@ -1,11 +1,11 @@
 // Binding of SELECT.
-ghost use Rattle.std.specs.Prelude.{◌≡◌, ◌⊎◌, Ok, Err, Some, nat_lt, IfOk, IfErr};
+ghost use Rattle.std.specs.Prelude.{◌≡◌, Ok, Err, Some, nat_lt, IfOk};
 ghost use Rattle.std.specs.Option.{is_some};
 ghost use Rattle.std.specs.List.{list_all, list_any};
 ghost use Rattle.ifdb_bound.specs.declared.select.OrderKey.{OrderKey};
 ghost use Rattle.ifdb_bound.specs.declared.select.Relation.TheVariants as relation;
 ghost use Rattle.ifdb_bound.specs.Kinds as kinds;
-ghost use Rattle.ifdb_wire.specs.declared.fault.Fault.TheVariants.{OutOfMemory as NoMemory};
+ghost use Rattle.ifdb_wire.specs.Refused.{RefusedAs};
 ghost use Rattle.ifdb_catalog.specs.Binding.{select};
 ghost use Rattle.ifdb_catalog.specs.Public.{relation_named};
 ghost use Rattle.ifdb_bound.specs.Forms.{same_column};
@@ -28,7 +28,7 @@ use std::alloc::Global;
 #[tactic(auto, using(crate::proofs::SelectChecks::unknown_source))]
 pub fn select(alloc: Global, catalog: &Catalog, query: &Select) -> Result<Bound, Fault>
     ensures bound { IfOk result (λ b. select catalog.now query.now ≡ Ok b) }
-    ensures refused { IfErr result (λ fault. (fault ≡ NoMemory) ⊎ (select catalog.now query.now ≡ Err fault)) }
+    ensures refused { RefusedAs (select catalog.now query.now) result }
 {
     let scope = scope_of(alloc, catalog, query.sources.items())?;
     select_over(alloc, catalog, scope.items(), query)
@@ -43,7 +43,7 @@ fn select_over(
 ) -> Result<Bound, Fault>
     requires { scope.now ≡ scope_of catalog.now query.now.sources }
     ensures bound { IfOk result (λ b. select catalog.now query.now ≡ Ok b) }
-    ensures refused { IfErr result (λ fault. (fault ≡ NoMemory) ⊎ (select catalog.now query.now ≡ Err fault)) }
+    ensures refused { RefusedAs (select catalog.now query.now) result }
 {
     let tree = bound_select(alloc, catalog, scope, query)?;
     if select_fits(catalog, scope, query, &tree) {

@@ -1,8 +1,8 @@
 // Binding of expressions and conditions.
-ghost use Rattle.std.specs.Prelude.{◌≡◌, true, map, IfOk, IfErr};
+ghost use Rattle.std.specs.Prelude.{◌≡◌, true, map, IfOk};
 ghost use Rattle.std.specs.List.{list_all};
 ghost use Rattle.ifdb_catalog.specs.Terms.{bound_cond, bound_expr, bound_operand, bound_where, is_known, is_known_cond, is_known_operand, where_is_known};
-ghost use Rattle.ifdb_select.specs.Lacks.{Lacks};
+ghost use Rattle.ifdb_select.specs.Lacks.{RefusedUnless};
 
 use crate::scope::{ScopeSource, resolve};
 use ifdb_bound::{BoundCond, BoundConds, BoundExpr, BoundOperand};
@@ -16,7 +16,7 @@ use std::alloc::Global;
 pub fn bound_expr(alloc: Global, scope: &[ScopeSource<'_>], expr: &Expr) -> Result<BoundExpr, Fault>
     ensures known { IfOk result (λ _. is_known scope.now expr.now ≡ true) }
     ensures tree { IfOk result (λ tree. tree ≡ bound_expr scope.now expr.now) }
-    ensures lacks { IfErr result (λ fault. Lacks fault (is_known scope.now expr.now)) }
+    ensures lacks { RefusedUnless (is_known scope.now expr.now) result }
 {
     match expr {
         Expr::Column(column) => Ok(BoundExpr::Column(resolve(scope, column)?)),
@@ -47,7 +47,7 @@ fn bound_operand(
 ) -> Result<BoundOperand, Fault>
     ensures known { IfOk result (λ _. is_known_operand scope.now operand.now ≡ true) }
     ensures tree { IfOk result (λ tree. tree ≡ bound_operand scope.now operand.now) }
-    ensures lacks { IfErr result (λ fault. Lacks fault (is_known_operand scope.now operand.now)) }
+    ensures lacks { RefusedUnless (is_known_operand scope.now operand.now) result }
 {
     match operand {
         Operand::Column(column) => Ok(BoundOperand::Column(resolve(scope, column)?)),
@@ -61,7 +61,7 @@ fn bound_operand(
 fn bound_cond(alloc: Global, scope: &[ScopeSource<'_>], cond: &Cond) -> Result<BoundCond, Fault>
     ensures known { IfOk result (λ _. is_known_cond scope.now cond.now ≡ true) }
     ensures tree { IfOk result (λ tree. tree ≡ bound_cond scope.now cond.now) }
-    ensures lacks { IfErr result (λ fault. Lacks fault (is_known_cond scope.now cond.now)) }
+    ensures lacks { RefusedUnless (is_known_cond scope.now cond.now) result }
 {
     match cond {
         Cond::Or(members) => Ok(BoundCond::Or(bound_members(alloc, scope, members)?)),
@@ -91,7 +91,7 @@ fn bound_members(
 ) -> Result<BoundConds, Fault>
     ensures known { IfOk result (λ _. list_all (is_known_cond scope.now) members.now ≡ true) }
     ensures trees { IfOk result (λ trees. trees ≡ map (bound_cond scope.now) members.now) }
-    ensures lacks { IfErr result (λ fault. Lacks fault (list_all (is_known_cond scope.now) members.now)) }
+    ensures lacks { RefusedUnless (list_all (is_known_cond scope.now) members.now) result }
 {
     let mut trees = Sequence::new(alloc);
     for member in members.items() {
@@ -108,7 +108,7 @@ pub fn bound_where(
 ) -> Result<Option<BoundCond>, Fault>
     ensures known { IfOk result (λ _. where_is_known scope.now cond.now ≡ true) }
     ensures tree { IfOk result (λ tree. tree ≡ bound_where scope.now cond.now) }
-    ensures lacks { IfErr result (λ fault. Lacks fault (where_is_known scope.now cond.now)) }
+    ensures lacks { RefusedUnless (where_is_known scope.now cond.now) result }
 {
     match cond {
         Some(cond) => Ok(Some(bound_cond(alloc, scope, cond)?)),

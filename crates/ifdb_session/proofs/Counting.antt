@@ -8,7 +8,7 @@ use Rattle.ifdb_syntax.specs.declared.request.Request.{Request}
 use Rattle.ifdb_wire.specs.declared.fault.Fault.{Fault}
 use Rattle.ifdb_wire.specs.declared.fault.Fault.TheVariants as fault
 use Rattle.ifdb_wire.specs.declared.reply.Reply.{Reply}
-use Rattle.ifdb_wire.specs.Text.{reply_text}
+use Rattle.ifdb_wire.specs.Text.{memory_text, reply_text}
 use Rattle.ifdb_model.specs.Log.{Entry as LogEntry, changes, commits, commits_of}
 use Rattle.ifdb_model.specs.Session.{Txn, Session, no_session, in_txn}
 use Rattle.ifdb_model.specs.Step.{Reader, Outcome, refuses, ask}
@@ -19,7 +19,7 @@ use Rattle.ifdb_db.specs.Client.{Open, Client, txn_at}
 use Rattle.ifdb_db.specs.Lent.{IsLent}
 use Rattle.ifdb_db.specs.Reading.{read_line}
 use Rattle.ifdb_db.specs.Room.{Hall, StandsFor, client_in}
-use Rattle.ifdb_db.specs.RoomSteps.{GoesBy, IsReplyTo, IsReplyText, memory_text}
+use Rattle.ifdb_db.specs.RoomSteps.{GoesBy, IsReplyTo, IsReplyText}
 use Rattle.ifdb_db.proofs.RoomLaws.{same_session}
 use Rattle.ifdb_history.specs.declared.entry.Entry.{Entry}
 use Rattle.ifdb_history.specs.declared.entry.Kind.{Kind}

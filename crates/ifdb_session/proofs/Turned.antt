@@ -18,9 +18,9 @@ use Rattle.ifdb_db.specs.Client.{Client}
 use Rattle.ifdb_db.specs.Looks.{Looking, IsLookOf}
 use Rattle.ifdb_db.specs.Reading.{read_line}
 use Rattle.ifdb_db.specs.Room.{Hall, StandsFor}
-use Rattle.ifdb_db.specs.RoomSteps.{GoesBy, memory_text}
+use Rattle.ifdb_db.specs.RoomSteps.{GoesBy}
 use Rattle.ifdb_db.proofs.Looking.{shown_is_told, only_looks}
-use Rattle.ifdb_wire.specs.Text.{reply_text}
+use Rattle.ifdb_wire.specs.Text.{memory_text, reply_text}
 use Rattle.ifdb_history.specs.declared.entry.Entry.{Entry}
 use Rattle.ifdb_history.specs.declared.entry.Kind.TheVariants as kind
 use Rattle.ifdb_history.specs.declared.entry.Note.{Note}

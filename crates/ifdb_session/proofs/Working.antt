@@ -4,7 +4,7 @@ use Rattle.std.specs.Prelude.{◌==◌, not, option_to_list}
 use Rattle.std.proofs.lemmas.List.{append_assoc, append-nil, map-append}
 use mathlib.Core.List.{IsPrefix}
 use Rattle.ifdb_wire.specs.declared.reply.Reply.{Reply}
-use Rattle.ifdb_wire.specs.Text.{reply_text, IsUnbounded}
+use Rattle.ifdb_wire.specs.Text.{IsUnbounded, memory_text, reply_text}
 use Rattle.ifdb_model.specs.Log.{Entry as LogEntry}
 use Rattle.ifdb_model.specs.Session.{Session, in_txn}
 use Rattle.ifdb_model.specs.Step.{Outcome, tells, ask}
@@ -14,7 +14,6 @@ use Rattle.ifdb_db.specs.Lent.{IsLabelInside, IsLent, GoesOn, Answers, with_clie
 use Rattle.ifdb_db.specs.Looks.{Looking, Shows}
 use Rattle.ifdb_db.specs.Reading.{read_line}
 use Rattle.ifdb_db.specs.Room.{Hall, IsOver, StandsFor, client_in}
-use Rattle.ifdb_db.specs.RoomSteps.{memory_text}
 use Rattle.ifdb_db.proofs.Lending.{goes_itself, goes_further, over_further, put_there, put_twice, put_itself, stands_answered, client_is_that}
 use Rattle.ifdb_db.proofs.RoomLaws.{at_open, over_at, over_more, same_session}
 use Rattle.ifdb_history.specs.declared.entry.Entry.{Entry}

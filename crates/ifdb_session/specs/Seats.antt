@@ -3,7 +3,7 @@
 use Rattle.std.specs.Prelude.{◌≡◌, ◌⊎◌, ℕ, Bool, true, false, List, [], ◌∷◌, ◌++◌, map, Option, Some, None}
 use Rattle.ifdb_io.specs.Lines.{Reading}
 use Rattle.ifdb_wire.specs.declared.reply.Reply.{Reply}
-use Rattle.ifdb_wire.specs.Text.{reply_text}
+use Rattle.ifdb_wire.specs.Text.{memory_text, reply_text}
 use Rattle.ifdb_model.specs.Run.{session_of}
 use Rattle.ifdb_history.specs.declared.entry.Entry.{Entry}
 use Rattle.ifdb_history.specs.declared.entry.Kind.{Kind}
@@ -16,7 +16,6 @@ use Rattle.ifdb_db.specs.Lent.{IsLent, Answers}
 use Rattle.ifdb_db.specs.Looks.{Looking, Shows}
 use Rattle.ifdb_db.specs.Reading.{read_line}
 use Rattle.ifdb_db.specs.Room.{IsOver}
-use Rattle.ifdb_db.specs.RoomSteps.{memory_text}
 use Rattle.ifdb_session.specs.declared.seat.Seat.{Seat}
 
 -- what a reader had read, and whether it was refused

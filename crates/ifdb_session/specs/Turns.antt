@@ -1,11 +1,12 @@
 -- What the room does in a turn, whatever state it stands for.
 use Rattle.std.specs.Prelude.{◌≡◌, ℕ, ◌+◌, Bool, true, false, List, [], length, Option, Some, None}
+use Rattle.ifdb_wire.specs.Text.{memory_text}
 use Rattle.ifdb_model.specs.Run.{State, session_of, asks}
 use Rattle.ifdb_db.specs.Reading.{read_line}
 use Rattle.ifdb_db.specs.Client.{Client}
 use Rattle.ifdb_db.specs.Lent.{IsLent, MayComeBack, with_client}
 use Rattle.ifdb_db.specs.Room.{Hall, StandsFor, client_in}
-use Rattle.ifdb_db.specs.RoomSteps.{GoesBy, IsReplyText, memory_text}
+use Rattle.ifdb_db.specs.RoomSteps.{GoesBy, IsReplyText}
 use Rattle.ifdb_history.specs.declared.entry.Kind.{Kind}
 use Rattle.ifdb_history.specs.declared.entry.Kind.TheVariants as kind
 use Rattle.ifdb_session.specs.declared.shared.Asked.{Asked}

@@ -1,8 +1,7 @@
 // A session as its connection has it, and what is told away from the room.
 ghost use Rattle.std.specs.Prelude.{◌≡◌, [], true, false, None};
-ghost use Rattle.ifdb_wire.specs.Text.{reply_text, IsUnbounded};
+ghost use Rattle.ifdb_wire.specs.Text.{IsUnbounded, memory_text, reply_text};
 ghost use Rattle.ifdb_db.specs.Lent.{IsLent};
-ghost use Rattle.ifdb_db.specs.RoomSteps.{memory_text};
 ghost use Rattle.ifdb_session.specs.Seats.{IsAskedAlone, IsAskedOf, IsLentIf, IsShownAs};
 
 use ifdb_db::{Look, Session};

@@ -1,9 +1,9 @@
 // The room that connections share.
 ghost use Rattle.std.specs.Prelude.{◌≡◌, [], false, List, None, IfErr, IfOk, IsSome, OnErr, OnOk, length};
-ghost use Rattle.ifdb_wire.specs.Text.{reply_text};
+ghost use Rattle.ifdb_wire.specs.Text.{memory_text, reply_text};
 ghost use Rattle.ifdb_model.specs.Run.{asks, leaves, opens};
 ghost use Rattle.ifdb_db.specs.Looks.{IsLookOf};
-ghost use Rattle.ifdb_db.specs.RoomSteps.{GoesBy, IsReplyTo, memory_text};
+ghost use Rattle.ifdb_db.specs.RoomSteps.{GoesBy, IsReplyTo};
 ghost use Rattle.ifdb_history.specs.declared.entry.Kind.TheVariants.{Opened as OpenedKind, Left as LeftKind};
 ghost use Rattle.ifdb_session.specs.Counts.{counts_of, IsGlance};
 ghost use Rattle.ifdb_session.specs.Endings.{capped};

@@ -1,6 +1,6 @@
 // A public state that several snapshots share.
-ghost use Rattle.std.specs.Prelude.{◌≡◌, ◌⊎◌, None, Some, IfOk, IfErr, IsTrue, OnErr, OnOk};
-ghost use Rattle.ifdb_wire.specs.declared.fault.Fault.TheVariants.{OutOfMemory as NoMemory};
+ghost use Rattle.std.specs.Prelude.{◌≡◌, None, Some, IfOk, IsTrue, OnErr, OnOk};
+ghost use Rattle.ifdb_wire.specs.Refused.{RefusedFor};
 ghost use Rattle.ifdb_catalog.specs.Public.{changed, opening as first_public, refusal};
 ghost use Rattle.ifdb_catalog.specs.Fits.{change_fits, is_new};
 ghost use Rattle.ifdb_snapshot.specs.Narrow.{is_narrow_change};
@@ -72,7 +72,7 @@ impl SharedState {
         requires narrow { IsTrue (is_narrow_change change) }
         ensures done { OnOk result (self.new ≡ changed self.old change) }
         ensures accepted { OnOk result (refusal self.old change ≡ None) }
-        ensures refused { IfErr result (λ fault. (fault ≡ NoMemory) ⊎ (refusal self.old change ≡ Some fault)) }
+        ensures refused { RefusedFor (refusal self.old change) result }
         ensures err { OnErr result (self.new ≡ self.old) }
     {
         self.hold_alone()?;

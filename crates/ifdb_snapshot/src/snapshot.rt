@@ -1,6 +1,6 @@
 // What a request sees.
-ghost use Rattle.std.specs.Prelude.{◌≡◌, ◌⊎◌, IfOk, IfErr, IsTrue, Ok, Err};
-ghost use Rattle.ifdb_wire.specs.declared.fault.Fault.TheVariants.{OutOfMemory as NoMemory};
+ghost use Rattle.std.specs.Prelude.{◌≡◌, IfOk, IsTrue, Ok};
+ghost use Rattle.ifdb_wire.specs.Refused.{RefusedAs};
 ghost use Rattle.ifdb_catalog.specs.Binding.{bound};
 ghost use Rattle.ifdb_catalog.specs.Fits.{bound_fits};
 ghost use Rattle.ifdb_snapshot.specs.Narrow.{is_narrow, is_narrow_bound};
@@ -62,7 +62,7 @@ impl<'a> Snapshot<'a> {
         ensures bound { IfOk result (λ found. bound self.now.public asker request ≡ Ok found) }
         ensures fits { IfOk result (λ found. IsTrue (bound_fits self.now.public found)) }
         ensures narrow { IfOk result (λ found. IsTrue (is_narrow_bound found)) }
-        ensures refused { IfErr result (λ fault. (fault ≡ NoMemory) ⊎ (bound self.now.public asker request ≡ Err fault)) }
+        ensures refused { RefusedAs (bound self.now.public asker request) result }
     {
         bind(self.alloc, self.public.catalog(), asker, request)
     }

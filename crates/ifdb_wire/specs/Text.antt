@@ -6,6 +6,7 @@ use Rattle.ifdb_value.specs.declared.value.Value.TheVariants as value
 use Rattle.ifdb_wire.specs.declared.reply.Table.{Table}
 use Rattle.ifdb_wire.specs.declared.reply.Reply.{Reply}
 use Rattle.ifdb_wire.specs.declared.reply.Reply.TheVariants as reply
+use Rattle.ifdb_wire.specs.declared.fault.Fault.TheVariants as fault
 use Rattle.ifdb_wire.specs.Fault.{fault_text}
 
 -- a backslash, a tab or a carriage return
@@ -64,6 +65,10 @@ line session text = line_head session ++ (text ++ 10 ∷ [])
 -- the text of a reply to a session, which is none on a connection
 abbrev pub reply_text : Option ℕ → Reply → List ℕ
 reply_text session reply = flat_map (line session) (reply_lines reply)
+
+-- what is told where there was no memory
+abbrev pub memory_text : Option ℕ → List ℕ
+memory_text session = reply_text session (reply.Refused fault.OutOfMemory)
 
 -- a reply of any length: every other one has at most 128 bytes
 abbrev pub IsUnbounded : Reply → Type 0

@@ -1,9 +1,10 @@
 // Changes of the public state.
-ghost use Rattle.std.specs.Prelude.{◌≡◌, ◌↔◌, ◌⊎◌, ◌++◌, ◌∷◌, [], Some, None, Err, OnOk, OnErr, IfOk, IfErr, IsTrue, length};
+ghost use Rattle.std.specs.Prelude.{◌≡◌, ◌↔◌, ◌++◌, ◌∷◌, [], Some, None, Err, OnOk, OnErr, IfOk, IfErr, IsTrue, length};
 ghost use Rattle.std.specs.Option.{is_some};
 ghost use Rattle.ifdb_label.specs.Tags.{AreMade};
 ghost use Rattle.ifdb_bound.specs.declared.request.Change.TheVariants as change;
-ghost use Rattle.ifdb_wire.specs.declared.fault.Fault.TheVariants.{NotGranted, OutOfMemory as NoMemory};
+ghost use Rattle.ifdb_wire.specs.declared.fault.Fault.TheVariants.{NotGranted};
+ghost use Rattle.ifdb_wire.specs.Refused.{RefusedFor};
 ghost use Rattle.ifdb_catalog.specs.Public.{changed, has_tags, refusal};
 ghost use Rattle.ifdb_catalog.specs.Fits.{change_fits, is_new};
 
@@ -27,7 +28,7 @@ impl Catalog {
         requires new { IsTrue (is_new self.old change) }
         ensures done { OnOk result (self.new ≡ changed self.old change) }
         ensures accepted { OnOk result (refusal self.old change ≡ None) }
-        ensures refused { IfErr result (λ fault. (fault ≡ NoMemory) ⊎ (refusal self.old change ≡ Some fault)) }
+        ensures refused { RefusedFor (refusal self.old change) result }
         ensures not_granted { (result ≡ Err NotGranted) ↔ (refusal self.old change ≡ Some NotGranted) }
         ensures err { OnErr result (self.new ≡ self.old) }
     {
@@ -97,7 +98,7 @@ impl Catalog {
         requires new { IsTrue (is_new self.old (change.View view)) }
         ensures done { OnOk result (self.new ≡ changed self.old (change.View view)) }
         ensures accepted { OnOk result (refusal self.old (change.View view) ≡ None) }
-        ensures refused { IfErr result (λ fault. (fault ≡ NoMemory) ⊎ (refusal self.old (change.View view) ≡ Some fault)) }
+        ensures refused { RefusedFor (refusal self.old (change.View view)) result }
         ensures err { OnErr result (self.new ≡ self.old) }
     {
         if !self.has_tags(view.owner, view.declassifying.tags())? {
@@ -132,7 +133,7 @@ impl Catalog {
         requires { IsTrue (change_fits self.old (change.Grant asker tag to)) }
         ensures done { OnOk result (self.new ≡ changed self.old (change.Grant asker tag to)) }
         ensures accepted { OnOk result (refusal self.old (change.Grant asker tag to) ≡ None) }
-        ensures refused { IfErr result (λ fault. (fault ≡ NoMemory) ⊎ (refusal self.old (change.Grant asker tag to) ≡ Some fault)) }
+        ensures refused { RefusedFor (refusal self.old (change.Grant asker tag to)) result }
         ensures err { OnErr result (self.new ≡ self.old) }
     {
         match self.authority.grant(&self.tags, asker, tag, to) {

@@ -1,12 +1,12 @@
 // Sessions that a room lends, and takes back; and what is looked at away from it.
 ghost use Rattle.std.specs.Prelude.{◌≡◌, None, IfErr, IfOk, IfSome, IsTrue, OnErr, OnOk};
-ghost use Rattle.ifdb_wire.specs.Text.{reply_text};
+ghost use Rattle.ifdb_wire.specs.Text.{memory_text, reply_text};
 ghost use Rattle.ifdb_model.specs.Run.{asks, leaves};
 ghost use Rattle.ifdb_db.specs.Kept.{IsKept};
 ghost use Rattle.ifdb_db.specs.Lent.{IsLent, MayComeBack, with_client};
 ghost use Rattle.ifdb_db.specs.Looks.{IsLookOf, IsSightOf};
 ghost use Rattle.ifdb_db.specs.Room.{client_in};
-ghost use Rattle.ifdb_db.specs.RoomSteps.{GoesBy, IsReplyTo, memory_text};
+ghost use Rattle.ifdb_db.specs.RoomSteps.{GoesBy, IsReplyTo};
 
 use super::{Room, say};
 use crate::look::{Look, Sight};
