@@ -1,11 +1,15 @@
 //! What threads sleep on while they wait for their turns.
 
 use std::array::from_fn;
+use std::hint::spin_loop;
 use std::sync::Wait;
 use std::sync::atomic::{AtomicU64, Ordering};
 
 // How many bells there are: so many threads may wait, each at a bell of its own.
 const BELLS: u64 = 64;
+
+// How often a thread looks at its bell before it sleeps: some microseconds, as most turns last, and a sleep costs more.
+const LOOKS: u32 = 100;
 
 /// A word for each remainder of a ticket, which rises when a ticket with that remainder is to be served. Contracts know
 /// nothing of the words: they only end sleeps, so that the end of a turn wakes the thread whose turn is next, and not
@@ -13,6 +17,8 @@ const BELLS: u64 = 64;
 #[derive(Drop)]
 pub(crate) struct Bells {
     words: [AtomicU64; 64],
+    // How many threads sleep, or are about to: where none does, ringing makes no call of the system.
+    sleepers: AtomicU64,
 }
 
 impl Bells {
@@ -20,6 +26,7 @@ impl Bells {
     pub(crate) fn new() -> Self {
         Bells {
             words: from_fn(|_: usize| AtomicU64::new(0)),
+            sleepers: AtomicU64::new(0),
         }
     }
 
@@ -28,16 +35,36 @@ impl Bells {
         self.bell(ticket).load(Ordering::SeqCst)
     }
 
-    /// Sleeps until the ticket's bell is rung, unless it was since it had been rung so often. May end for no reason.
-    pub(crate) fn sleep<R: Wait>(&self, rt: &R, ticket: u64, rung: u64) {
+    /// Waits until the ticket's bell is rung, unless it was since it had been rung so often: looks for a while, and then
+    /// sleeps. May end for no reason.
+    pub(crate) fn wait<R: Wait>(&self, rt: &R, ticket: u64, rung: u64) {
+        if self.is_rung_soon(ticket, rung) {
+            return;
+        }
+        self.sleepers.fetch_add(1, Ordering::SeqCst);
         self.bell(ticket).park(rt, (rung % (1 << 32)) as u32);
+        self.sleepers.fetch_sub(1, Ordering::SeqCst);
     }
 
-    /// Wakes who waits for the ticket.
+    /// Wakes who waits for the ticket. Who counts itself among the sleepers after the look here sees the bell rung, and
+    /// doesn't sleep.
     pub(crate) fn ring(&self, ticket: u64) {
         let bell = self.bell(ticket);
         bell.fetch_add(1, Ordering::SeqCst);
-        bell.wake_all();
+        if self.sleepers.load(Ordering::SeqCst) > 0 {
+            bell.wake_all();
+        }
+    }
+
+    // Whether the ticket's bell is rung within some looks.
+    fn is_rung_soon(&self, ticket: u64, rung: u64) -> bool {
+        for _ in 0..LOOKS {
+            if self.rung(ticket) != rung {
+                return true;
+            }
+            spin_loop();
+        }
+        false
     }
 
     fn bell(&self, ticket: u64) -> &AtomicU64 {

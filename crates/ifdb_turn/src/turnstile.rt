@@ -156,7 +156,8 @@ impl<O: Object> Turnstile<O> {
     ///
     /// No promise says that the turn ever comes: it does not where a turn before it never ends, and whoever would have
     /// the last ticket, 2^64 - 1, waits for good. Turns come in the order of tickets, but no promise says that either.
-    /// A thread that waits sleeps, and wakes when its turn comes, or that of a ticket a multiple of 64 away.
+    /// A thread that waits looks for some microseconds and then sleeps, and wakes when its turn comes, or that of a ticket
+    /// a multiple of 64 away.
     pub fn enter<'a, R: Wait>(&'a self, rt: &R, pass: &'a mut Pass<O>) -> Turn<'a, O>
         requires pass { BelongsTo self.now pass.old }
         ensures turnstile { IsAt self.now result }
@@ -249,7 +250,7 @@ impl<O: Object> Turnstile<O> {
             if serving == ticket {
                 return;
             }
-            self.bells.sleep(rt, ticket, rung);
+            self.bells.wait(rt, ticket, rung);
         }
         unreachable!()
     }
