@@ -1,8 +1,9 @@
 // Binding of UPDATE and DELETE.
-ghost use Rattle.std.specs.Prelude.{◌≡◌, ◌&&◌, ◌∷◌, [], true, map, Ok, IfOk};
+ghost use Rattle.std.specs.Prelude.{◌≡◌, ◌⊎◌, ◌&&◌, ◌∷◌, [], true, map, Ok, Err, IfOk, IfErr};
 ghost use Rattle.std.specs.List.{list_all, list_any};
 ghost use Rattle.ifdb_syntax.specs.declared.request.Assignment.{Assignment};
 ghost use Rattle.ifdb_bound.specs.Kinds.{where_fits};
+ghost use Rattle.ifdb_wire.specs.declared.fault.Fault.TheVariants.{OutOfMemory as NoMemory};
 ghost use Rattle.ifdb_wire.specs.Refused.{RefusedAs};
 ghost use Rattle.ifdb_catalog.specs.Binding.{delete, update};
 ghost use Rattle.ifdb_catalog.specs.Queries.{are_distinct};
@@ -82,7 +83,8 @@ pub(crate) fn update<'a>(
 ) -> Result<Bound, Fault>
     ensures bound { IfOk result
         (λ b. update catalog.now table.now changes.entry.assignments.now changes.entry.cond.now changes.entry.tags.now ≡ Ok b) }
-    ensures refused { RefusedAs (update catalog.now table.now changes.entry.assignments.now changes.entry.cond.now changes.entry.tags.now) result }
+    ensures refused { IfErr result
+        (λ fault. (fault ≡ NoMemory) ⊎ (update catalog.now table.now changes.entry.assignments.now changes.entry.cond.now changes.entry.tags.now ≡ Err fault)) }
 {
     let relation = relation_named(catalog, table)?;
     let target = source(alloc, catalog, table, relation)?;
