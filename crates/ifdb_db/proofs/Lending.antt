@@ -17,7 +17,7 @@ use Rattle.ifdb_model.specs.Run.{State, session_of, with_outcome, asks, next}
 use Rattle.ifdb_db.specs.Client.{Open, Client, client_of, session_at, txn_at}
 use Rattle.ifdb_db.specs.Inside.{is_end, Inside, IsReplied, IsLeft, IsDenied}
 use Rattle.ifdb_db.specs.Kept.{IsLabelKept, IsKept, Outgrows}
-use Rattle.ifdb_db.specs.Lent.{IsLabelInside, IsLent, GoesOn, Answers, with_client, MayComeBack}
+use Rattle.ifdb_db.specs.Lent.{IsLabelInside, IsLent, GoesOn, Answers, EndsTransaction, with_client, MayComeBack}
 use Rattle.ifdb_db.specs.Reading.{read_line}
 use Rattle.ifdb_db.specs.Room.{Hall, times, begin_of, begins_of, IsOver, StandsFor, IsSoundRoom, no_client, client_in}
 use Rattle.ifdb_db.proofs.DeskLaws.{times_set}
@@ -65,6 +65,10 @@ module _ (asker : ℕ) (l : List ℕ) (x : Open) (r : Request) where
       ∙ ap (λ (z : Seen). answered_as (length log) z None (session_at there) asker r (form_of r))
       (ap (λ (z : Seen). record { public = z.public; rows = after z.rows x.own }) (sym over.1))
       ∙ h (length log) None
+
+  -- a line that is left to the database ends the transaction
+  pub room_so : (line : List ℕ) → read_line line ≡ Ok r → (m : List ℕ) (y : Open) (end : Form) → is_end end ≡ true → IsLeft end l m x y r → EndsTransaction line
+  room_so line found m y end is d = (r, found, ap is_end d.form ∙ is)
 
   module _ (line : List ℕ) (found : read_line line ≡ Ok r) (c : Client) (is : c ≡ there) where
     asked_so : (o : Outcome) (log : List Entry) → is_end (form_of r) ≡ false → Inside asker l x r o → IsOver log c.txn → ask read_line log (session_at c) line ≡ o

@@ -1,14 +1,16 @@
 -- A session in a transaction that is lent: whoever has it asks its lines of it alone, and gives it back with what they came to.
 use Rattle.std.specs.Prelude.{◌≡◌, ◌⊎◌, ◌-◌, ℕ, true, List, length, slice_set, Option, Some, None, Result, Ok, Err}
 use Rattle.ifdb_label.specs.Tags.{AreMade}
+use Rattle.ifdb_syntax.specs.declared.request.Request.{Request}
 use Rattle.ifdb_wire.specs.declared.fault.Fault.{Fault}
 use Rattle.ifdb_wire.specs.declared.fault.Fault.TheVariants as fault
 use Rattle.ifdb_wire.specs.declared.reply.Reply.{Reply}
 use Rattle.ifdb_wire.specs.declared.reply.Reply.TheVariants as reply
 use Rattle.ifdb_wire.specs.Text.{IsUnbounded}
 use Rattle.ifdb_model.specs.Log.{Entry}
-use Rattle.ifdb_model.specs.Step.{tells, ask}
+use Rattle.ifdb_model.specs.Step.{form_of, tells, ask}
 use Rattle.ifdb_db.specs.Client.{Open, Client, session_at}
+use Rattle.ifdb_db.specs.Inside.{is_end}
 use Rattle.ifdb_db.specs.Reading.{read_line}
 use Rattle.ifdb_db.specs.Room.{Hall, IsOver, client_in}
 
@@ -34,16 +36,24 @@ pub record Answers (line : List ℕ) (c e : Client) (r : Reply) : Type 0 where
   pub lent : IsLent e
   pub still : IsUnbounded r → e ≡ c
 
+-- the line ends a transaction
+abbrev pub EndsTransaction : List ℕ → Type 0
+EndsTransaction line = (r : Request) × (read_line line ≡ Ok r) × (is_end (form_of r) ≡ true)
+
+-- the database has a part in the line: it ends the transaction, or the session has no principal or no transaction
+abbrev pub IsForRoom : List ℕ → Client → Type 0
+IsForRoom line c = (c.principal ≡ None) ⊎ ((c.txn ≡ None) ⊎ EndsTransaction line)
+
 -- the line was answered so; or the database has a part in it, or there was no memory, and the session is as before
 abbrev pub IsAnsweredAlone : {X : Type 0} → List ℕ → Client → Client → Result (Option Reply) X → Type 0
 IsAnsweredAlone line c e (Ok (Some r)) = Answers line c e r
-IsAnsweredAlone line c e (Ok None) = e ≡ c
+IsAnsweredAlone line c e (Ok None) = (e ≡ c) × IsForRoom line c
 IsAnsweredAlone line c e (Err x) = e ≡ c
 
 -- the same, where a refusal is an error too
 abbrev pub IsFoundAlone : List ℕ → Client → Client → Result (Option Reply) Fault → Type 0
 IsFoundAlone line c e (Ok (Some r)) = Answers line c e r
-IsFoundAlone line c e (Ok None) = e ≡ c
+IsFoundAlone line c e (Ok None) = (e ≡ c) × IsForRoom line c
 IsFoundAlone line c e (Err f) = (e ≡ c) × ((f ≡ fault.OutOfMemory) ⊎ Answers line c c (reply.Refused f))
 
 -- ---- in a room

@@ -36,8 +36,8 @@ use Rattle.ifdb_history.proofs.Entries.{last_entry}
 use Rattle.ifdb_history.proofs.Logs.{log_on}
 use Rattle.ifdb_session.specs.Counts.{commits_at, refuses_at}
 use Rattle.ifdb_session.specs.Ends.{EndsBare, EndsWith}
-use Rattle.ifdb_session.specs.Passes.{Sees, Adds, Asks, IsNew}
-use Rattle.ifdb_session.specs.Seats.{work_of, lines_in, IsToldIn, asked_entry, left_entry, Works, WorksIf, IsSeated, IsGone, Notes, IsShownAs}
+use Rattle.ifdb_session.specs.Passes.{Sees, Adds, Asks, IsNew, TakesNoTurn}
+use Rattle.ifdb_session.specs.Seats.{work_of, lines_in, IsToldIn, asked_entry, left_entry, Works, WorksIf, IsSeated, IsGone, IsForRoomIf, Notes, IsShownAs}
 use Rattle.ifdb_session.specs.declared.seat.Seat.{Seat}
 use Rattle.ifdb_session.specs.declared.shared.SharedRoom.{SharedRoom}
 use Rattle.ifdb_session.specs.Standing.{StandsForHistory}
@@ -470,6 +470,14 @@ module _ {X : Type 0} (hall : Turnstile X Entry) (old : Pass X Entry) (turn : Tu
       }
 
 -- ---- a line that took no turn
+
+pub no_turn : {X : Type 0} (line : List ℕ) (lent : Option Client) (pass : Pass X Entry) → TakesNoTurn line lent pass pass
+no_turn line None pass = tt
+no_turn line (Some c) pass = inr refl
+
+pub turn_for_room : {X : Type 0} (line : List ℕ) (lent : Option Client) (old new : Pass X Entry) → IsForRoomIf line lent → TakesNoTurn line lent old new
+turn_for_room line None old new k = k
+turn_for_room line (Some c) old new k = inl k
 
 pub alone_asked : {X : Type 0} (hall : Turnstile X Entry) (pass : Pass X Entry) (s t : Seat) (line text : List ℕ) → BelongsTo hall pass → IsOrderly (IsRight read_line) pass
     → IsSeated (history pass) (places pass) s → Notes line s t text → Asks hall line text pass pass s t true

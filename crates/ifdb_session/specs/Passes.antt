@@ -1,9 +1,11 @@
 -- What the turns of a session do to the pass that they are taken with.
-use Rattle.std.specs.Prelude.{◌≡◌, ℕ, Bool, true, false, List, [], ◌∷◌, ◌++◌}
+use Rattle.std.specs.Prelude.{◌≡◌, ◌⊎◌, ℕ, Bool, true, false, List, [], ◌∷◌, ◌++◌, Option, Some, None}
 use mathlib.Core.List.{IsPrefix}
 use Rattle.ifdb_turn.specs.declared.turnstile.Turnstile.{Turnstile}
 use Rattle.ifdb_turn.specs.declared.turnstile.Pass.{Pass}
 use Rattle.ifdb_turn.specs.Passes.{history, places, shares, BelongsTo, IsOrderly}
+use Rattle.ifdb_db.specs.Client.{Client}
+use Rattle.ifdb_db.specs.Lent.{IsForRoom}
 use Rattle.ifdb_db.specs.Reading.{read_line}
 use Rattle.ifdb_history.specs.declared.entry.Entry.{Entry}
 use Rattle.ifdb_history.specs.History.{HasRoot, IsRight, Holds, AreEntriesOf}
@@ -44,3 +46,8 @@ module _ {X : Type 0} where
     pub over : is_open ≡ false → IsGone (history new) t
     pub lines : lines_in (history new) t ≡ lines_in (history old) s ++ line ∷ []
     pub texts : (before : List ℕ) → IsToldIn (history old) s before → IsToldIn (history new) t (before ++ text)
+
+  -- a line of a session that is lent took no turn, and so left the pass as it was, unless it is for the room
+  abbrev pub TakesNoTurn : List ℕ → Option Client → Pass X Entry → Pass X Entry → Type 0
+  TakesNoTurn line None old new = Unit {0}
+  TakesNoTurn line (Some c) old new = IsForRoom line c ⊎ (new ≡ old)

@@ -6,7 +6,7 @@ ghost use Rattle.ifdb_turn.specs.Passes.{history, places, BelongsTo, IsOrderly};
 ghost use Rattle.ifdb_wire.specs.Text.{reply_text};
 ghost use Rattle.ifdb_history.specs.History.{IsRight};
 ghost use Rattle.ifdb_db.specs.Reading.{read_line};
-ghost use Rattle.ifdb_session.specs.Passes.{Sees, Adds, Asks};
+ghost use Rattle.ifdb_session.specs.Passes.{Sees, Adds, Asks, TakesNoTurn};
 ghost use Rattle.ifdb_session.specs.Seats.{lines_in, IsSeated, IsToldIn};
 ghost use Rattle.ifdb_session.specs.Links.{Served, Span};
 ghost use Rattle.ifdb_session.specs.Talk.{IsTalked};
@@ -217,7 +217,8 @@ fn ask<R: Wait>(
     requires pass { BelongsTo hall.now pass.old }
     requires orderly { IsOrderly (IsRight read_line) pass.old }
     requires seated { IsSeated (history pass.old) (places pass.old) seat.old }
-    ensures { Asks hall.now reader.now.text out.new.text pass.old pass.new seat.old seat.new result }
+    ensures asks { Asks hall.now reader.now.text out.new.text pass.old pass.new seat.old seat.new result }
+    ensures alone { TakesNoTurn reader.now.text seat.old.lent pass.old pass.new }
 {
     if seat.ask(reader, out) {
         return true;

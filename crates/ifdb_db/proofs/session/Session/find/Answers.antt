@@ -1,4 +1,4 @@
-use Rattle.std.proofs.Common.{◌≡◌, true, refl, sym, ◌∙◌, subst, Ok, Err, Some}
+use Rattle.std.proofs.Common.{◌≡◌, true, refl, sym, ◌∙◌, subst, inr, Ok, Err, Some}
 use Rattle.std.proofs.lemmas.Result.{err_from_is_err_and}
 use Rattle.ifdb_db.specs.declared.told.Told.{Told}
 use Rattle.ifdb_db.specs.declared.told.Told.TheVariants as tells
@@ -7,7 +7,7 @@ use Rattle.ifdb_db.specs.Client.{Client}
 use Rattle.ifdb_db.specs.Inside.{IsTold}
 use Rattle.ifdb_db.specs.Lent.{IsLabelInside, IsFoundAlone}
 use Rattle.ifdb_db.proofs.Answering.{client_is}
-use Rattle.ifdb_db.proofs.Lending.{answers_so, denied_so, left_so}
+use Rattle.ifdb_db.proofs.Lending.{answers_so, denied_so, left_so, room_so}
 use Rattle.ifdb_db.proofs.session.Session.find.Goals as goal
 use Rattle.ifdb_db.proofs.session.Session.find.Goals.{in-Replies, in-Commits, in-RollsBack, in-Leaves}
 
@@ -34,11 +34,12 @@ returns c =
     let so = c.in_ok-reply.ensures.told in
     let answered = answers_so c.in-Some.asker s.label x c.in_ok-request.request c.args.line.now c.in_ok-request.ensures.request s is e c.ask.new.label c.ask.new.self in
     let left = left_so c.in-Some.asker s.label x c.in_ok-request.request c.args.line.now c.in_ok-request.ensures.request s is e c.ask.new.label c.ask.new.self in
+    let for_room = room_so c.in-Some.asker s.label x c.in_ok-request.request c.args.line.now c.in_ok-request.ensures.request c.ask.new.label c.ask.new.self in
     let told = λ (o : Told) (i : c.in_ok-reply.field-0 ≡ o). subst (λ (z : Told). IsTold c.in-Some.asker s.label c.ask.new.label x c.ask.new.self c.in_ok-request.request (Ok z)) i so in
     elim c.match-branch-3.branch [
       | in-Replies w ↦ rw w.result-is (subst (λ (z : Client). IsFoundAlone c.args.line.now z e (Ok (Some w.in-Replies.reply))) c.self.view_is
           (answered w.in-Replies.reply refl c.ask.ensures.made (told (tells.Replies w.in-Replies.reply) w.in-Replies.is)))
-      | in-Commits w ↦ rw w.result-is (left ends refl (told tells.Commits w.in-Commits.is) ∙ c.self.view_is)
-      | in-RollsBack w ↦ rw w.result-is (left rolls_back refl (told tells.RollsBack w.in-RollsBack.is) ∙ c.self.view_is)
-      | in-Leaves w ↦ rw w.result-is (left leaves_us refl (told tells.Leaves w.in-Leaves.is) ∙ c.self.view_is)
+      | in-Commits w ↦ rw w.result-is (left ends refl (told tells.Commits w.in-Commits.is) ∙ c.self.view_is, inr (inr (for_room ends refl (told tells.Commits w.in-Commits.is))))
+      | in-RollsBack w ↦ rw w.result-is (left rolls_back refl (told tells.RollsBack w.in-RollsBack.is) ∙ c.self.view_is, inr (inr (for_room rolls_back refl (told tells.RollsBack w.in-RollsBack.is))))
+      | in-Leaves w ↦ rw w.result-is (left leaves_us refl (told tells.Leaves w.in-Leaves.is) ∙ c.self.view_is, inr (inr (for_room leaves_us refl (told tells.Leaves w.in-Leaves.is))))
     ]
