@@ -10,6 +10,3 @@ mod writes;
 
 pub use binding::bind;
 pub use ifdb_catalog::OutOfMemory;
-
-#[cfg(test)]
-mod tests;

@@ -20,6 +20,3 @@ pub use reading::Reading;
 pub use select::{answer, combine, matching};
 pub use std::alloc::AllocError as OutOfMemory;
 pub use view_row::{ViewRow, ViewRows};
-
-#[cfg(test)]
-mod tests;

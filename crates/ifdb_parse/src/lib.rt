@@ -28,6 +28,3 @@ pub use fault::ParseFault;
 pub use laws::{parser_reads_the_grammar, requests_are_read};
 pub use line::parse;
 pub use way_back::{canonical_text_reads_back, requests_read_back};
-
-#[cfg(test)]
-mod tests;

@@ -7,8 +7,6 @@ mod end;
 mod numbered_line;
 mod service;
 mod summary;
-#[cfg(test)]
-mod tests;
 mod workers;
 
 pub use doors::{Ended, Unserved, serve_doors};

@@ -7,8 +7,6 @@ mod host;
 mod link;
 mod seat;
 mod shared;
-#[cfg(test)]
-mod tests;
 mod turns;
 
 pub use counts::Counts;

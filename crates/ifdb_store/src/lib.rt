@@ -21,6 +21,3 @@ pub use content::Content;
 pub use laws::stands_for_a_log;
 pub use steps::Steps;
 pub use store::Store;
-
-#[cfg(test)]
-mod tests;

@@ -4,7 +4,7 @@ ghost use Rattle.ifdb_label.specs.Tags.{are_made};
 ghost use Rattle.ifdb_row.specs.Seen.{are_rows_made};
 ghost use Rattle.ifdb_exec.specs.Given.{are_given_keyed, is_given_keyed};
 
-use crate::given::Given;
+use ifdb_exec::Given;
 use ifdb_label::{Tag, Tags};
 use ifdb_plan::are_keyed;
 use ifdb_row::Row;

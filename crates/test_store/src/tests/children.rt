@@ -4,8 +4,8 @@ ghost use Rattle.ifdb_row.specs.Writes.{is_fitting};
 
 use super::walk::{children_of, listed};
 use super::writes::{alone, slot_in};
-use crate::Content;
 use ifdb_row::{OutOfMemory, Refs, Row, Rows, Values, Write, Writes};
+use ifdb_store::Content;
 use ifdb_value::TableId;
 use std::alloc::Global;
 use std::process::Abort;

@@ -1,8 +1,8 @@
 //! Pseudo-random writes, one after the other, beside a plain list of what stands under each key.
 use super::walk::{listed, value_at, walk};
 use super::writes::{one, write_of};
-use crate::Content;
 use ifdb_row::{OutOfMemory, Rows, Writes};
+use ifdb_store::Content;
 use std::alloc::Global;
 use std::ops::Range;
 use std::process::Abort;

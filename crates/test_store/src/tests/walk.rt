@@ -1,7 +1,7 @@
 //! What contents hold.
 use super::writes::slot_of;
-use crate::Content;
 use ifdb_row::{ListRows, OutOfMemory, Row, Rows, Slot};
+use ifdb_store::Content;
 use ifdb_value::{Shared, TableId, Value};
 use std::alloc::Global;
 

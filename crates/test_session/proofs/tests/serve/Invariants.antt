@@ -3,7 +3,7 @@ use Rattle.ifdb_turn.specs.Passes.{shares, BelongsTo, IsOrderly}
 use Rattle.ifdb_turn.specs.Views.{all_shares}
 use Rattle.ifdb_db.specs.Reading.{read_line}
 use Rattle.ifdb_history.specs.History.{IsRight}
-use Rattle.ifdb_session.proofs.tests.serve.Given as goal
+use Rattle.test_session.proofs.tests.serve.Given as goal
 
 -- the pass may have a turn again, and has all shares
 abbrev pub invariant-loop-link : goal.invariant-loop-link

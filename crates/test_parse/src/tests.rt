@@ -2,7 +2,7 @@
 mod limits;
 mod lines;
 
-use crate::{ParseFault, parse};
+use ifdb_parse::{ParseFault, parse};
 use ifdb_syntax::{Request, print};
 use limits::Built;
 use std::alloc::Global;

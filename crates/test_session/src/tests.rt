@@ -3,8 +3,8 @@
 ghost use Rattle.std.specs.Prelude.{◌≡◌};
 ghost use Rattle.ifdb_turn.specs.Passes.{shares};
 
-use crate::{Counts, Ending, SharedRoom, serve_link};
 use ifdb_io::{MemoryLink, MemorySink, MemorySource};
+use ifdb_session::{Counts, Ending, SharedRoom, serve_link};
 use ifdb_turn::Turnstile;
 use std::alloc::Global;
 use std::sync::Wait;

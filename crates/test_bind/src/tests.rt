@@ -4,7 +4,7 @@ mod queries;
 mod shown;
 mod writes;
 
-use crate::bind;
+use ifdb_bind::bind;
 use ifdb_bound::Bound;
 use ifdb_catalog::{Catalog, bound_changes_are_new};
 use ifdb_parse::parse;

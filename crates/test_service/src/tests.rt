@@ -2,8 +2,8 @@
 mod meeting;
 mod sites;
 
-use crate::{ServiceEnd, serve};
 use ifdb_io::{Link, MemoryDoor, MemoryLink, MemorySink, MemorySite, MemorySource};
+use ifdb_service::{ServiceEnd, serve};
 use ifdb_words::Service;
 use std::alloc::{AllocGlobal, Global};
 use std::marker::{Send, Sync};

@@ -4,8 +4,8 @@ ghost use Rattle.ifdb_label.specs.Tags.{AreMade};
 
 use super::checks::{are_given_keyed, are_rows_made};
 use super::counted::CountedRows;
-use crate::{Given, Reading, answer};
 use ifdb_bound::BoundSelect;
+use ifdb_exec::{Given, Reading, answer};
 use ifdb_expr::ExprFault;
 use ifdb_label::{Label, Tag, TagFault, TagKind, Tags};
 use ifdb_row::{Key, ListRows, OutOfMemory, Refs, Row, Slot, Values};

@@ -1,8 +1,8 @@
 //! Contents of many rows, against what was written.
 use self::walk::{value_at, walk};
 use self::writes::{one, range, thinned};
-use crate::{Content, Store};
 use ifdb_row::{OutOfMemory, Writes};
+use ifdb_store::{Content, Store};
 use std::alloc::Global;
 use std::process::Abort;
 use std::test::Fail;

@@ -6,7 +6,7 @@ use Rattle.ifdb_catalog.specs.Public.{Public}
 use Rattle.ifdb_catalog.specs.Binding.{bound}
 use Rattle.ifdb_catalog.specs.Fits.{change_fits}
 use Rattle.ifdb_catalog.proofs.BoundRequestsFit.{bound_is_fitting}
-use Rattle.ifdb_bind.proofs.tests.make.Goals as goal
+use Rattle.test_bind.proofs.tests.make.Goals as goal
 
 -- a bound change fits
 change_is_fitting : (p : Public) (asker : ℕ) (r : Request) (change : Change) → bound p asker r ≡ Ok (b.Change change) → change_fits p change ≡ true

@@ -2,8 +2,8 @@
 use super::requests::{column, equal, equals, item, select, two_items};
 use super::tables::At::{High, Low};
 use super::tables::{Answered, At, One, Question, asked, gives};
-use crate::Given;
 use ifdb_bound::{BoundCond, BoundItems, BoundSelect};
+use ifdb_exec::Given;
 use ifdb_row::OutOfMemory;
 use ifdb_value::{Sequence, TableId};
 use std::alloc::Global;
