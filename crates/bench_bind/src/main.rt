@@ -29,11 +29,18 @@ fn main(rt: HostRuntime) -> io::Result<()> {
     let Ok(catalog) = made(rt.alloc()) else {
         return println!(rt; "the catalog isn't made");
     };
+    let printed = print(&rt, &catalog, timed);
+    drop(catalog);
+    printed
+}
+
+/// Prints of each statement its times, or how it is bound.
+fn print(rt: &HostRuntime, catalog: &Catalog, timed: bool) -> io::Result<()> {
     for statement in &STATEMENTS {
         if timed {
-            time(&rt, &catalog, statement)?;
+            time(rt, catalog, statement)?;
         } else {
-            show(&rt, &catalog, statement)?;
+            show(rt, catalog, statement)?;
         }
     }
     Ok(())
@@ -69,11 +76,22 @@ impl From<OutOfMemory> for BenchFault {
 /// The catalog that the statements are bound in.
 fn made(alloc: Global) -> Result<Catalog, BenchFault> {
     let mut catalog = Catalog::opening(alloc)?;
+    match make_all(alloc, &mut catalog) {
+        Ok(()) => Ok(catalog),
+        Err(fault) => {
+            drop(catalog);
+            Err(fault)
+        }
+    }
+}
+
+/// Makes what the catalog is made of.
+fn make_all(alloc: Global, catalog: &mut Catalog) -> Result<(), BenchFault> {
     for line in &MADE {
         let request = parse(alloc, line)?;
-        make(alloc, &mut catalog, request)?;
+        make(alloc, catalog, request)?;
     }
-    Ok(catalog)
+    Ok(())
 }
 
 /// Makes the change that is asked for.
@@ -82,7 +100,10 @@ fn make(alloc: Global, catalog: &mut Catalog, request: Request) -> Result<(), Fa
     bound_changes_are_new();
     match bound {
         Bound::Change(change) => catalog.apply(change),
-        _ => Ok(()),
+        other => {
+            drop(other);
+            Ok(())
+        }
     }
 }
 
@@ -98,7 +119,9 @@ fn show(rt: &HostRuntime, catalog: &Catalog, statement: &Statement) -> io::Resul
 fn bound_form(alloc: Global, catalog: &Catalog, line: &[u8]) -> Result<&'static str, BenchFault> {
     let request = parse(alloc, line)?;
     let bound = bind(alloc, catalog, ASKER, request)?;
-    Ok(form(&bound))
+    let form = form(&bound);
+    drop(bound);
+    Ok(form)
 }
 
 /// The form of a bound request.
@@ -129,8 +152,10 @@ fn time(rt: &HostRuntime, catalog: &Catalog, statement: &Statement) -> io::Resul
 /// How many nanoseconds a request takes to be bound. Letting go of the answer isn't timed.
 fn time_one(rt: &HostRuntime, catalog: &Catalog, request: Request) -> io::Result<u64> {
     let start = Instant::now(rt);
-    let _answer = bind(rt.alloc(), catalog, ASKER, request);
-    nanoseconds_since(rt, start)
+    let answer = bind(rt.alloc(), catalog, ASKER, request);
+    let time = nanoseconds_since(rt, start);
+    drop(answer);
+    time
 }
 
 /// How many nanoseconds went by since a time, if the clock could be read then and can be now.

@@ -37,7 +37,10 @@ fn main(rt: HostRuntime) -> io::Result<()> {
 /// Prints how a line is answered.
 fn show(rt: &HostRuntime, name: &str, line: &[u8]) -> io::Result<()> {
     match parse(rt.alloc(), line) {
-        Ok(_) => println!(rt; "{name}: a request of {} bytes", line.len()),
+        Ok(request) => {
+            drop(request);
+            println!(rt; "{name}: a request of {} bytes", line.len())
+        }
         Err(fault) => println!(rt; "{name}: {fault:?}"),
     }
 }

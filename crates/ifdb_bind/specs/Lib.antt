@@ -1,3 +1,4 @@
 pub mod Listed
 pub mod ViewBody
 pub mod Written
+pub mod Made

@@ -1,12 +1,14 @@
 -- INSERT with a list of columns, said of the whole list.
-use Rattle.std.specs.Prelude.{ℕ, Bool, ◌&&◌, ◌==◌, List, map, length}
+use Rattle.std.specs.Prelude.{ℕ, Bool, ◌&&◌, ◌==◌, ◌≡◌, ◌⊎◌, false, IfErr, List, Result, map, length}
 use Rattle.std.specs.List.{list_all}
 use Rattle.ifdb_value.specs.declared.value.Value.{Value}
 use Rattle.ifdb_value.specs.declared.column.Column.{Column}
 use Rattle.ifdb_bound.specs.Expressions.{value_at}
+use Rattle.ifdb_wire.specs.declared.fault.Fault.{Fault}
+use Rattle.ifdb_wire.specs.declared.fault.Fault.TheVariants.{OutOfMemory, TypeMismatch}
 use Rattle.ifdb_catalog.specs.Scope.{kinds_of}
 use Rattle.ifdb_catalog.specs.Queries.{times}
-use Rattle.ifdb_catalog.specs.Statements.{listed_at, values_fit}
+use Rattle.ifdb_catalog.specs.Statements.{are_listed, listed_at, row_fits, values_fit}
 
 -- each column is listed exactly once
 abbrev pub each_once : List Column → List (List ℕ) → Bool
@@ -24,3 +26,19 @@ values_at row places = map (value_at row) places
 abbrev pub listed_fits : List Column → List (List ℕ) → List Value → Bool
 listed_fits columns names row =
     (length row == length names) && values_fit (kinds_of columns) (values_at row (places_in names columns))
+
+-- each column is listed exactly once, and each row fits
+abbrev pub all_listed_fit : List Column → List (List ℕ) → List (List Value) → Bool
+all_listed_fit columns names rows = each_once columns names && list_all (listed_fits columns names) rows
+
+-- each row with the values of the columns, in their order
+abbrev pub all_listed : List Column → List (List ℕ) → List (List Value) → List (List Value)
+all_listed columns names rows = map (λ row. values_at row (places_in names columns)) rows
+
+-- the rows of an INSERT fit the columns
+abbrev pub all_fit : List Column → List (List ℕ) → List (List Value) → Bool
+all_fit columns names rows = are_listed columns names && list_all (row_fits columns names) rows
+
+-- where a call is refused, memory lacks, or it isn't so that the rows fit
+abbrev pub MismatchedUnless : {A : Type 0} → Bool → Result A Fault → Type 0
+MismatchedUnless fit result = IfErr result (λ fault. (fault ≡ OutOfMemory) ⊎ ((fault ≡ TypeMismatch) × (fit ≡ false)))

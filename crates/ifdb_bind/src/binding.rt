@@ -70,7 +70,11 @@ pub fn bind(
         Request::Grant { tag, to } => grant(catalog, asker, &tag, &to),
         Request::Revoke { tag, from } => revoke(catalog, asker, &tag, &from),
         Request::SetLabel { tags } => set_label(alloc, catalog, tags.items()),
-        Request::Select(query) => select(alloc, catalog, &query),
+        Request::Select(query) => {
+            let bound = select(alloc, catalog, &query);
+            drop(query);
+            bound
+        }
         Request::Insert {
             table,
             columns,
@@ -91,17 +95,22 @@ pub fn bind(
             assignments,
             cond,
             tags,
-        } => update(
-            alloc,
-            catalog,
-            &table,
-            Changes {
+        } => {
+            let changes = Changes {
                 assignments: assignments.items(),
                 cond: &cond,
                 tags: tags.items(),
-            },
-        ),
-        Request::Delete { table, cond } => delete(alloc, catalog, &table, &cond),
+            };
+            let bound = update(alloc, catalog, &table, changes);
+            drop(assignments);
+            drop(cond);
+            bound
+        }
+        Request::Delete { table, cond } => {
+            let bound = delete(alloc, catalog, &table, &cond);
+            drop(cond);
+            bound
+        }
         Request::Hello { .. }
         | Request::ShowLabel
         | Request::Begin

@@ -1,13 +1,13 @@
 // Binding of INSERT.
-ghost use Rattle.std.specs.Prelude.{◌≡◌, ◌⊎◌, ◌&&◌, true, false, [], map, Ok, Err, IfOk, IfErr};
+ghost use Rattle.std.specs.Prelude.{◌≡◌, true, false, [], map, Ok, IfOk, IfErr};
 ghost use Rattle.std.specs.List.{list_all};
-ghost use Rattle.ifdb_wire.specs.declared.fault.Fault.TheVariants.{OutOfMemory as NoMemory, TypeMismatch};
+ghost use Rattle.ifdb_wire.specs.declared.fault.Fault.TheVariants.{TypeMismatch};
 ghost use Rattle.ifdb_wire.specs.Refused.{RefusedAs};
 ghost use Rattle.ifdb_bound.specs.Expressions.{value_at};
 ghost use Rattle.ifdb_catalog.specs.Binding.{insert};
 ghost use Rattle.ifdb_catalog.specs.Scope.{kinds_of};
-ghost use Rattle.ifdb_catalog.specs.Statements.{are_listed, arranged, is_column_of, listed_at, row_fits, values_fit};
-ghost use Rattle.ifdb_bind.specs.Listed.{each_once, listed_fits, places_in, values_at};
+ghost use Rattle.ifdb_catalog.specs.Statements.{arranged, is_column_of, listed_at, row_fits, values_fit};
+ghost use Rattle.ifdb_bind.specs.Listed.{MismatchedUnless, all_fit, all_listed, all_listed_fit, each_once, places_in, values_at};
 
 use crate::OutOfMemory;
 use crate::names::label_named;
@@ -37,8 +37,10 @@ pub(crate) fn insert(
     table: &Name,
     new: NewRows,
 ) -> Result<Bound, Fault>
-    ensures bound { IfOk result (λ b. insert catalog.now table.now new.columns new.rows new.tags ≡ Ok b) }
-    ensures refused { RefusedAs (insert catalog.now table.now new.columns new.rows new.tags) result }
+    ensures bound { IfOk result
+        (λ b. insert catalog.now table.now new.columns new.rows new.tags ≡ Ok b) }
+    ensures refused { RefusedAs
+        (insert catalog.now table.now new.columns new.rows new.tags) result }
 {
     let NewRows {
         columns,
@@ -76,10 +78,9 @@ fn arranged_rows(
     names: &[Name],
     rows: ValueRows,
 ) -> Result<ValueRows, Fault>
-    ensures fit { IfOk result (λ _. are_listed columns.now names.now && list_all (row_fits columns.now names.now) rows ≡ true) }
-    ensures rows { IfOk result (λ arranged_rows. arranged_rows ≡ map (arranged columns.now names.now) rows) }
-    ensures refused { IfErr result (λ fault. (fault ≡ NoMemory)
-        ⊎ ((fault ≡ TypeMismatch) × (are_listed columns.now names.now && list_all (row_fits columns.now names.now) rows ≡ false))) }
+    ensures fit { IfOk result (λ _. all_fit columns.now names.now rows ≡ true) }
+    ensures rows { IfOk result (λ all. all ≡ map (arranged columns.now names.now) rows) }
+    ensures refused { MismatchedUnless (all_fit columns.now names.now rows) result }
 {
     if names.is_empty() {
         whole_rows(columns, rows)
@@ -92,7 +93,8 @@ fn arranged_rows(
 fn whole_rows(columns: &[Column], rows: ValueRows) -> Result<ValueRows, Fault>
     ensures fit { IfOk result (λ _. list_all (row_fits columns.now []) rows ≡ true) }
     ensures rows { IfOk result (λ same. same ≡ rows) }
-    ensures refused { IfErr result (λ fault. (fault ≡ TypeMismatch) × (list_all (row_fits columns.now []) rows ≡ false)) }
+    ensures mismatch { IfErr result (λ fault. fault ≡ TypeMismatch) }
+    ensures refused { IfErr result (λ _. list_all (row_fits columns.now []) rows ≡ false) }
 {
     for row in rows.items() {
         if row.len() != columns.len() || !values_fit(columns, row.items()) {
@@ -109,10 +111,9 @@ fn listed_rows(
     names: &[Name],
     rows: &[ValueRow],
 ) -> Result<ValueRows, Fault>
-    ensures fit { IfOk result (λ _. each_once columns.now names.now && list_all (listed_fits columns.now names.now) rows.now ≡ true) }
-    ensures rows { IfOk result (λ arranged. arranged ≡ map (λ row. values_at row (places_in names.now columns.now)) rows.now) }
-    ensures refused { IfErr result (λ fault. (fault ≡ NoMemory)
-        ⊎ ((fault ≡ TypeMismatch) × (each_once columns.now names.now && list_all (listed_fits columns.now names.now) rows.now ≡ false))) }
+    ensures fit { IfOk result (λ _. all_listed_fit columns.now names.now rows.now ≡ true) }
+    ensures rows { IfOk result (λ arranged. arranged ≡ all_listed columns.now names.now rows.now) }
+    ensures refused { MismatchedUnless (all_listed_fit columns.now names.now rows.now) result }
 {
     if !each_once(columns, names) {
         return Err(Fault::TypeMismatch);

@@ -52,8 +52,10 @@ pub(crate) fn create_tag(
     asker: Principal,
     tag: NewTag,
 ) -> Result<Bound, Fault>
-    ensures bound { IfOk result (λ b. create_tag catalog.now asker tag.name tag.compound tag.parents ≡ Ok b) }
-    ensures refused { RefusedAs (create_tag catalog.now asker tag.name tag.compound tag.parents) result }
+    ensures bound { IfOk result
+        (λ b. create_tag catalog.now asker tag.name tag.compound tag.parents ≡ Ok b) }
+    ensures refused { RefusedAs
+        (create_tag catalog.now asker tag.name tag.compound tag.parents) result }
 {
     let NewTag {
         name,

@@ -1,15 +1,14 @@
 // Binding of CREATE TABLE.
-ghost use Rattle.std.specs.Prelude.{◌≡◌, ◌⊎◌, true, false, map, slice_get, Ok, Err, IfOk, IfErr};
+ghost use Rattle.std.specs.Prelude.{◌≡◌, ◌⊎◌, true, false, map, Ok, Err, IfOk, IfErr};
 ghost use Rattle.std.specs.Option.{ok_or};
 ghost use Rattle.std.specs.List.{list_all, list_any};
 ghost use Rattle.ifdb_wire.specs.declared.fault.Fault.TheVariants.{NotATable, UnknownName};
 ghost use Rattle.ifdb_wire.specs.Refused.{RefusedAs};
-ghost use Rattle.ifdb_catalog.specs.Public.{table_at};
-ghost use Rattle.ifdb_catalog.specs.Binding.{create_table};
 ghost use Rattle.ifdb_catalog.specs.Definitions.{bound_foreign, foreign_fits, is_known_foreign, names_twice, refers_to_view, same_kinds};
 ghost use Rattle.ifdb_catalog.specs.Statements.{is_column_of, place_at, place_named, table_number};
 ghost use Rattle.ifdb_catalog.specs.Queries.{is_view, is_relation};
 ghost use Rattle.ifdb_select.specs.Lacks.{Lacks, RefusedUnless};
+ghost use Rattle.ifdb_bind.specs.Made.{table_made, table_of};
 
 use ifdb_bound::{Bound, Change, Foreign, Foreigns, Places, Relation, Schema};
 use ifdb_catalog::Catalog;
@@ -32,34 +31,28 @@ pub(crate) struct NewTable {
     pub(crate) foreign: ForeignKeys,
 }
 
+/// The keys of a table, with places for its columns and numbers for its parents.
+#[derive(Drop)]
+pub(crate) struct TableKeys {
+    /// The places of its primary key's columns.
+    key: Places,
+    /// Its foreign keys.
+    foreign: Foreigns,
+}
+
 /// CREATE TABLE.
-#[tactic(auto, unfolding(ifdb_catalog::specs::Check::judged))]
 pub(crate) fn create_table(
     alloc: Global,
     catalog: &Catalog,
     asker: Principal,
     table: NewTable,
 ) -> Result<Bound, Fault>
-    ensures bound { IfOk result (λ b. create_table catalog.now asker table.name table.columns table.key table.foreign ≡ Ok b) }
-    ensures refused { RefusedAs (create_table catalog.now asker table.name table.columns table.key table.foreign) result }
+    ensures bound { IfOk result (λ b. table_made catalog.now asker table ≡ Ok b) }
+    ensures refused { RefusedAs (table_made catalog.now asker table) result }
 {
-    let NewTable {
-        name,
-        columns,
-        key,
-        foreign,
-    } = table;
-    if catalog.relation(&name).is_some() || names_twice(columns.items(), key.items()) {
-        return Err(Fault::Taken);
-    }
-    let key = column_places(alloc, columns.items(), key.items())?;
-    if !are_known(catalog, columns.items(), foreign.items()) {
-        return Err(Fault::UnknownName);
-    }
-    let foreign = foreign_keys(alloc, catalog, columns.items(), foreign.items())?;
-    if !foreign_keys_fit(catalog, columns.items(), foreign.items()) {
-        return Err(Fault::TypeMismatch);
-    }
+    let keys = table_keys(alloc, catalog, asker, &table);
+    let NewTable { name, columns, .. } = table;
+    let TableKeys { key, foreign } = keys?;
     Ok(Bound::Change(Change::Table {
         asker,
         schema: Schema {
@@ -69,6 +62,33 @@ pub(crate) fn create_table(
             foreign,
         },
     }))
+}
+
+/// The keys of a table that is to be made.
+#[tactic(auto, unfolding(ifdb_catalog::specs::Check::judged))]
+fn table_keys(
+    alloc: Global,
+    catalog: &Catalog,
+    _asker: Principal,
+    table: &NewTable,
+) -> Result<TableKeys, Fault>
+    ensures bound { IfOk result
+        (λ keys. table_made catalog.now _asker table.now ≡ Ok (table_of _asker table.now keys)) }
+    ensures refused { RefusedAs (table_made catalog.now _asker table.now) result }
+{
+    let columns = table.columns.items();
+    if catalog.relation(&table.name).is_some() || names_twice(columns, table.key.items()) {
+        return Err(Fault::Taken);
+    }
+    let key = column_places(alloc, columns, table.key.items())?;
+    if !are_known(catalog, columns, table.foreign.items()) {
+        return Err(Fault::UnknownName);
+    }
+    let foreign = foreign_keys(alloc, catalog, columns, table.foreign.items())?;
+    if !foreign_keys_fit(catalog, columns, foreign.items()) {
+        return Err(Fault::TypeMismatch);
+    }
+    Ok(TableKeys { key, foreign })
 }
 
 /// Whether two columns have one name, or a key names a column twice.
@@ -148,7 +168,8 @@ fn foreign_keys(
     foreign: &[ForeignKey],
 ) -> Result<Foreigns, Fault>
     ensures tables { IfOk result (λ _. list_any (refers_to_view catalog.now) foreign.now ≡ false) }
-    ensures keys { IfOk result (λ keys. keys ≡ map (bound_foreign catalog.now columns.now) foreign.now) }
+    ensures keys { IfOk result
+        (λ keys. keys ≡ map (bound_foreign catalog.now columns.now) foreign.now) }
     ensures refused { IfErr result
         (λ fault. Lacks fault (list_all (is_known_foreign catalog.now columns.now) foreign.now)
         ⊎ ((fault ≡ NotATable) × (list_any (refers_to_view catalog.now) foreign.now ≡ true))) }

@@ -4,10 +4,10 @@ ghost use Rattle.std.specs.Option.{IfSome, is_some};
 ghost use Rattle.std.specs.List.{list_all, list_any};
 ghost use Rattle.ifdb_syntax.specs.declared.select.Source.{Source};
 ghost use Rattle.ifdb_wire.specs.Refused.{RefusedAs};
-ghost use Rattle.ifdb_catalog.specs.Binding.{create_view};
 ghost use Rattle.ifdb_catalog.specs.Definitions.{given, is_given, names_fit};
 ghost use Rattle.ifdb_catalog.specs.Queries.{is_relation, is_view, output};
 ghost use Rattle.ifdb_catalog.specs.Scope.{scope_of};
+ghost use Rattle.ifdb_bind.specs.Made.{view_made};
 ghost use Rattle.ifdb_bind.specs.ViewBody.{view_of};
 
 use crate::OutOfMemory;
@@ -52,18 +52,21 @@ pub(crate) fn create_view(
     asker: Principal,
     view: NewView,
 ) -> Result<Bound, Fault>
-    ensures bound { IfOk result (λ b. create_view catalog.now asker view.name view.select view.tags ≡ Ok b) }
-    ensures refused { RefusedAs (create_view catalog.now asker view.name view.select view.tags) result }
+    ensures bound { IfOk result (λ b. view_made catalog.now asker view ≡ Ok b) }
+    ensures refused { RefusedAs (view_made catalog.now asker view) result }
 {
     if catalog.relation(&view.name).is_some() {
+        drop(view);
         return Err(Fault::Taken);
     }
+    let body = view_body(alloc, catalog, asker, &view);
+    let NewView { name, select, .. } = view;
+    drop(select);
     let ViewBody {
         select,
         names,
         declassifying,
-    } = view_body(alloc, catalog, asker, &view)?;
-    let NewView { name, .. } = view;
+    } = body?;
     Ok(Bound::Change(Change::View {
         view: ViewDef {
             name,
@@ -84,8 +87,8 @@ fn view_body(
 ) -> Result<ViewBody, Fault>
     requires { is_relation catalog.now view.now.name ≡ false }
     ensures bound { IfOk result
-        (λ body. create_view catalog.now _asker view.now.name view.now.select view.now.tags ≡ Ok (view_of _asker view.now.name body)) }
-    ensures refused { RefusedAs (create_view catalog.now _asker view.now.name view.now.select view.now.tags) result }
+        (λ body. view_made catalog.now _asker view.now ≡ Ok (view_of _asker view.now.name body)) }
+    ensures refused { RefusedAs (view_made catalog.now _asker view.now) result }
 {
     let scope = scope_of(alloc, catalog, view.select.sources.items())?;
     body_over(alloc, catalog, scope.items(), _asker, view)
@@ -102,27 +105,29 @@ fn body_over(
     requires new { is_relation catalog.now view.now.name ≡ false }
     requires scope { scope.now ≡ scope_of catalog.now view.now.select.sources }
     ensures bound { IfOk result
-        (λ body. create_view catalog.now _asker view.now.name view.now.select view.now.tags ≡ Ok (view_of _asker view.now.name body)) }
-    ensures refused { RefusedAs (create_view catalog.now _asker view.now.name view.now.select view.now.tags) result }
+        (λ body. view_made catalog.now _asker view.now ≡ Ok (view_of _asker view.now.name body)) }
+    ensures refused { RefusedAs (view_made catalog.now _asker view.now) result }
 {
-    let select = bound_select(alloc, catalog, scope, &view.select)?;
     let declassifying = label_named(alloc, catalog, view.tags.items())?;
+    let names = view_names(alloc, scope, &view.select)?;
+    let select = bound_select(alloc, catalog, scope, &view.select)?;
     if is_from_view(catalog, view.select.sources.items()) {
+        drop(select);
         return Err(Fault::NotATable);
     }
-    let names = match view_names(alloc, scope, &view.select)? {
-        Some(names) => names,
-        None => return Err(Fault::TypeMismatch),
+    let Some(names) = names else {
+        drop(select);
+        return Err(Fault::TypeMismatch);
     };
-    if select_fits(catalog, scope, &view.select, &select) {
-        Ok(ViewBody {
-            select,
-            names,
-            declassifying,
-        })
-    } else {
-        Err(Fault::TypeMismatch)
+    if !select_fits(catalog, scope, &view.select, &select) {
+        drop(select);
+        return Err(Fault::TypeMismatch);
     }
+    Ok(ViewBody {
+        select,
+        names,
+        declassifying,
+    })
 }
 
 /// Whether a view stands behind FROM.
@@ -157,7 +162,8 @@ fn view_names(
     query: &Select,
 ) -> Result<Option<Names>, OutOfMemory>
     ensures fit { IfOk result (λ names. is_some names ≡ names_fit (output scope.now query.now)) }
-    ensures names { IfOk result (λ found. IfSome found (λ names. names ≡ given (output scope.now query.now))) }
+    ensures names { IfOk result
+        (λ found. IfSome found (λ names. names ≡ given (output scope.now query.now))) }
 {
     let outputs = output_names(alloc, scope, query.items.items())?;
     distinct_names(alloc, outputs.items())

@@ -1,18 +1,17 @@
 // Binding of UPDATE and DELETE.
-ghost use Rattle.std.specs.Prelude.{◌≡◌, ◌⊎◌, ◌&&◌, ◌∷◌, [], true, map, Ok, Err, IfOk, IfErr};
+ghost use Rattle.std.specs.Prelude.{◌≡◌, ◌&&◌, ◌∷◌, [], true, map, Ok, Err, IfOk};
 ghost use Rattle.std.specs.List.{list_all, list_any};
 ghost use Rattle.ifdb_syntax.specs.declared.request.Assignment.{Assignment};
 ghost use Rattle.ifdb_bound.specs.Kinds.{where_fits};
-ghost use Rattle.ifdb_wire.specs.declared.fault.Fault.TheVariants.{OutOfMemory as NoMemory};
 ghost use Rattle.ifdb_wire.specs.Refused.{RefusedAs};
-ghost use Rattle.ifdb_catalog.specs.Binding.{delete, update};
+ghost use Rattle.ifdb_catalog.specs.Binding.{delete};
 ghost use Rattle.ifdb_catalog.specs.Queries.{are_distinct};
 ghost use Rattle.ifdb_catalog.specs.Public.{table_at};
 ghost use Rattle.ifdb_catalog.specs.Scope.{kinds_in};
-ghost use Rattle.ifdb_catalog.specs.Statements.{assignment_fits, bound_assignment, is_known_assignment, label_named};
+ghost use Rattle.ifdb_catalog.specs.Statements.{assignment_fits, bound_assignment, label_named};
 ghost use Rattle.ifdb_catalog.specs.Terms.{bound_where};
 ghost use Rattle.ifdb_select.specs.Lacks.{RefusedUnless};
-ghost use Rattle.ifdb_bind.specs.Written.{are_known, is_of_key};
+ghost use Rattle.ifdb_bind.specs.Written.{all_assigned, are_known, are_known_in, assigned, is_given_its_kind, is_known_in, is_of_key, updated_by};
 
 use crate::names::label_named;
 use ifdb_bound::{Bound, BoundAssignment, BoundAssignments, BoundCond, Relation};
@@ -43,9 +42,11 @@ pub(crate) fn delete<'a>(
     let target = source(alloc, catalog, table, relation)?;
     let cond = bound_where(alloc, from_ref(&target), cond)?;
     let Relation::Table(table) = &relation else {
+        drop(cond);
         return Err(Fault::NotATable);
     };
     if !where_fits(from_ref(&target), &cond) {
+        drop(cond);
         return Err(Fault::TypeMismatch);
     }
     Ok(Bound::Delete {
@@ -81,21 +82,22 @@ pub(crate) fn update<'a>(
     table: &'a Name,
     changes: Changes<'_>,
 ) -> Result<Bound, Fault>
-    ensures bound { IfOk result
-        (λ b. update catalog.now table.now changes.entry.assignments.now changes.entry.cond.now changes.entry.tags.now ≡ Ok b) }
-    ensures refused { IfErr result
-        (λ fault. (fault ≡ NoMemory) ⊎ (update catalog.now table.now changes.entry.assignments.now changes.entry.cond.now changes.entry.tags.now ≡ Err fault)) }
+    ensures bound { IfOk result (λ b. updated_by catalog.now table.now changes.entry ≡ Ok b) }
+    ensures refused { RefusedAs (updated_by catalog.now table.now changes.entry) result }
 {
     let relation = relation_named(catalog, table)?;
     let target = source(alloc, catalog, table, relation)?;
     let known = known_changes(alloc, catalog, &target, changes)?;
     let Relation::Table(table) = &relation else {
+        drop(known);
         return Err(Fault::NotATable);
     };
     if writes_key(catalog, *table, known.assignments.items()) {
+        drop(known);
         return Err(Fault::KeyColumn);
     }
     if !fits(&target, changes.assignments, &known) {
+        drop(known);
         return Err(Fault::TypeMismatch);
     }
     let KnownChanges {
@@ -118,13 +120,14 @@ fn known_changes(
     target: &ScopeSource<'_>,
     changes: Changes<'_>,
 ) -> Result<KnownChanges, Fault>
-    ensures known { IfOk result (λ _.
-        are_known catalog.now target.now changes.entry.assignments.now changes.entry.cond.now changes.entry.tags.now ≡ true) }
-    ensures assignments { IfOk result
-        (λ known. known.assignments ≡ map (bound_assignment target.now.columns (target.now ∷ [])) changes.entry.assignments.now) }
-    ensures cond { IfOk result (λ known. known.cond ≡ bound_where (target.now ∷ []) changes.entry.cond.now) }
-    ensures given { IfOk result (λ known. known.given ≡ label_named catalog.now changes.entry.tags.now) }
-    ensures lacks { RefusedUnless (are_known catalog.now target.now changes.entry.assignments.now changes.entry.cond.now changes.entry.tags.now) result }
+    ensures known { IfOk result (λ _. are_known catalog.now target.now changes.entry ≡ true) }
+    ensures assignments { IfOk result (λ known. known.assignments
+        ≡ map (bound_assignment target.now.columns (target.now ∷ [])) changes.entry.assignments.now) }
+    ensures cond { IfOk result
+        (λ known. known.cond ≡ bound_where (target.now ∷ []) changes.entry.cond.now) }
+    ensures given { IfOk result
+        (λ known. known.given ≡ label_named catalog.now changes.entry.tags.now) }
+    ensures lacks { RefusedUnless (are_known catalog.now target.now changes.entry) result }
 {
     let assignments = bound_assignments(alloc, target, changes.assignments)?;
     let cond = bound_where(alloc, from_ref(target), changes.cond)?;
@@ -142,9 +145,9 @@ fn bound_assignments(
     target: &ScopeSource<'_>,
     assignments: &[Assignment],
 ) -> Result<BoundAssignments, Fault>
-    ensures known { IfOk result (λ _. list_all (is_known_assignment target.now.columns (target.now ∷ [])) assignments.now ≡ true) }
-    ensures trees { IfOk result (λ trees. trees ≡ map (bound_assignment target.now.columns (target.now ∷ [])) assignments.now) }
-    ensures lacks { RefusedUnless (list_all (is_known_assignment target.now.columns (target.now ∷ [])) assignments.now) result }
+    ensures known { IfOk result (λ _. are_known_in target.now assignments.now ≡ true) }
+    ensures trees { IfOk result (λ trees. trees ≡ all_assigned target.now assignments.now) }
+    ensures lacks { RefusedUnless (are_known_in target.now assignments.now) result }
 {
     let mut trees = BoundAssignments::new(alloc);
     for assignment in assignments {
@@ -159,9 +162,9 @@ fn bound_assignment(
     target: &ScopeSource<'_>,
     assignment: &Assignment,
 ) -> Result<BoundAssignment, Fault>
-    ensures known { IfOk result (λ _. is_known_assignment target.now.columns (target.now ∷ []) assignment.now ≡ true) }
-    ensures tree { IfOk result (λ tree. tree ≡ bound_assignment target.now.columns (target.now ∷ []) assignment.now) }
-    ensures lacks { RefusedUnless (is_known_assignment target.now.columns (target.now ∷ []) assignment.now) result }
+    ensures known { IfOk result (λ _. is_known_in target.now assignment.now ≡ true) }
+    ensures tree { IfOk result (λ tree. tree ≡ assigned target.now assignment.now) }
+    ensures lacks { RefusedUnless (is_known_in target.now assignment.now) result }
 {
     let Some(column) = target.place(&assignment.column) else {
         return Err(Fault::UnknownName);
@@ -193,7 +196,8 @@ fn is_of_key(key: &[usize], assignment: &BoundAssignment) -> bool
 /// Whether no column is written twice, each is given its kind, and the condition fits.
 fn fits(target: &ScopeSource<'_>, assignments: &[Assignment], known: &KnownChanges) -> bool
     ensures { result ≡ (are_distinct (map (λ (a : Assignment). a.column) assignments.now)
-        && list_all (assignment_fits target.now.columns (kinds_in (target.now ∷ []))) known.now.assignments)
+        && list_all (assignment_fits target.now.columns (kinds_in (target.now ∷ [])))
+        known.now.assignments)
         && where_fits (kinds_in (target.now ∷ [])) known.now.cond }
 {
     are_distinct(assignments)
@@ -203,7 +207,7 @@ fn fits(target: &ScopeSource<'_>, assignments: &[Assignment], known: &KnownChang
 
 /// Whether each column that is written is given its kind.
 fn have_kinds(target: &ScopeSource<'_>, trees: &[BoundAssignment]) -> bool
-    ensures { result ≡ list_all (assignment_fits target.now.columns (kinds_in (target.now ∷ []))) trees.now }
+    ensures { result ≡ list_all (is_given_its_kind target.now) trees.now }
 {
     for tree in trees {
         if !assignment_fits(target, tree) {
@@ -215,7 +219,7 @@ fn have_kinds(target: &ScopeSource<'_>, trees: &[BoundAssignment]) -> bool
 
 /// Whether a column that is written is given its kind.
 fn assignment_fits(target: &ScopeSource<'_>, tree: &BoundAssignment) -> bool
-    ensures { result ≡ assignment_fits target.now.columns (kinds_in (target.now ∷ [])) tree.now }
+    ensures { result ≡ is_given_its_kind target.now tree.now }
 {
     agree(
         target.kind(tree.column),

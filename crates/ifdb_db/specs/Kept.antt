@@ -7,7 +7,7 @@ use Rattle.ifdb_row.specs.declared.write.Write.{Write}
 use Rattle.ifdb_row.specs.Content.{after}
 use Rattle.ifdb_row.specs.Writes.{are_rising, are_fitting}
 use Rattle.ifdb_store.specs.Kept.{is_later}
-use Rattle.ifdb_store.specs.Later.{are_writes_made}
+use Rattle.ifdb_store.specs.Later.{are_commits_made}
 use Rattle.ifdb_catalog.specs.Public.{Public}
 use Rattle.ifdb_snapshot.specs.Sound.{is_sound}
 use Rattle.ifdb_snapshot.specs.Writing.{is_fit, are_fit}
@@ -24,7 +24,7 @@ are_ordered (b ∷ begins) count = nat_le b count && list_all (nat_le b) begins 
 pub record IsSound (d : Desk) : Type 0 where
   pub order : IsTrue (are_ordered d.begins d.count)
   pub seen : IsTrue (is_sound d.seen)
-  pub made : IsTrue (list_all (λ c. are_writes_made (length d.seen.public.tags) c.writes) d.commits)
+  pub made : IsTrue (are_commits_made (length d.seen.public.tags) d.commits)
   pub later : IsTrue (list_all (is_later (oldest d)) d.commits)
 
 -- what fitted the first public state fits the second, which has no fewer tags

@@ -57,5 +57,7 @@ pub(crate) fn select(
     ensures { IsSaid seen.now asker label.now label.now request result }
 {
     let found = seen.bind(asker, request)?;
-    seen.look(label, &found)
+    let answer = seen.look(label, &found);
+    drop(found);
+    answer
 }

@@ -240,6 +240,7 @@ impl Room {
         ensures { IsAskedIn n line.entry self.old self.new result }
     {
         if !self.is_open(n) {
+            drop(line);
             return Err(Fault::NoSession);
         }
         self.answer_open(n, line)

@@ -10,9 +10,9 @@ use Rattle.ifdb_select.specs.Lacks.{Lacks}
 pub lacks_first : (f : Fault) (a b : Bool) → Lacks f a → Lacks f (a && b)
 lacks_first f a b h = grind (arith, nat_tests)
 
-pub lacks_second : (f : Fault) (a b : Bool) → a ≡ true → Lacks f b → Lacks f (a && b)
-lacks_second f true b h k = k
-lacks_second f false b h k = grind (arith)
+pub lacks_second : (f : Fault) (a b : Bool) → Lacks f b → Lacks f (a && b)
+lacks_second f true b h = h
+lacks_second f false b h = grind (arith)
 
 -- a test fails where its second part does
 pub second_fails : (a b : Bool) → b ≡ false → a && b ≡ false

@@ -13,8 +13,10 @@ impl<'a> Snapshot<'a> {
     #[tactic(auto, using(crate::proofs::Greeting::greeted_known, crate::proofs::Greeting::greeted_bad, crate::proofs::Greeting::greeted_none))]
     pub fn greeted(&self, name: &Name, key: &Word) -> Result<Principal, Fault>
         ensures known { IfOk result (λ n. (s : Session)
-            → hello self.now.public s name.now key.now ≡ tells (record s { principal = Some n }) Done) }
-        ensures refused { IfErr result (λ fault. (s : Session) → hello self.now.public s name.now key.now ≡ refuses s fault) }
+            → hello self.now.public s name.now key.now
+            ≡ tells (record s { principal = Some n }) Done) }
+        ensures refused { IfErr result
+            (λ fault. (s : Session) → hello self.now.public s name.now key.now ≡ refuses s fault) }
     {
         let catalog = self.public.catalog();
         let Some(principal) = catalog.principal(name) else {

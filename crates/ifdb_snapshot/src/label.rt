@@ -35,7 +35,8 @@ impl<'a> Snapshot<'a> {
             → set_label self.now.public asker s (Ok found) ≡ tells (with_label s label) Done) }
         ensures made { IfOk result (λ label. IfSome label (AreMade (length self.now.public.tags))) }
         ensures refused { IfErr result (λ fault. (fault ≡ NoMemory)
-            ⊎ ((s : Session) → s.label ≡ old.now → set_label self.now.public asker s (Ok found) ≡ refuses s fault)) }
+            ⊎ ((s : Session) → s.label ≡ old.now
+            → set_label self.now.public asker s (Ok found) ≡ refuses s fault)) }
     {
         match found {
             Bound::SetLabel { label } => self.label_held(asker, old, label),
@@ -57,7 +58,8 @@ impl<'a> Snapshot<'a> {
             → relabelled self.now.public asker s label ≡ tells (with_label s new) Done) }
         ensures made { IfOk result (λ new. IfSome new (AreMade (length self.now.public.tags))) }
         ensures refused { IfErr result (λ fault. (fault ≡ NoMemory)
-            ⊎ ((s : Session) → s.label ≡ old.now → relabelled self.now.public asker s label ≡ refuses s fault)) }
+            ⊎ ((s : Session) → s.label ≡ old.now
+            → relabelled self.now.public asker s label ≡ refuses s fault)) }
     {
         if !self.may_give_up(asker, old, &label)? {
             return Err(Fault::NoAuthority);
@@ -79,7 +81,8 @@ impl<'a> Snapshot<'a> {
 
     /// The reply to SHOW LABEL: the names of the tags of a label.
     pub fn label_shown(&self, label: &Label) -> Result<Reply, OutOfMemory>
-        ensures { IfOk result (λ reply. reply ≡ ShowsLabel (label_names (tag_names self.now.public) label.now)) }
+        ensures { IfOk result
+            (λ reply. reply ≡ ShowsLabel (label_names (tag_names self.now.public) label.now)) }
     {
         let names = label_names(self.alloc, self.public.catalog(), label.tags())?;
         Ok(Reply::Label(names))
@@ -98,7 +101,8 @@ fn label_names(alloc: Global, catalog: &Catalog, tags: &[Tag]) -> Result<Word, O
 /// Adds the names of tags, joined by commas.
 #[tactic(auto, using(crate::proofs::Naming::first_and_others))]
 fn add_names(text: &mut String, catalog: &Catalog, tags: &[Tag]) -> Result<(), OutOfMemory>
-    ensures { OnOk result (string_bytes text.new ≡ string_bytes text.old ++ label_names (tag_names catalog.now) tags.now) }
+    ensures { OnOk result (string_bytes text.new
+        ≡ string_bytes text.old ++ label_names (tag_names catalog.now) tags.now) }
 {
     match tags {
         [] => Ok(()),

@@ -1,5 +1,5 @@
 // The public state.
-ghost use Rattle.std.specs.Prelude.{◌≡◌, [], None, Some, IfOk, IsTrue, OnErr, OnOk, length};
+ghost use Rattle.std.specs.Prelude.{◌≡◌, None, Some, IfOk, IsTrue, OnErr, OnOk, length};
 ghost use Rattle.ifdb_wire.specs.Refused.{RefusedFor};
 ghost use Rattle.ifdb_catalog.specs.Public.{changed, opening as first_public, refusal, tag_names};
 ghost use Rattle.ifdb_catalog.specs.Fits.{change_fits, is_new};
@@ -92,8 +92,14 @@ impl PublicState {
         ensures refused { RefusedFor (refusal self.old change) result }
         ensures err { OnErr result (self.new ≡ self.old) }
     {
-        let name = new_tag(self.alloc, &change)?;
-        self.names.reserve(1)?;
+        let Ok(name) = new_tag(self.alloc, &change) else {
+            drop(change);
+            return Err(Fault::OutOfMemory);
+        };
+        if self.names.reserve(1).is_err() {
+            drop(change);
+            return Err(Fault::OutOfMemory);
+        }
         self.catalog.apply(change)?;
         if let Some(name) = name {
             self.names.push_reserved(name);

@@ -75,10 +75,16 @@ impl SharedState {
         ensures refused { RefusedFor (refusal self.old change) result }
         ensures err { OnErr result (self.new ≡ self.old) }
     {
-        self.hold_alone()?;
+        if self.hold_alone().is_err() {
+            drop(change);
+            return Err(Fault::OutOfMemory);
+        }
         match Arc::get_mut(&mut self.inner) {
             Some(public) => public.apply(change),
-            None => Err(Fault::OutOfMemory),
+            None => {
+                drop(change);
+                Err(Fault::OutOfMemory)
+            }
         }
     }
 

@@ -21,7 +21,8 @@ impl<'a> Snapshot<'a> {
     pub fn written(&self, asker: Principal, label: &Label, found: &Bound) -> Result<Written, Fault>
         requires fits { IsTrue (bound_fits self.now.public found.now) }
         requires made { AreMade (length self.now.public.tags) label.now }
-        ensures written { Gives (writes_of self.now.public asker self.now.rows label.now found.now) result }
+        ensures written { Gives
+            (writes_of self.now.public asker self.now.rows label.now found.now) result }
         ensures fit { IfOk result (λ written. IsTrue (are_fit self.now.public written.writes)) }
     {
         let writer = Writer {

@@ -43,8 +43,13 @@ type Row = (&'static [u8], &'static str);
 /// The catalog that the requests are bound in.
 fn catalog(alloc: Global) -> Result<Catalog, Fail> {
     let mut catalog = Catalog::opening(alloc)?;
-    make_all(alloc, &mut catalog)?;
-    Ok(catalog)
+    match make_all(alloc, &mut catalog) {
+        Ok(()) => Ok(catalog),
+        Err(fail) => {
+            drop(catalog);
+            Err(fail)
+        }
+    }
 }
 
 /// Makes what the catalog is made of.
@@ -67,7 +72,10 @@ fn make(
     bound_changes_are_new();
     match bound {
         Bound::Change(change) => catalog.apply(change),
-        _ => Ok(()),
+        other => {
+            drop(other);
+            Ok(())
+        }
     }
 }
 
@@ -75,7 +83,9 @@ fn make(
 fn bound_text(alloc: Global, catalog: &Catalog, line: &[u8]) -> Result<String, Fail> {
     let request = parse(alloc, line)?;
     let answer = bind(alloc, catalog, ASKER, request);
-    Ok(shown(alloc, &answer)?)
+    let text = shown(alloc, &answer);
+    drop(answer);
+    Ok(text?)
 }
 
 /// Checks that each line of some tables is bound to its tree, or meets its refusal first.
@@ -94,54 +104,78 @@ fn are_bound(
     Ok(())
 }
 
+/// Checks the same in a catalog, which is over then.
+fn are_bound_in(
+    rt: &impl Abort,
+    alloc: Global,
+    catalog: Catalog,
+    tables: &[&[Row]],
+) -> Result<(), Fail> {
+    let checked = are_bound(rt, alloc, &catalog, tables);
+    drop(catalog);
+    checked
+}
+
 #[test]
 fn changes_are_bound(rt: HostRuntime) -> Result<(), Fail> {
-    let catalog = catalog(rt.alloc())?;
     let tables: [&[Row]; 3] = [&changes::NAMES, &changes::TABLES, &changes::VIEWS];
-    are_bound(&rt, rt.alloc(), &catalog, &tables)
+    are_bound_in(&rt, rt.alloc(), catalog(rt.alloc())?, &tables)
 }
 
 #[test]
 fn queries_are_bound(rt: HostRuntime) -> Result<(), Fail> {
-    let catalog = catalog(rt.alloc())?;
     let tables: [&[Row]; 3] = [&queries::TREES, &queries::NAMES, &queries::FORMS];
-    are_bound(&rt, rt.alloc(), &catalog, &tables)
+    are_bound_in(&rt, rt.alloc(), catalog(rt.alloc())?, &tables)
 }
 
 #[test]
 fn writes_are_bound(rt: HostRuntime) -> Result<(), Fail> {
-    let catalog = catalog(rt.alloc())?;
     let tables: [&[Row]; 3] = [&writes::INSERTS, &writes::UPDATES, &writes::DELETES];
-    are_bound(&rt, rt.alloc(), &catalog, &tables)
+    are_bound_in(&rt, rt.alloc(), catalog(rt.alloc())?, &tables)
 }
 
 /// In a copy of the catalog names stand for the same.
 #[test]
 fn a_copy_binds_alike(rt: HostRuntime) -> Result<(), Fail> {
-    let copy = copied(rt.alloc())?;
     let tables: [&[Row]; 3] = [&queries::TREES, &changes::VIEWS, &writes::INSERTS];
-    are_bound(&rt, rt.alloc(), &copy, &tables)
+    are_bound_in(&rt, rt.alloc(), copied(rt.alloc())?, &tables)
 }
 
 /// A copy of the catalog.
 fn copied(alloc: Global) -> Result<Catalog, Fail> {
     let catalog = catalog(alloc)?;
-    Ok(catalog.copy()?)
+    let copy = catalog.copy();
+    drop(catalog);
+    Ok(copy?)
 }
 
 /// Changes that are made of a copy are there in it alone.
 #[test]
 fn changes_are_made(rt: HostRuntime) -> Result<(), Fail> {
     let catalog = catalog(rt.alloc())?;
-    change_a_copy(&rt, rt.alloc(), &catalog)?;
-    are_bound(&rt, rt.alloc(), &catalog, &[&changes::EARLIER])
+    let checked = are_made_in_a_copy(&rt, rt.alloc(), &catalog);
+    drop(catalog);
+    checked
+}
+
+/// Changes a copy, and checks what names stand for in the catalog then.
+fn are_made_in_a_copy(rt: &impl Abort, alloc: Global, catalog: &Catalog) -> Result<(), Fail> {
+    change_a_copy(rt, alloc, catalog)?;
+    are_bound(rt, alloc, catalog, &[&changes::EARLIER])
 }
 
 /// Changes a copy, and checks what names stand for in it then.
 fn change_a_copy(rt: &impl Abort, alloc: Global, catalog: &Catalog) -> Result<(), Fail> {
     let mut copy = catalog.copy()?;
-    are_made(rt, alloc, &mut copy)?;
-    are_bound(rt, alloc, &copy, &[&changes::LATER])
+    let checked = change(rt, alloc, &mut copy);
+    drop(copy);
+    checked
+}
+
+/// Changes a catalog, and checks what names stand for in it then.
+fn change(rt: &impl Abort, alloc: Global, catalog: &mut Catalog) -> Result<(), Fail> {
+    are_made(rt, alloc, catalog)?;
+    are_bound(rt, alloc, catalog, &[&changes::LATER])
 }
 
 /// Checks that each change is made, or meets its refusal.

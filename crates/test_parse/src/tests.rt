@@ -23,7 +23,11 @@ fn told(alloc: Global, fault: ParseFault) -> Result<String, Fail> {
 /// The canonical text of a line's request, or its fault.
 fn shown(alloc: Global, line: &[u8]) -> Result<String, Fail> {
     match parse(alloc, line) {
-        Ok(request) => printed(alloc, &request),
+        Ok(request) => {
+            let text = printed(alloc, &request);
+            drop(request);
+            text
+        }
         Err(fault) => told(alloc, fault),
     }
 }
@@ -117,7 +121,10 @@ fn line_of(
 /// Whether a line is a request, or its fault.
 fn judged(alloc: Global, line: &[u8]) -> Result<String, Fail> {
     match parse(alloc, line) {
-        Ok(_) => Ok(format!(in alloc; "request")?),
+        Ok(request) => {
+            drop(request);
+            Ok(format!(in alloc; "request")?)
+        }
         Err(fault) => told(alloc, fault),
     }
 }

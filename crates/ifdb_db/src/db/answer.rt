@@ -17,13 +17,18 @@ impl Db {
         requires narrow { IsTrue (is_narrow request) }
         requires open { IsTrue session.old.is_open }
         requires kept { IsKept self.old.seen.public session.old }
-        ensures answered { IsAnswered (answered_by self.old session.old session.old.principal request)
+        ensures answered { IsAnswered
+            (answered_by self.old session.old session.old.principal request)
             session.old session.new self.old self.new result }
         ensures kept { IsKept self.new.seen.public session.new }
         ensures still { IsStill session.old session.new self.old self.new result }
     {
         match session.principal {
-            None => self.answer_new(session, &request),
+            None => {
+                let answer = self.answer_new(session, &request);
+                drop(request);
+                answer
+            }
             Some(asker) => self.answer_as(session, asker, request),
         }
     }

@@ -59,6 +59,7 @@ impl Db {
         };
         if let Some(fault) = self.refusal(&txn, &session.label) {
             self.forget(txn.begin());
+            drop(txn);
             return Ok(Reply::Refused(fault));
         }
         if let Err(txn) = self.install(txn) {

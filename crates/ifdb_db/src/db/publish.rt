@@ -58,6 +58,7 @@ impl Db {
         ensures { IsPublished asker label.now request self.old self.new result }
     {
         if !label.tags().is_empty() {
+            drop(request);
             return Err(Fault::LabelNotEmpty);
         }
         let found = self.seen().bind(asker, request)?;
@@ -80,6 +81,7 @@ impl Db {
         match found {
             Bound::Change(change) => self.apply(change),
             _ => {
+                drop(found);
                 self.is_settled();
                 Ok(())
             }
@@ -91,13 +93,15 @@ impl Db {
         requires fits { IsTrue (change_fits self.old.seen.public change) }
         requires new { IsTrue (is_new self.old.seen.public change) }
         requires narrow { IsTrue (is_narrow_change change) }
-        ensures done { OnOk result (self.new ≡ settled (with_entry self.old (Some (changes change)))) }
+        ensures done { OnOk result
+            (self.new ≡ settled (with_entry self.old (Some (changes change)))) }
         ensures accepted { OnOk result (refusal self.old.seen.public change ≡ None) }
         ensures refused { IfErr result (λ fault. (fault ≡ NoMemory)
             ⊎ (refusal self.old.seen.public change ≡ Some fault)) }
         ensures err { OnErr result (self.new ≡ self.old) }
     {
         if self.count == u64::MAX {
+            drop(change);
             return Err(Fault::OutOfMemory);
         }
         self.public.apply(change)?;

@@ -73,18 +73,22 @@ impl Db {
         requires narrow { IsTrue (is_narrow request) }
         requires made { AreMade (length self.now.seen.public.tags) label.now }
         ensures found { FindsWrites asker label.now request self.now result }
-        ensures fit { IfOk result (λ written. IsTrue (are_fit self.now.seen.public written.writes)) }
+        ensures fit { IfOk result
+            (λ written. IsTrue (are_fit self.now.seen.public written.writes)) }
     {
         let seen = self.seen();
         let found = seen.bind(asker, request)?;
         let written = seen.written(asker, label, &found);
-        unless_orphaned(&seen, &found, written)
+        let written = unless_orphaned(&seen, &found, written);
+        drop(found);
+        written
     }
 
     /// Makes writes, which are one commit.
     fn land(&mut self, writes: Writes) -> Result<(), OutOfMemory>
         requires fit { IsTrue (are_fit self.old.seen.public writes) }
-        ensures done { OnOk result (self.new ≡ settled (with_entry self.old (Some (commits writes)))) }
+        ensures done { OnOk result
+            (self.new ≡ settled (with_entry self.old (Some (commits writes)))) }
         ensures err { OnErr result (self.new ≡ self.old) }
     {
         if self.count == u64::MAX {

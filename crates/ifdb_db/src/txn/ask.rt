@@ -120,10 +120,13 @@ impl Txn {
         requires narrow { IsTrue (is_narrow request) }
         requires made { AreMade (length self.now.base.public.tags) label.now }
         ensures found { Finds asker label.now self.now request result }
-        ensures fit { IfOk result (λ written. IsTrue (are_fit self.now.base.public written.writes)) }
+        ensures fit { IfOk result
+            (λ written. IsTrue (are_fit self.now.base.public written.writes)) }
     {
         let seen = self.seen();
         let found = seen.bind(asker, request)?;
-        seen.written(asker, label, &found)
+        let written = seen.written(asker, label, &found);
+        drop(found);
+        written
     }
 }

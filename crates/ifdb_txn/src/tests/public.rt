@@ -24,7 +24,9 @@ use std::test::Fail;
 fn a_statement_writes_over_a_public_state(rt: HostRuntime) -> Result<(), Fail> {
     let alloc = rt.alloc();
     let catalog = with_notes(&rt, alloc)?;
-    let written = first_note(&rt, alloc, &catalog)?;
+    let written = first_note(&rt, alloc, &catalog);
+    drop(catalog);
+    let written = written?;
     assert_eq!(rt; written.count(), 1);
     assert_eq!(rt; written.into_writes().len(), 1);
     Ok(())
@@ -47,8 +49,9 @@ fn first_note(rt: &impl Abort, alloc: Global, catalog: &Catalog) -> Result<Writt
     let values = values_of(alloc, 1, 2)?;
     assert!(rt; takes(catalog, TableId(0), values.items()));
     let insert = insert_of(alloc, values)?;
-    let written = written_by(alloc, catalog, &insert)?;
-    Ok(written)
+    let written = written_by(alloc, catalog, &insert);
+    drop(insert);
+    Ok(written?)
 }
 
 /// An INSERT of one row into the first table.
@@ -79,7 +82,8 @@ fn written_by(alloc: Global, catalog: &Catalog, found: &Bound) -> Result<Written
 /// Whether a table takes a row.
 #[tactic(auto, using(crate::proofs::TableAt::table_is))]
 fn takes(catalog: &Catalog, table: TableId, values: &[Value]) -> bool
-    ensures { IsTrue result → IsTrue (is_table catalog.now table) × IsTrue (values_fit (kinds_of (table_at catalog.now table).columns) values.now) }
+    ensures { IsTrue result → IsTrue (is_table catalog.now table)
+        × IsTrue (values_fit (kinds_of (table_at catalog.now table).columns) values.now) }
 {
     match catalog.table(table) {
         Some(schema) => are_of_kinds(schema.columns.items(), values),

@@ -117,7 +117,7 @@ fn did(
         Does::Set(number, cond) => updated(target, rows, literal(number), cond),
         Does::Add(number, cond) => updated(target, rows, sum_with(target.alloc, number)?, cond),
         Does::Keep(cond) => updated(target, rows, BoundExpr::Column(number_column()), cond),
-        Does::Delete(cond) => Ok(delete_matched(target, rows, &cond_of(cond))),
+        Does::Delete(cond) => Ok(deleted(target, rows, cond)),
     }
 }
 
@@ -145,7 +145,21 @@ fn updated(
 {
     let assignment = BoundAssignment { column: 1, expr };
     let assignments = BoundAssignments::single(target.alloc, assignment)?;
-    Ok(update_matched(target, rows, assignments.items(), &cond_of(cond)))
+    let cond = cond_of(cond);
+    let written = update_matched(target, rows, assignments.items(), &cond);
+    drop(cond);
+    Ok(written)
+}
+
+/// What a DELETE gives.
+fn deleted(target: &Target<'_>, rows: &ListRows, cond: Where) -> Result<Written, Fault>
+    requires made { IsMade target.now.from rows.now }
+    requires keyed { IsTrue (are_keyed target.now.table target.now.schema.now.key rows.now) }
+{
+    let cond = cond_of(cond);
+    let written = delete_matched(target, rows, &cond);
+    drop(cond);
+    written
 }
 
 /// A number.

@@ -15,29 +15,29 @@ use Rattle.ifdb_select.proofs.Lacking.{lacks_first, lacks_second, refused, secon
 use Rattle.ifdb_bind.proofs.ViewChecks.{unknown, viewed, mismatched, accepted}
 use Rattle.ifdb_bind.proofs.views.body_over.Goals as goal
 
-pub returns-in_err-select-clause-refused : goal.returns-in_err-select-clause-refused
-returns-in_err-select-clause-refused c =
-    let p = c.args.catalog.now in
-    let scope = c.args.scope.now in
-    let view = c.args.view.now in
-    let exit = err_from_is_err_and c.from_residual.result c.from_residual.ensures.1 in
-    let fault = c.in_err-select.field-0.0 in
-    rw (exit.1, exit.2)
-    (refused fault (select_is_known p scope view.select && are_tags p view.tags) (create_view p c.args._asker view.name view.select view.tags)
-    (lacks_first fault (select_is_known p scope view.select) (are_tags p view.tags) c.in_err-select.ensures.lacks)
-    (unknown p c.args._asker view.name view.select view.tags scope c.requires.new c.requires.scope))
-
 pub returns-in_err-declassifying-clause-refused : goal.returns-in_err-declassifying-clause-refused
 returns-in_err-declassifying-clause-refused c =
     let p = c.args.catalog.now in
     let scope = c.args.scope.now in
     let view = c.args.view.now in
-    let exit = err_from_is_err_and c.from_residual-in_err-declassifying.result c.from_residual-in_err-declassifying.ensures.1 in
+    let exit = err_from_is_err_and c.from_residual.result c.from_residual.ensures.1 in
     let fault = c.in_err-declassifying.field-0.0 in
     rw (exit.1, exit.2)
     (refused fault (select_is_known p scope view.select && are_tags p view.tags) (create_view p c.args._asker view.name view.select view.tags)
-    (lacks_second fault (select_is_known p scope view.select) (are_tags p view.tags) c.in_ok-select.ensures.known
+    (lacks_second fault (select_is_known p scope view.select) (are_tags p view.tags)
     (subst (λ (tags : List (List ℕ)). Lacks fault (are_tags p tags)) c.items.ensures c.in_err-declassifying.ensures.lacks))
+    (unknown p c.args._asker view.name view.select view.tags scope c.requires.new c.requires.scope))
+
+pub returns-in_err-select-clause-refused : goal.returns-in_err-select-clause-refused
+returns-in_err-select-clause-refused c =
+    let p = c.args.catalog.now in
+    let scope = c.args.scope.now in
+    let view = c.args.view.now in
+    let exit = err_from_is_err_and c.from_residual-in_err-select.result c.from_residual-in_err-select.ensures.1 in
+    let fault = c.in_err-select.field-0.0 in
+    rw (exit.1, exit.2)
+    (refused fault (select_is_known p scope view.select && are_tags p view.tags) (create_view p c.args._asker view.name view.select view.tags)
+    (lacks_first fault (select_is_known p scope view.select) (are_tags p view.tags) c.in_err-select.ensures.lacks)
     (unknown p c.args._asker view.name view.select view.tags scope c.requires.new c.requires.scope))
 
 pub returns-then-is_from_view-clause-refused : goal.returns-then-is_from_view-clause-refused
@@ -51,41 +51,41 @@ returns-then-is_from_view-clause-refused c =
     inr (viewed p c.args._asker view.name view.select view.tags scope c.requires.new c.requires.scope
     (both_of (select_is_known p scope view.select) (are_tags p view.tags) c.in_ok-select.ensures.known tags) from)
 
-pub returns-in-None-clause-refused : goal.returns-in-None-clause-refused
-returns-in-None-clause-refused c =
+pub returns-in_default-clause-refused : goal.returns-in_default-clause-refused
+returns-in_default-clause-refused c =
     let p = c.args.catalog.now in
     let scope = c.args.scope.now in
     let view = c.args.view.now in
     let tags : are_tags p view.tags ≡ true = ap (λ (tags : List (List ℕ)). are_tags p tags) (sym c.items.ensures) ∙ c.in_ok-declassifying.ensures.known in
     let from : is_from_view p view.select ≡ false =
     ap (λ (sources : List Source). list_any (λ (x : Source). is_view p x.name) sources) (sym c.items-2.ensures) ∙ (sym c.is_from_view.ensures ∙ c.if-is_from_view.false) in
-    let names : names_fit (output scope view.select) ≡ false = sym c.in_ok-names.ensures.fit ∙ ap is_some c.in-None.is in
+    let names : names_fit (output scope view.select) ≡ false = sym c.in_ok-names.ensures.fit ∙ ap is_some c.in_default.is in
     inr (mismatched p c.args._asker view.name view.select view.tags scope c.requires.new c.requires.scope
     (both_of (select_is_known p scope view.select) (are_tags p view.tags) c.in_ok-select.ensures.known tags) from
     (second_fails (select_fits p scope view.select) (names_fit (output scope view.select)) names))
 
-pub returns-else-select_fits-clause-refused : goal.returns-else-select_fits-clause-refused
-returns-else-select_fits-clause-refused c =
+pub returns-then-not-select_fits-clause-refused : goal.returns-then-not-select_fits-clause-refused
+returns-then-not-select_fits-clause-refused c =
     let p = c.args.catalog.now in
     let scope = c.args.scope.now in
     let view = c.args.view.now in
     let tags : are_tags p view.tags ≡ true = ap (λ (tags : List (List ℕ)). are_tags p tags) (sym c.items.ensures) ∙ c.in_ok-declassifying.ensures.known in
     let from : is_from_view p view.select ≡ false =
     ap (λ (sources : List Source). list_any (λ (x : Source). is_view p x.name) sources) (sym c.items-2.ensures) ∙ (sym c.is_from_view.ensures ∙ c.if-is_from_view.false) in
-    let fits : select_fits p scope view.select ≡ false = sym c.select_fits.ensures ∙ c.if-select_fits.false in
+    let fits : select_fits p scope view.select ≡ false = sym c.select_fits.ensures ∙ c.if-not-select_fits.true in
     inr (mismatched p c.args._asker view.name view.select view.tags scope c.requires.new c.requires.scope
     (both_of (select_is_known p scope view.select) (are_tags p view.tags) c.in_ok-select.ensures.known tags) from
     (ap (λ (b : Bool). b && names_fit (output scope view.select)) fits))
 
-pub returns-then-select_fits-clause-bound : goal.returns-then-select_fits-clause-bound
-returns-then-select_fits-clause-bound c =
+pub returns-clause-bound : goal.returns-clause-bound
+returns-clause-bound c =
     let p = c.args.catalog.now in
     let scope = c.args.scope.now in
     let view = c.args.view.now in
     let tags : are_tags p view.tags ≡ true = ap (λ (tags : List (List ℕ)). are_tags p tags) (sym c.items.ensures) ∙ c.in_ok-declassifying.ensures.known in
     let from : is_from_view p view.select ≡ false =
     ap (λ (sources : List Source). list_any (λ (x : Source). is_view p x.name) sources) (sym c.items-2.ensures) ∙ (sym c.is_from_view.ensures ∙ c.if-is_from_view.false) in
-    let fits : select_fits p scope view.select ≡ true = sym c.select_fits.ensures ∙ c.if-select_fits.true in
+    let fits : select_fits p scope view.select ≡ true = sym c.select_fits.ensures ∙ c.if-not-select_fits.false in
     let names_are_fit : names_fit (output scope view.select) ≡ true = sym c.in_ok-names.ensures.fit ∙ ap is_some c.in-Some.is in
     let names : c.in-Some.names ≡ given (output scope view.select) =
     subst (λ (o : Option (List (List ℕ))). IfSome o (λ names. names ≡ given (output scope view.select))) c.in-Some.is c.in_ok-names.ensures.names in
