@@ -1,5 +1,5 @@
 // What no clause says: worked rows, the ends of a script, and that the calls succeed.
-ghost use Rattle.std.specs.Prelude.{◌<◌};
+ghost use Rattle.std.specs.Prelude.{◌≡◌, ◌<◌};
 
 mod ends;
 mod faults;
@@ -31,41 +31,81 @@ fn words_of(alloc: Global, text: &str) -> Result<Vec<String>, Fail> {
     Ok(words)
 }
 
-// How `top` ends with these words over this source and sink in memory, and a site without doors.
-fn end_of<R: AllocGlobal + Threads + Wait + Sync>(
-    rt: &R,
-    words: &str,
-    input: &mut MemorySource,
-    output: &mut MemorySink,
-) -> Result<Status, Fail> {
-    let words = words_of(rt.alloc(), words)?;
-    let mut site: MemorySite<MemoryLink> = MemorySite::new(
-        rt.alloc(),
-        Vec::new(rt.alloc()),
-        Vec::new(rt.alloc()),
-    );
-    Ok(top(rt, &words, input, output, &mut site))
+// The calls of a source or a sink: the bytes that each gives or takes, and which one fails.
+#[derive(Clone, Copy)]
+struct Calls {
+    piece: usize,
+    fails: Option<u64>,
 }
 
-// A source that gives this many bytes a call.
-fn source(alloc: Global, bytes: &[u8], piece: usize) -> Result<MemorySource, Fail>
-    requires { 0 < piece }
+// Calls of this size, of which none fails.
+const fn all_of(piece: usize) -> Calls
+    ensures { result.piece ≡ piece }
 {
-    Ok(MemorySource::new(Vec::from_slice(alloc, bytes)?, piece, Vec::new(alloc)))
+    Calls { piece, fails: None }
 }
 
-// A sink that takes this many bytes a call.
-fn sink(alloc: Global, piece: usize) -> Result<MemorySink, Fail>
-    requires { 0 < piece }
+// The number of a call that is to fail, if one is.
+fn failing(alloc: Global, call: Option<u64>) -> Result<Vec<u64>, Fail> {
+    let mut calls = Vec::new(alloc);
+    if let Some(call) = call {
+        calls.push(call)?;
+    }
+    Ok(calls)
+}
+
+// A source of these bytes.
+fn source(alloc: Global, bytes: &[u8], calls: Calls) -> Result<MemorySource, Fail>
+    requires { 0 < calls.piece }
 {
-    Ok(MemorySink::new(alloc, piece, ROOM, Vec::new(alloc))?)
+    let bytes = Vec::from_slice(alloc, bytes)?;
+    Ok(MemorySource::new(bytes, calls.piece, failing(alloc, calls.fails)?))
 }
 
-// How a script ended, and what was written for it.
+// A sink.
+fn sink(alloc: Global, calls: Calls) -> Result<MemorySink, Fail>
+    requires { 0 < calls.piece }
+{
+    Ok(MemorySink::new(alloc, calls.piece, ROOM, failing(alloc, calls.fails)?)?)
+}
+
+// How a call of the program ended, and what was written for it.
 #[derive(Drop)]
 struct Ran {
     status: Status,
     written: Vec<u8>,
+}
+
+// Calls the program with these words over a script and a site.
+fn call<R: AllocGlobal + Threads + Wait + Sync>(
+    rt: &R,
+    words: &str,
+    script: &[u8],
+    calls: (Calls, Calls),
+    site: &mut MemorySite<MemoryLink>,
+) -> Result<Ran, Fail>
+    requires { (0 < calls.0.piece) × (0 < calls.1.piece) }
+{
+    let (reads, writes) = calls;
+    let words = words_of(rt.alloc(), words)?;
+    let mut input = source(rt.alloc(), script, reads)?;
+    let mut output = sink(rt.alloc(), writes)?;
+    let status = top(rt, &words, &mut input, &mut output, site);
+    let written = Vec::from_slice(rt.alloc(), output.bytes())?;
+    Ok(Ran { status, written })
+}
+
+// Calls the program with these words over a script, and a site without doors.
+fn ended<R: AllocGlobal + Threads + Wait + Sync>(
+    rt: &R,
+    words: &str,
+    script: &[u8],
+    calls: (Calls, Calls),
+) -> Result<Ran, Fail>
+    requires { (0 < calls.0.piece) × (0 < calls.1.piece) }
+{
+    let mut site = MemorySite::new(rt.alloc(), Vec::new(rt.alloc()), Vec::new(rt.alloc()));
+    call(rt, words, script, calls, &mut site)
 }
 
 // Runs a script that comes and is answered in pieces of this size.
@@ -76,11 +116,16 @@ fn run<R: AllocGlobal + Threads + Wait + Sync>(
 ) -> Result<Ran, Fail>
     requires { 0 < piece }
 {
-    let mut input = source(rt.alloc(), script, piece)?;
-    let mut output = sink(rt.alloc(), piece)?;
-    let status = end_of(rt, "run", &mut input, &mut output)?;
-    let written = Vec::from_slice(rt.alloc(), output.bytes())?;
-    Ok(Ran { status, written })
+    ended(rt, "run", script, (all_of(piece), all_of(piece)))
+}
+
+// Serves the connections of a site.
+fn served<R: AllocGlobal + Threads + Wait + Sync>(
+    rt: &R,
+    words: &str,
+    site: &mut MemorySite<MemoryLink>,
+) -> Result<Ran, Fail> {
+    call(rt, words, b"", (all_of(64), all_of(64)), site)
 }
 
 // Two texts, one behind the other.

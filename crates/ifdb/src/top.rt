@@ -56,7 +56,8 @@ pub fn top<T: AllocGlobal + Threads + Wait + Sync, R: Source, W: Sink, S: Site>(
     ensures done { (limit : ℕ) → IsRun limit words.now → result ≡ Status.Done → RanWhole limit
         (R.left input.old) (R.left input.new) (W.written output.old) (W.written output.new) }
     ensures cuts { CutsDontMatter }
-    ensures two_worlds { (limit : ℕ) → IsRun limit words.now → result ≡ Status.Done → KeepsLevels limit
+    ensures two_worlds { (limit : ℕ) → IsRun limit words.now → result ≡ Status.Done
+        → KeepsLevels limit
         (R.left input.old) (R.left input.new) (W.written output.old) (W.written output.new) }
 
     // Faults of a script, and what was written before them.
@@ -173,7 +174,8 @@ fn run<R: Source, W: Sink>(alloc: Global, input: &mut R, output: &mut W, limit: 
         (R.left input.old) (R.left input.new) (W.written output.old) (W.written output.new) }
     ensures too_large { result ≡ Status.TooLarge → RanFront (λ n. n ≡ limit + 1)
         (R.left input.old) (R.left input.new) (W.written output.old) (W.written output.new) }
-    ensures memory { result ≡ Status.OutOfMemory → (input.new ≡ input.old) × (output.new ≡ output.old) }
+    ensures memory { result ≡ Status.OutOfMemory
+        → (input.new ≡ input.old) × (output.new ≡ output.old) }
     ensures ends { IsRunEnd result }
     ensures input_later { R.faults input.old ≤ R.faults input.new }
     ensures output_later { W.faults output.old ≤ W.faults output.new }

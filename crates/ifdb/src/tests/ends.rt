@@ -1,74 +1,74 @@
 // Faults of the input and the output, and words that ask for nothing.
 use super::*;
 
-// The calls of a source or sink that are to fail.
-fn failing(alloc: Global, call: Option<u64>) -> Result<Vec<u64>, Fail> {
-    let mut calls = Vec::new(alloc);
-    if let Some(call) = call {
-        calls.push(call)?;
-    }
-    Ok(calls)
-}
+// Which read and which write fails, how a script ends then, and what is written.
+static FAULTS: [(Option<u64>, Option<u64>, Status, &str); 4] = [
+    (Some(0), None, Status::ReadFault, ""),
+    (Some(2), None, Status::ReadFault, "1 OPEN\n"),
+    (None, Some(0), Status::WriteFault, ""),
+    (None, Some(1), Status::WriteFault, "1 O"),
+];
 
 #[test]
 fn faults_have_their_status(rt: HostRuntime) -> Result<(), Fail> {
-    let table = [
-        (Some(0), None, Status::ReadFault, ""),
-        (Some(2), None, Status::ReadFault, "1 OPEN\n"),
-        (None, Some(0), Status::WriteFault, ""),
-        (None, Some(1), Status::WriteFault, "1 O"),
-    ];
-    for (read, write, status, written) in table {
-        let script = Vec::from_slice(rt.alloc(), b"OPEN\n1 SHOW LABEL\n")?;
-        let mut input = MemorySource::new(script, 5, failing(rt.alloc(), read)?);
-        let mut output = MemorySink::new(rt.alloc(), 3, ROOM, failing(rt.alloc(), write)?)?;
-        assert_eq!(rt; end_of(&rt, "run", &mut input, &mut output)?, status);
-        assert_eq!(rt; output.bytes(), written.as_bytes());
+    for (read, write, status, written) in &FAULTS {
+        let reads = Calls {
+            piece: 5,
+            fails: *read,
+        };
+        let writes = Calls {
+            piece: 3,
+            fails: *write,
+        };
+        let ran = ended(&rt, "run", b"OPEN\n1 SHOW LABEL\n", (reads, writes))?;
+        assert_eq!(rt; ran.status, *status);
+        assert_eq!(rt; ran.written.as_slice(), written.as_bytes());
     }
     Ok(())
 }
+
+// Words with a limit, and how a script of five bytes ends.
+static LIMITS: [(&str, Status, &str); 4] = [
+    ("run --limit 4", Status::TooLarge, ""),
+    ("run --limit=5", Status::Done, "1 OPEN\n"),
+    ("run --limit 1099511627776", Status::Done, "1 OPEN\n"),
+    ("run", Status::Done, "1 OPEN\n"),
+];
 
 #[test]
 fn the_limit_of_the_words_is_kept(rt: HostRuntime) -> Result<(), Fail> {
-    let table = [
-        ("run --limit 4", Status::TooLarge, ""),
-        ("run --limit=5", Status::Done, "1 OPEN\n"),
-        ("run --limit 1099511627776", Status::Done, "1 OPEN\n"),
-        ("run", Status::Done, "1 OPEN\n"),
-    ];
-    for (words, status, written) in table {
-        let mut input = source(rt.alloc(), b"OPEN\n", 64)?;
-        let mut output = sink(rt.alloc(), 64)?;
-        assert_eq!(rt;
-            end_of(&rt, words, &mut input, &mut output)?,
-            status,
-            "{words}"
-        );
-        assert_eq!(rt; output.bytes(), written.as_bytes(), "{words}");
+    for (words, status, written) in &LIMITS {
+        let ran = ended(&rt, words, b"OPEN\n", (all_of(64), all_of(64)))?;
+        assert_eq!(rt; ran.status, *status, "{words}");
+        assert_eq!(rt; ran.written.as_slice(), written.as_bytes(), "{words}");
     }
     Ok(())
 }
 
+// Words that ask for nothing.
+static OTHERS: [&str; 9] = [
+    "dance",
+    "",
+    "Run",
+    "run run",
+    "run --limit 0",
+    "serve",
+    "serve --port 0",
+    "generate",
+    "generate --run=8",
+];
+
+// The line that they get.
+const USAGE: &str =
+    "usage: ifdb run [--limit N] | ifdb serve --port P [--workers W] [--links K] [--limit N] | \
+    ifdb generate [--run] N\n";
+
 #[test]
 fn other_words_get_the_usage_line(rt: HostRuntime) -> Result<(), Fail> {
-    for words in [
-        "dance",
-        "",
-        "Run",
-        "run run",
-        "run --limit 0",
-        "serve",
-        "serve --port 0",
-        "generate",
-        "generate --run=8",
-    ] {
-        let mut input = source(rt.alloc(), b"OPEN\n", 64)?;
-        let mut output = sink(rt.alloc(), 64)?;
-        assert_eq!(rt; end_of(&rt, words, &mut input, &mut output)?, Status::Usage);
-        let usage =
-            "usage: ifdb run [--limit N] | ifdb serve --port P [--workers W] [--links K] [--limit N] | \
-            ifdb generate [--run] N\n";
-        assert_eq!(rt; output.bytes(), usage.as_bytes(), "{words}");
+    for words in &OTHERS {
+        let ran = ended(&rt, words, b"OPEN\n", (all_of(64), all_of(64)))?;
+        assert_eq!(rt; ran.status, Status::Usage, "{words}");
+        assert_eq!(rt; ran.written.as_slice(), USAGE.as_bytes(), "{words}");
     }
     Ok(())
 }

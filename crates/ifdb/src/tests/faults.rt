@@ -1,6 +1,9 @@
 // Faults and cuts: of a connection's calls, of a door, by the limit, and of a script that ends anywhere.
+ghost use Rattle.std.specs.Prelude.{◌<◌};
+
 use super::*;
 use ifdb_io::MemoryDoor;
+use std::process::Abort;
 
 // What the first of three connections sends: a transaction that it doesn't end.
 const FIRST: &str =
@@ -82,29 +85,31 @@ const CASES: [Case; 5] = [
     },
 ];
 
-// The calls that are to fail.
-fn calls(alloc: Global, call: Option<u64>) -> Result<Vec<u64>, Fail> {
-    let mut calls = Vec::new(alloc);
-    if let Some(call) = call {
-        calls.push(call)?;
-    }
-    Ok(calls)
+// A connection that sends this.
+fn link(alloc: Global, input: &[u8], reads: Calls, writes: Calls) -> Result<MemoryLink, Fail>
+    requires { (0 < reads.piece) × (0 < writes.piece) }
+{
+    let source = source(alloc, input, reads)?;
+    let sink = sink(alloc, writes)?;
+    Ok(MemoryLink { source, sink })
 }
 
-// A connection that sends this.
-fn link(
-    alloc: Global,
-    input: &[u8],
-    piece: usize,
-    read: Option<u64>,
-    write: Option<u64>,
-) -> Result<MemoryLink, Fail> {
-    let piece = piece.max(1);
-    let bytes = Vec::from_slice(alloc, input)?;
-    Ok(MemoryLink {
-        source: MemorySource::new(bytes, piece, calls(alloc, read)?),
-        sink: MemorySink::new(alloc, piece, ROOM, calls(alloc, write)?)?,
-    })
+// The three connections of a case.
+fn links_of(alloc: Global, case: &Case) -> Result<Vec<MemoryLink>, Fail> {
+    let piece = case.piece.max(1);
+    let reads = Calls {
+        piece,
+        fails: case.read,
+    };
+    let writes = Calls {
+        piece,
+        fails: case.write,
+    };
+    let mut links = Vec::new(alloc);
+    links.push(link(alloc, FIRST.as_bytes(), reads, writes)?)?;
+    links.push(link(alloc, SECOND.as_bytes(), all_of(64), all_of(64))?)?;
+    links.push(link(alloc, THIRD.as_bytes(), all_of(64), all_of(64))?)?;
+    Ok(links)
 }
 
 // A site of one door with these connections.
@@ -114,7 +119,7 @@ fn site_of(
     door: Option<u64>,
 ) -> Result<MemorySite<MemoryLink>, Fail> {
     let mut doors = Vec::new(alloc);
-    doors.push(MemoryDoor::new(alloc, links, calls(alloc, door)?)?)?;
+    doors.push(MemoryDoor::new(alloc, links, failing(alloc, door)?)?)?;
     Ok(MemorySite::new(alloc, doors, Vec::new(alloc)))
 }
 
@@ -125,52 +130,57 @@ fn output_of(alloc: Global, summary: &str) -> Result<Vec<u8>, Fail> {
 
 #[test]
 fn services_tell_their_faults(rt: HostRuntime) -> Result<(), Fail> {
-    let alloc = rt.alloc();
     for case in &CASES {
-        let mut links = Vec::new(alloc);
-        links.push(link(alloc, FIRST.as_bytes(), case.piece, case.read, case.write)?)?;
-        links.push(link(alloc, SECOND.as_bytes(), 64, None, None)?)?;
-        links.push(link(alloc, THIRD.as_bytes(), 64, None, None)?)?;
-        let mut site = site_of(alloc, links, case.door)?;
-        let words = format!(in alloc; "serve --port 7070 --workers 1 --limit {}", case.limit)?;
-        let words = words_of(alloc, words.as_str())?;
-        let mut input = source(alloc, b"", 64)?;
-        let mut output = sink(alloc, 64)?;
-        let end = top(&rt, &words, &mut input, &mut output, &mut site);
-        assert_eq!(rt; end, Status::Done);
-        let want = output_of(alloc, case.summary)?;
-        assert_eq!(rt; output.bytes(), want.as_slice(), "{}", case.summary);
-        for door in site.back() {
-            for (link, reply) in door.back().iter().zip(case.replies) {
-                assert_eq!(rt; link.sink.bytes(), reply.as_bytes(), "{}", case.summary);
-            }
-        }
+        let mut site = site_of(rt.alloc(), links_of(rt.alloc(), case)?, case.door)?;
+        let ran = serve_one(&rt, case.limit, &mut site);
+        are_answered(&rt, &site, &case.replies);
+        drop(site);
+        let ran = ran?;
+        assert_eq!(rt; ran.status, Status::Done);
+        let want = output_of(rt.alloc(), case.summary)?;
+        assert_eq!(rt; ran.written.as_slice(), want.as_slice(), "{}", case.summary);
     }
     Ok(())
 }
 
-#[test]
-fn a_long_line_ends_its_connection(rt: HostRuntime) -> Result<(), Fail> {
-    let alloc = rt.alloc();
-    let long = vec![in alloc; b'x'; 65_536]?;
-    let mut links = Vec::new(alloc);
-    links.push(link(alloc, &long, 40_000, None, None)?)?;
-    let mut site = site_of(alloc, links, None)?;
-    let words = words_of(alloc, "serve --port 7070 --workers 1")?;
-    let mut input = source(alloc, b"", 64)?;
-    let mut output = sink(alloc, 64)?;
-    let end = top(&rt, &words, &mut input, &mut output, &mut site);
-    assert_eq!(rt; end, Status::Done);
-    let want = output_of(
-        alloc,
-        "sessions 1\nentries 2\ncommits 0\nrefused 0\nrows 0\nfaults 1\n",
-    )?;
-    assert_eq!(rt; output.bytes(), want.as_slice());
+// Serves a site by one worker.
+fn serve_one<R: AllocGlobal + Threads + Wait + Sync>(
+    rt: &R,
+    limit: u32,
+    site: &mut MemorySite<MemoryLink>,
+) -> Result<Ran, Fail> {
+    let words = format!(in rt.alloc(); "serve --port 7070 --workers 1 --limit {limit}")?;
+    served(rt, words.as_str(), site)
+}
+
+// Checks that the connections that a site has back were answered so, in their order.
+fn are_answered(rt: &impl Abort, site: &MemorySite<MemoryLink>, replies: &[&str]) {
     for door in site.back() {
-        for link in door.back() {
-            assert_eq!(rt; link.sink.bytes(), b"ERR 21 TooLong\n".as_slice());
+        for (link, reply) in door.back().iter().zip(replies) {
+            assert_eq!(rt; link.sink.bytes(), reply.as_bytes(), "{reply}");
         }
     }
+}
+
+// A connection that sends a line of one byte too many.
+fn long_line(alloc: Global) -> Result<Vec<MemoryLink>, Fail> {
+    let long = vec![in alloc; b'x'; 65_536]?;
+    let mut links = Vec::new(alloc);
+    links.push(link(alloc, &long, all_of(40_000), all_of(40_000))?)?;
+    Ok(links)
+}
+
+#[test]
+fn a_long_line_ends_its_connection(rt: HostRuntime) -> Result<(), Fail> {
+    let mut site = site_of(rt.alloc(), long_line(rt.alloc())?, None)?;
+    let ran = served(&rt, "serve --port 7070 --workers 1", &mut site);
+    are_answered(&rt, &site, &["ERR 21 TooLong\n"]);
+    drop(site);
+    let ran = ran?;
+    assert_eq!(rt; ran.status, Status::Done);
+    let summary = "sessions 1\nentries 2\ncommits 0\nrefused 0\nrows 0\nfaults 1\n";
+    let want = output_of(rt.alloc(), summary)?;
+    assert_eq!(rt; ran.written.as_slice(), want.as_slice());
     Ok(())
 }
 

@@ -17,11 +17,7 @@ fn written_for<R: AllocGlobal + Threads + Wait + Sync>(
 ) -> Result<Ran, Fail>
     requires { 0 < piece }
 {
-    let mut input = source(rt.alloc(), b"", 1)?;
-    let mut output = sink(rt.alloc(), piece)?;
-    let status = end_of(rt, words, &mut input, &mut output)?;
-    let written = Vec::from_slice(rt.alloc(), output.bytes())?;
-    Ok(Ran { status, written })
+    ended(rt, words, b"", (all_of(1), all_of(piece)))
 }
 
 // The numbers of a summary; none where it isn't five lines, each a name and a number.

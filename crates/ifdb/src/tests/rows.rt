@@ -29,19 +29,21 @@ const GRANTS_REPLIES: &[u8] =
     b"1 OPEN\n1 OK\n1 OK\n1 OK\n1 OK\n2 OPEN\n2 OK\n1 OK\n3 OPEN\n3 OK\n1 OK\n2 OK\n3 OK\n3 OK\n3 OK\n1 OK\n\
     3 ERR 8 NoAuthority\n3 LABEL (a)\n1 ERR 23 NotGranted\n2 ERR 8 NoAuthority\n";
 
+// Scripts, and their replies.
+static SCRIPTS: [(&[u8], &[u8]); 4] = [
+    (b"", b""),
+    (b"# one\n\n# two\n", b""),
+    (COMPOUND, COMPOUND_REPLIES),
+    (GRANTS, GRANTS_REPLIES),
+];
+
 #[test]
 fn scripts_have_their_replies(rt: HostRuntime) -> Result<(), Fail> {
-    let table = [
-        (b"".as_slice(), b"".as_slice()),
-        (b"# one\n\n# two\n".as_slice(), b"".as_slice()),
-        (COMPOUND, COMPOUND_REPLIES),
-        (GRANTS, GRANTS_REPLIES),
-    ];
-    for (script, replies) in table {
+    for (script, replies) in &SCRIPTS {
         for piece in [1, 3, 65_536] {
             let ran = run(&rt, script, piece)?;
             assert_eq!(rt; ran.status, Status::Done);
-            assert_eq!(rt; ran.written.as_slice(), replies, "{piece}");
+            assert_eq!(rt; ran.written.as_slice(), *replies, "{piece}");
         }
     }
     Ok(())

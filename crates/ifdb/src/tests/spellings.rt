@@ -13,34 +13,36 @@ fn answer<R: AllocGlobal + Threads + Wait + Sync>(rt: &R, line: &[u8]) -> Result
     run(rt, &script, 65_536)
 }
 
+// Lines, and how they are answered by their sessions.
+static SESSIONS: [(&[u8], &str); 20] = [
+    (b"1", "1 ERR 1 Syntax 0\n"),
+    (b"1 ", "1 ERR 1 Syntax 0\n"),
+    (b"1\r", "1 ERR 1 Syntax 0\n"),
+    (b"1\r\r", "0 ERR 1 Syntax 0\n"),
+    (b"1   ", "1 ERR 1 Syntax 2\n"),
+    (b"01 SHOW LABEL", "0 ERR 1 Syntax 0\n"),
+    (b"0 SHOW LABEL", "0 ERR 1 Syntax 0\n"),
+    (b" 1 SHOW LABEL", "0 ERR 1 Syntax 0\n"),
+    (b"1\tSHOW LABEL", "0 ERR 1 Syntax 0\n"),
+    (b"2 SHOW LABEL", "2 ERR 28 NoSession\n"),
+    (b"2 SELECT '", "2 ERR 28 NoSession\n"),
+    (
+        b"999999999999999999 BYE",
+        "999999999999999999 ERR 28 NoSession\n",
+    ),
+    (b"1000000000000000000 BYE", "0 ERR 1 Syntax 0\n"),
+    (b"OPEN\r", "2 OPEN\n"),
+    (b"OPEN\r\r", "0 ERR 1 Syntax 0\n"),
+    (b"OPEN ", "0 ERR 1 Syntax 0\n"),
+    (b"open", "0 ERR 1 Syntax 0\n"),
+    (b"\xff", "0 ERR 1 Syntax 0\n"),
+    (b"\r", ""),
+    (b"#1 SHOW LABEL", ""),
+];
+
 #[test]
 fn lines_have_their_sessions(rt: HostRuntime) -> Result<(), Fail> {
-    let table = [
-        (b"1".as_slice(), "1 ERR 1 Syntax 0\n"),
-        (b"1 ".as_slice(), "1 ERR 1 Syntax 0\n"),
-        (b"1\r".as_slice(), "1 ERR 1 Syntax 0\n"),
-        (b"1\r\r".as_slice(), "0 ERR 1 Syntax 0\n"),
-        (b"1   ".as_slice(), "1 ERR 1 Syntax 2\n"),
-        (b"01 SHOW LABEL".as_slice(), "0 ERR 1 Syntax 0\n"),
-        (b"0 SHOW LABEL".as_slice(), "0 ERR 1 Syntax 0\n"),
-        (b" 1 SHOW LABEL".as_slice(), "0 ERR 1 Syntax 0\n"),
-        (b"1\tSHOW LABEL".as_slice(), "0 ERR 1 Syntax 0\n"),
-        (b"2 SHOW LABEL".as_slice(), "2 ERR 28 NoSession\n"),
-        (b"2 SELECT '".as_slice(), "2 ERR 28 NoSession\n"),
-        (
-            b"999999999999999999 BYE".as_slice(),
-            "999999999999999999 ERR 28 NoSession\n",
-        ),
-        (b"1000000000000000000 BYE".as_slice(), "0 ERR 1 Syntax 0\n"),
-        (b"OPEN\r".as_slice(), "2 OPEN\n"),
-        (b"OPEN\r\r".as_slice(), "0 ERR 1 Syntax 0\n"),
-        (b"OPEN ".as_slice(), "0 ERR 1 Syntax 0\n"),
-        (b"open".as_slice(), "0 ERR 1 Syntax 0\n"),
-        (b"\xff".as_slice(), "0 ERR 1 Syntax 0\n"),
-        (b"\r".as_slice(), ""),
-        (b"#1 SHOW LABEL".as_slice(), ""),
-    ];
-    for (line, reply) in table {
+    for (line, reply) in &SESSIONS {
         let wanted = both(rt.alloc(), BEGUN, reply.as_bytes())?;
         let ran = answer(&rt, line)?;
         assert_eq!(rt; ran.status, Status::Done);
@@ -48,38 +50,34 @@ fn lines_have_their_sessions(rt: HostRuntime) -> Result<(), Fail> {
     }
     Ok(())
 }
+
+// Spellings of requests.
+static SPELLINGS: [(&[u8], &str); 14] = [
+    (b"1 show label;", "1 LABEL ()\n"),
+    (b"1  SHOW LABEL", "1 LABEL ()\n"),
+    (b"1 \tShow\t \tLABEL ; ", "1 LABEL ()\n"),
+    (b"1 SHOW LABEL\r", "1 LABEL ()\n"),
+    (b"1 SHOW LABEL\r\r", "1 LABEL ()\n"),
+    (b"1 SHOW LABEL\r\r\r", "1 ERR 1 Syntax 10\n"),
+    (b"1 INSERT into NOTE values(007);", "1 OK 1\n"),
+    (b"1 INSERT INTO note VALUES ( - 5 )", "1 OK 1\n"),
+    (
+        b"1 INSERT INTO note VALUES (-9223372036854775808)",
+        "1 OK 1\n",
+    ),
+    (
+        b"1 INSERT INTO note VALUES (9223372036854775808)",
+        "1 ERR 22 Limit\n",
+    ),
+    (b"1 CREATE TABLE t (Id INTEGER, PRIMARY KEY (iD))", "1 OK\n"),
+    (b"1 SELECT ID FROM Note;", "1 ROWS 0 1\n"),
+    (b"1 hello Admin KEY 'admin'", "1 ERR 3 HelloTwice\n"),
+    (b"1 bye", "1 OK\n"),
+];
 
 #[test]
 fn requests_are_read_in_every_spelling(rt: HostRuntime) -> Result<(), Fail> {
-    let table = [
-        (b"1 show label;".as_slice(), "1 LABEL ()\n"),
-        (b"1  SHOW LABEL".as_slice(), "1 LABEL ()\n"),
-        (b"1 \tShow\t \tLABEL ; ".as_slice(), "1 LABEL ()\n"),
-        (b"1 SHOW LABEL\r".as_slice(), "1 LABEL ()\n"),
-        (b"1 SHOW LABEL\r\r".as_slice(), "1 LABEL ()\n"),
-        (b"1 SHOW LABEL\r\r\r".as_slice(), "1 ERR 1 Syntax 10\n"),
-        (b"1 INSERT into NOTE values(007);".as_slice(), "1 OK 1\n"),
-        (b"1 INSERT INTO note VALUES ( - 5 )".as_slice(), "1 OK 1\n"),
-        (
-            b"1 INSERT INTO note VALUES (-9223372036854775808)".as_slice(),
-            "1 OK 1\n",
-        ),
-        (
-            b"1 INSERT INTO note VALUES (9223372036854775808)".as_slice(),
-            "1 ERR 22 Limit\n",
-        ),
-        (
-            b"1 CREATE TABLE t (Id INTEGER, PRIMARY KEY (iD))".as_slice(),
-            "1 OK\n",
-        ),
-        (b"1 SELECT ID FROM Note;".as_slice(), "1 ROWS 0 1\n"),
-        (
-            b"1 hello Admin KEY 'admin'".as_slice(),
-            "1 ERR 3 HelloTwice\n",
-        ),
-        (b"1 bye".as_slice(), "1 OK\n"),
-    ];
-    for (line, reply) in table {
+    for (line, reply) in &SPELLINGS {
         let wanted = both(rt.alloc(), BEGUN, reply.as_bytes())?;
         let ran = answer(&rt, line)?;
         assert_eq!(rt; ran.status, Status::Done);
@@ -88,21 +86,23 @@ fn requests_are_read_in_every_spelling(rt: HostRuntime) -> Result<(), Fail> {
     Ok(())
 }
 
+// Lines that are no requests.
+static REFUSED: [(&[u8], &str); 7] = [
+    (b"1 SHOW", "1 ERR 1 Syntax 4\n"),
+    (b"1 SHOW LABEL x", "1 ERR 1 Syntax 11\n"),
+    (b"1 SHOW LABEL ;;", "1 ERR 1 Syntax 12\n"),
+    (b"1 SHOW LABEL \xff", "1 ERR 1 Syntax 11\n"),
+    (b"1 HELLO admin KEY 'x", "1 ERR 1 Syntax 16\n"),
+    (b"1 BEGINS", "1 ERR 1 Syntax 0\n"),
+    (
+        b"1 DELETE FROM note WHERE id = 9223372036854775809",
+        "1 ERR 22 Limit\n",
+    ),
+];
+
 #[test]
 fn what_is_no_request_is_refused_at_its_place(rt: HostRuntime) -> Result<(), Fail> {
-    let table = [
-        (b"1 SHOW".as_slice(), "1 ERR 1 Syntax 4\n"),
-        (b"1 SHOW LABEL x".as_slice(), "1 ERR 1 Syntax 11\n"),
-        (b"1 SHOW LABEL ;;".as_slice(), "1 ERR 1 Syntax 12\n"),
-        (b"1 SHOW LABEL \xff".as_slice(), "1 ERR 1 Syntax 11\n"),
-        (b"1 HELLO admin KEY 'x".as_slice(), "1 ERR 1 Syntax 16\n"),
-        (b"1 BEGINS".as_slice(), "1 ERR 1 Syntax 0\n"),
-        (
-            b"1 DELETE FROM note WHERE id = 9223372036854775809".as_slice(),
-            "1 ERR 22 Limit\n",
-        ),
-    ];
-    for (line, reply) in table {
+    for (line, reply) in &REFUSED {
         let wanted = both(rt.alloc(), BEGUN, reply.as_bytes())?;
         let ran = answer(&rt, line)?;
         assert_eq!(rt; ran.status, Status::Done);

@@ -87,11 +87,14 @@ pub(super) fn written<R: AllocGlobal + Threads + Wait + Sync>(
     Ok(written)
 }
 
+// Scripts without references, and their replies.
+static WORKED: [(&[u8], &[u8]); 5] = [HIDDEN, COMPOUND, TWO_LABELS, VIEW, ENDS];
+
 #[test]
 fn statements_have_their_replies(rt: HostRuntime) -> Result<(), Fail> {
-    for worked in [HIDDEN, COMPOUND, TWO_LABELS, VIEW, ENDS] {
+    for worked in &WORKED {
         let wanted = both(rt.alloc(), BEGUN, worked.1)?;
-        let written = written(&rt, BEGINNING, worked)?;
+        let written = written(&rt, BEGINNING, *worked)?;
         assert_eq!(rt; written.as_slice(), wanted.as_slice());
     }
     Ok(())

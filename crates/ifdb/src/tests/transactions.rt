@@ -69,19 +69,22 @@ const REFERENCED: (&[u8], &[u8]) = (
     b"1 OK 1\n1 OK\n1 OK 1\n1 OK\n1 OK\n1 OK 1\n1 ERR 19 StillReferenced\n1 OK\n1 OK 1\n1 OK 1\n1 OK\n1 ROWS 1 1\n1 m\n",
 );
 
+// Scripts without references, and their replies.
+static WORKED: [(&[u8], &[u8]); 7] = [
+    COMMIT_LABEL,
+    LOWERED,
+    FIRST_COMMITTER,
+    SNAPSHOT,
+    DELETED_SLOT,
+    NAMES_OF_BEGIN,
+    ROLLED_BACK,
+];
+
 #[test]
 fn transactions_have_their_replies(rt: HostRuntime) -> Result<(), Fail> {
-    for worked in [
-        COMMIT_LABEL,
-        LOWERED,
-        FIRST_COMMITTER,
-        SNAPSHOT,
-        DELETED_SLOT,
-        NAMES_OF_BEGIN,
-        ROLLED_BACK,
-    ] {
+    for worked in &WORKED {
         let wanted = both(rt.alloc(), BEGUN, worked.1)?;
-        let written = written(&rt, BEGINNING, worked)?;
+        let written = written(&rt, BEGINNING, *worked)?;
         assert_eq!(rt; written.as_slice(), wanted.as_slice());
     }
     Ok(())

@@ -20,24 +20,26 @@ fn told_to_the_first(alloc: Global, replies: &[u8]) -> Result<Vec<u8>, Fail> {
     Ok(told)
 }
 
+// Two scripts that differ above the first session's label alone, and what it is told of each.
+static WORLDS: [(&str, &str, &str); 2] = [
+    (
+        "2 INSERT INTO note VALUES (1)\n1 INSERT INTO note VALUES (1)\n1 SELECT id FROM note\n",
+        "1 INSERT INTO note VALUES (1)\n2 SELECT id FROM note\n1 SELECT id FROM note\n",
+        "1 OK 1\n1 ROWS 1 1\n1 1\n",
+    ),
+    (
+        "1 INSERT INTO note VALUES (5)\n2 INSERT INTO note VALUES (5)\n2 SET LABEL (a, b)\n2 INSERT INTO note VALUES (6)\n\
+            1 INSERT INTO note VALUES (6)\n2 SET LABEL ()\n1 INSERT INTO note VALUES (5)\n1 SELECT id FROM note\n",
+        "1 INSERT INTO note VALUES (5)\n1 INSERT INTO note VALUES (6)\n1 INSERT INTO note VALUES (5)\n1 SELECT id FROM note\n",
+        "1 OK 1\n1 OK 1\n1 ERR 13 DuplicateKey\n1 ROWS 2 1\n1 5\n1 6\n",
+    ),
+];
+
 #[test]
 fn nobody_below_hears_what_happens_above(rt: HostRuntime) -> Result<(), Fail> {
-    let table = [
-        (
-            "2 INSERT INTO note VALUES (1)\n1 INSERT INTO note VALUES (1)\n1 SELECT id FROM note\n",
-            "1 INSERT INTO note VALUES (1)\n2 SELECT id FROM note\n1 SELECT id FROM note\n",
-            "1 OK 1\n1 ROWS 1 1\n1 1\n",
-        ),
-        (
-            "1 INSERT INTO note VALUES (5)\n2 INSERT INTO note VALUES (5)\n2 SET LABEL (a, b)\n2 INSERT INTO note VALUES (6)\n\
-                1 INSERT INTO note VALUES (6)\n2 SET LABEL ()\n1 INSERT INTO note VALUES (5)\n1 SELECT id FROM note\n",
-            "1 INSERT INTO note VALUES (5)\n1 INSERT INTO note VALUES (6)\n1 INSERT INTO note VALUES (5)\n1 SELECT id FROM note\n",
-            "1 OK 1\n1 OK 1\n1 ERR 13 DuplicateKey\n1 ROWS 2 1\n1 5\n1 6\n",
-        ),
-    ];
-    for (first, second, behind) in table {
+    for (first, second, behind) in &WORLDS {
         let wanted = both(rt.alloc(), BEGUN, behind.as_bytes())?;
-        for rest in [first, second] {
+        for rest in [*first, *second] {
             let script = both(rt.alloc(), BEGINNING, rest.as_bytes())?;
             let ran = run(&rt, &script, 64)?;
             assert_eq!(rt; ran.status, Status::Done);
