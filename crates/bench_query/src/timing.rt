@@ -90,8 +90,10 @@ impl Asked<'_, '_> {
 
 /// Asks the SELECTs over one table.
 fn ask_one(rt: &HostRuntime, asked: &Asked<'_, '_>, count: u32) -> io::Result<()>
-    requires made { IsTrue (are_rows_made (length asked.now.reading.now.tags.now) asked.now.rows.now) }
-    requires label { AreMade (length asked.now.reading.now.tags.now) asked.now.reading.now.label.now }
+    requires made { IsTrue
+        (are_rows_made (length asked.now.reading.now.tags.now) asked.now.rows.now) }
+    requires label { AreMade
+        (length asked.now.reading.now.tags.now) asked.now.reading.now.label.now }
     requires keyed { IsTrue (are_keyed 0 KEY asked.now.rows.now) }
 {
     let alloc = rt.alloc();
@@ -122,8 +124,10 @@ fn ask_keys(
     count: u32,
     given: &[Given<'_>],
 ) -> io::Result<()>
-    requires made { IsTrue (are_rows_made (length asked.now.reading.now.tags.now) asked.now.rows.now) }
-    requires label { AreMade (length asked.now.reading.now.tags.now) asked.now.reading.now.label.now }
+    requires made { IsTrue
+        (are_rows_made (length asked.now.reading.now.tags.now) asked.now.rows.now) }
+    requires label { AreMade
+        (length asked.now.reading.now.tags.now) asked.now.reading.now.label.now }
     requires keyed { IsTrue (are_given_keyed asked.now.rows.now given.now) }
     requires room { length given.now ≤ 4 }
 {
@@ -141,8 +145,10 @@ fn ask_keys(
 
 /// Asks the SELECTs over both tables.
 fn ask_both(rt: &HostRuntime, asked: &Asked<'_, '_>) -> io::Result<()>
-    requires made { IsTrue (are_rows_made (length asked.now.reading.now.tags.now) asked.now.rows.now) }
-    requires label { AreMade (length asked.now.reading.now.tags.now) asked.now.reading.now.label.now }
+    requires made { IsTrue
+        (are_rows_made (length asked.now.reading.now.tags.now) asked.now.rows.now) }
+    requires label { AreMade
+        (length asked.now.reading.now.tags.now) asked.now.reading.now.label.now }
     requires first { IsTrue (are_keyed 0 KEY asked.now.rows.now) }
     requires second { IsTrue (are_keyed 1 KEY asked.now.rows.now) }
 {
@@ -169,8 +175,10 @@ fn told(
     query: &BoundSelect,
     given: &[Given<'_>],
 ) -> io::Result<()>
-    requires made { IsTrue (are_rows_made (length asked.now.reading.now.tags.now) asked.now.rows.now) }
-    requires label { AreMade (length asked.now.reading.now.tags.now) asked.now.reading.now.label.now }
+    requires made { IsTrue
+        (are_rows_made (length asked.now.reading.now.tags.now) asked.now.rows.now) }
+    requires label { AreMade
+        (length asked.now.reading.now.tags.now) asked.now.reading.now.label.now }
     requires keyed { IsTrue (are_given_keyed asked.now.rows.now given.now) }
     requires room { length given.now ≤ 4 }
 {
@@ -185,8 +193,10 @@ fn told(
 
 /// How many rows a SELECT answers.
 fn ask(asked: &Asked<'_, '_>, query: &BoundSelect, given: &[Given<'_>]) -> io::Result<usize>
-    requires made { IsTrue (are_rows_made (length asked.now.reading.now.tags.now) asked.now.rows.now) }
-    requires label { AreMade (length asked.now.reading.now.tags.now) asked.now.reading.now.label.now }
+    requires made { IsTrue
+        (are_rows_made (length asked.now.reading.now.tags.now) asked.now.rows.now) }
+    requires label { AreMade
+        (length asked.now.reading.now.tags.now) asked.now.reading.now.label.now }
     requires keyed { IsTrue (are_given_keyed asked.now.rows.now given.now) }
     requires room { length given.now ≤ 4 }
 {

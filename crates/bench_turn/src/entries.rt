@@ -30,7 +30,8 @@ fn finish<N: NamedEntry<u64>>(turn: Turn<'_, Entries>, root: u64)
     requires turn { IsTurn turn }
     requires entry { N.entry ≡ Some root }
     requires count { (object_of turn).count ≡ length (history (pass_of turn)) + 1 }
-    requires own { (root ≡ length (history (pass_of turn))) ⊎ (0 < times root (places (pass_of turn))) }
+    requires own { (root ≡ length (history (pass_of turn)))
+        ⊎ (0 < times root (places (pass_of turn))) }
     ensures pass { BelongsTo (turnstile_of turn.entry) turn.exit.0.now }
     ensures places { places turn.exit.0.now
         ≡ places (pass_of turn.entry) ++ length (history (pass_of turn.entry)) ∷ [] }

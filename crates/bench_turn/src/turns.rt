@@ -16,8 +16,6 @@ pub struct Visits {
 }
 
 impl Object for Visits {
-    ghost use Rattle.std.specs.Prelude.{ℕ};
-
     type Entry = ();
 
     ghost stands = { λ _ _. Unit {0} };
@@ -94,10 +92,12 @@ fn visit_in_four<R: Threads + Wait + Sync>(
     let (mut pass, others) = join(
         rt,
         || -> Pass<Visits>
-            requires { IsSync R.row × BelongsTo turnstile.now pass × BelongsTo turnstile.now second }
+            requires { IsSync R.row × BelongsTo turnstile.now pass
+                × BelongsTo turnstile.now second }
         { visit_in_two(rt, turnstile, pass, second, often) },
         || -> Pass<Visits>
-            requires { IsSync R.row × BelongsTo turnstile.now third × BelongsTo turnstile.now fourth }
+            requires { IsSync R.row × BelongsTo turnstile.now third
+                × BelongsTo turnstile.now fourth }
         { visit_in_two(rt, turnstile, third, fourth, often) },
     );
     turnstile.join_pass(&mut pass, others);

@@ -63,7 +63,8 @@ impl Authority {
 
     /// Takes the last `made` back, where the tag was not made after all. Takes no memory.
     pub fn unmade(&mut self)
-        ensures { (before : Delegation) (owner : ℕ) → self.old ≡ owned before owner → self.new ≡ before }
+        ensures { (before : Delegation) (owner : ℕ) → self.old ≡ owned before owner
+            → self.new ≡ before }
     {
         self.owners.pop();
     }
@@ -203,7 +204,8 @@ impl Authority {
         found: &mut IndexSet<Holding>,
         to: &Holding,
     ) -> Result<(), OutOfMemory>
-        ensures { IfOk result (λ _. IsExtended found.old.keys found.new.keys (is_grantor self.now to.now)) }
+        ensures { IfOk result
+            (λ _. IsExtended found.old.keys found.new.keys (is_grantor self.now to.now)) }
     {
         for from in self.grantors.of(to) {
             add(

@@ -1,8 +1,8 @@
 // The search for one who made a tag, back from one who may hold it.
-ghost use Rattle.std.specs.Prelude.{◌≡◌, ◌<◌, ◌∷◌, [], length, IfOk};
+ghost use Rattle.std.specs.Prelude.{◌<◌, ◌∷◌, [], length, IfOk};
 ghost use Rattle.ifdb_label.specs.Tags.{AreMade, AreWellFormed};
 ghost use Rattle.ifdb_authority.specs.Grantors.{is_same_holding};
-ghost use Rattle.ifdb_authority.specs.Search.{AreAbove, IsAnswer, IsExtended, is_above, is_grantor, leads};
+ghost use Rattle.ifdb_authority.specs.Search.{AreAbove, IsAnswer, IsExtended, is_above, leads};
 
 use crate::holding::Holding;
 use crate::{Authority, OutOfMemory};
@@ -50,7 +50,8 @@ fn add_steps(
 ) -> Result<(), OutOfMemory>
     requires tag { to.now.tag < length tags.now }
     requires above { AreMade (length tags.now) above.now }
-    ensures { IfOk result (λ _. IsExtended found.old.keys found.new.keys (leads tags.now authority.now above.now to.now)) }
+    ensures { IfOk result (λ _. IsExtended found.old.keys found.new.keys
+        (leads tags.now authority.now above.now to.now)) }
 {
     authority.add_grantors(found, to)?;
     add_above(found, tags, above, to)
@@ -65,7 +66,8 @@ pub(crate) fn add_above(
 ) -> Result<(), OutOfMemory>
     requires tag { of.now.tag < length tags.now }
     requires above { AreMade (length tags.now) above.now }
-    ensures { IfOk result (λ _. IsExtended found.old.keys found.new.keys (is_above tags.now above.now of.now)) }
+    ensures { IfOk result
+        (λ _. IsExtended found.old.keys found.new.keys (is_above tags.now above.now of.now)) }
 {
     for tag in above {
         add_if_above(found, tags, *tag, of)?;
@@ -82,7 +84,8 @@ fn add_if_above(
 ) -> Result<(), OutOfMemory>
     requires of { of.now.tag < length tags.now }
     requires tag { tag < length tags.now }
-    ensures { IfOk result (λ _. IsExtended found.old.keys found.new.keys (is_above tags.now (tag ∷ []) of.now)) }
+    ensures { IfOk result
+        (λ _. IsExtended found.old.keys found.new.keys (is_above tags.now (tag ∷ []) of.now)) }
 {
     if !tags.below(of.tag, tag) {
         return Ok(());
@@ -98,7 +101,8 @@ fn add_if_above(
 
 /// Adds a holding, unless it is in the list.
 pub(crate) fn add(found: &mut IndexSet<Holding>, holding: Holding) -> Result<(), OutOfMemory>
-    ensures { IfOk result (λ _. IsExtended found.old.keys found.new.keys (is_same_holding holding)) }
+    ensures { IfOk result
+        (λ _. IsExtended found.old.keys found.new.keys (is_same_holding holding)) }
 {
     found.insert(holding)?;
     Ok(())

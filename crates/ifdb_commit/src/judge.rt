@@ -1,11 +1,10 @@
 // The first case that applies to a COMMIT.
 ghost use Rattle.std.specs.Prelude.{◌≡◌, IsTrue, find, length};
-ghost use Rattle.std.specs.List.{list_all};
 ghost use Rattle.std.specs.Option.{option_copied};
 ghost use Rattle.ifdb_label.specs.Tags.{AreMade};
 ghost use Rattle.ifdb_row.specs.Verdict.{Shows, is_above, verdict, written_by};
 ghost use Rattle.ifdb_store.specs.Kept.{trimmed};
-ghost use Rattle.ifdb_store.specs.Later.{are_writes_made};
+ghost use Rattle.ifdb_store.specs.Later.{are_commits_made, are_writes_made};
 ghost use Rattle.ifdb_commit.specs.Judging.{case_of, shown_by};
 
 use crate::later::{LaterWrite, newer};
@@ -42,11 +41,13 @@ pub fn verdict<'a>(
     label: &Label,
 ) -> Judged<'a>
     requires own_made { IsTrue (are_writes_made (length tags.now) writes.now) }
-    requires later_made { IsTrue (list_all (λ c. are_writes_made (length tags.now) c.writes) store.now.commits) }
+    requires later_made { IsTrue (are_commits_made (length tags.now) store.now.commits) }
     requires label_made { AreMade (length tags.now) label.now }
     ensures verdict { case_of result ≡
-        verdict tags.now store.now.rows (written_by (trimmed begin store.now.commits)) writes.now label.now }
-    ensures shown { Shows tags.now store.now.rows (trimmed begin store.now.commits) writes.now label.now
+        verdict tags.now store.now.rows
+        (written_by (trimmed begin store.now.commits)) writes.now label.now }
+    ensures shown { Shows tags.now store.now.rows
+        (trimmed begin store.now.commits) writes.now label.now
         (case_of result) (shown_by result) }
 {
     if let Some(write) = first_above(tags, writes.items(), label) {

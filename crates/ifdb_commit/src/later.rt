@@ -7,7 +7,7 @@ ghost use Rattle.ifdb_row.specs.Reach.{skip};
 ghost use Rattle.ifdb_row.specs.Verdict.{meets};
 ghost use Rattle.ifdb_row.specs.Writes.{are_rising};
 ghost use Rattle.ifdb_store.specs.Kept.{trimmed};
-ghost use Rattle.ifdb_store.specs.Later.{are_writes_made};
+ghost use Rattle.ifdb_store.specs.Later.{are_commits_made, are_writes_made};
 ghost use Rattle.ifdb_commit.specs.Meeting.{NamesConflict, is_behind_key, first_met, last_met, met_in, named};
 
 use ifdb_label::Tags;
@@ -35,7 +35,7 @@ pub fn newer<'a>(
     writes: &Writes,
 ) -> Option<LaterWrite<'a>>
     requires own_made { IsTrue (are_writes_made (length tags.now) writes.now) }
-    requires later_made { IsTrue (list_all (λ c. are_writes_made (length tags.now) c.writes) store.now.commits) }
+    requires later_made { IsTrue (are_commits_made (length tags.now) store.now.commits) }
     ensures { NamesConflict tags.now (trimmed begin store.now.commits) writes.now (named result) }
 {
     let own = writes.items();
@@ -54,7 +54,7 @@ fn last_met<'a>(
 ) -> Option<LaterWrite<'a>>
     requires own_made { IsTrue (are_writes_made (length tags.now) own.now) }
     requires rising { IsTrue (are_rising own.now) }
-    requires later_made { IsTrue (list_all (λ c. are_writes_made (length tags.now) c.writes) commits.now) }
+    requires later_made { IsTrue (are_commits_made (length tags.now) commits.now) }
     ensures { named result ≡ last_met tags.now own.now begin commits.now }
 {
     let mut found: Option<LaterWrite<'a>> = None;

@@ -1,8 +1,7 @@
 ghost use Rattle.std.specs.Prelude.{◌≡◌, IfOk, IsTrue, length};
-ghost use Rattle.std.specs.List.{list_all};
 ghost use Rattle.ifdb_label.specs.Tags.{AreMade};
 ghost use Rattle.ifdb_row.specs.Writes.{is_fitting};
-ghost use Rattle.ifdb_store.specs.Later.{are_writes_made};
+ghost use Rattle.ifdb_store.specs.Later.{are_commits_made, are_writes_made};
 
 use crate::{Judged, verdict};
 use ifdb_label::{Label, Tag, TagFault, TagKind, Tags};
@@ -147,7 +146,7 @@ fn one_tag(alloc: Global) -> Result<Tags, TagFault>
 /// The store after the log.
 fn store_of(alloc: Global, tags: &Tags) -> Result<Store, OutOfMemory>
     requires { length tags.now ≡ 1 }
-    ensures { IfOk result (λ store. IsTrue (list_all (λ c. are_writes_made (length tags.now) c.writes) store.commits)) }
+    ensures { IfOk result (λ store. IsTrue (are_commits_made (length tags.now) store.commits)) }
 {
     let mut store = Store::new(alloc)?;
     for entry in &LOG {

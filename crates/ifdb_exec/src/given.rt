@@ -34,7 +34,8 @@ impl<'k> Given<'k> {
     pub(crate) fn keyed(&self) -> Option<KeyedTable<'k>>
         ensures keyed { IfSome result (λ it. (rows : List AnyRow)
             → is_given_keyed rows self.now ≡ are_keyed it.table it.key.now rows) }
-        ensures rows { IfSome result (λ it. (tags : List MadeTag) (rows : List AnyRow) (label : List ℕ)
+        ensures rows { IfSome result
+            (λ it. (tags : List MadeTag) (rows : List AnyRow) (label : List ℕ)
             → rows_given tags rows label self.now ≡ table_rows tags rows it.table label) }
     {
         match self {
@@ -45,7 +46,8 @@ impl<'k> Given<'k> {
 
     /// The table, if the rows are in one.
     pub(crate) fn table(&self) -> Option<TableId>
-        ensures { IfSome result (λ table. (tags : List MadeTag) (rows : List AnyRow) (label : List ℕ)
+        ensures { IfSome result
+            (λ table. (tags : List MadeTag) (rows : List AnyRow) (label : List ℕ)
             → rows_given tags rows label self.now ≡ table_rows tags rows table label) }
     {
         match self {

@@ -1,7 +1,6 @@
 // Whether conditions hold.
-ghost use Rattle.std.specs.Prelude.{◌≡◌, List};
+ghost use Rattle.std.specs.Prelude.{◌≡◌};
 ghost use Rattle.std.specs.List.{list_all, list_any};
-ghost use Rattle.ifdb_value.specs.declared.value.Value.{Value};
 ghost use Rattle.ifdb_bound.specs.Query.{values_of};
 ghost use Rattle.ifdb_bound.specs.Conditions.{holds, compares, operand_value};
 ghost use Rattle.ifdb_expr.specs.ByReference.{owned};
@@ -54,7 +53,8 @@ fn all_hold(conds: &[BoundCond], frame: &Frame<'_>) -> bool
 
 /// Whether a comparison holds of the rows.
 fn compare_holds(left: &BoundOperand, how: Compare, right: &BoundOperand, frame: &Frame<'_>) -> bool
-    ensures { result ≡ compares how (operand_value (values_of frame.now) left.now) (operand_value (values_of frame.now) right.now) }
+    ensures { result ≡ compares how (operand_value (values_of frame.now) left.now)
+        (operand_value (values_of frame.now) right.now) }
 {
     compares(how, operand(left, frame), operand(right, frame))
 }

@@ -38,7 +38,8 @@ pub fn value<'a>(expr: &'a BoundExpr, frame: &Frame<'a>) -> Option<ValueRef<'a>>
 /// The sum of two numbers, if it is an `i64`.
 #[tactic(auto, using(crate::proofs::Numbers::in_range_fits, crate::proofs::Numbers::out_of_range))]
 fn added<'a>(left: Option<ValueRef<'a>>, right: Option<ValueRef<'a>>) -> Option<ValueRef<'a>>
-    ensures { option_owned result ≡ operate ◌+ℤ◌ (option_owned left.entry) (option_owned right.entry) }
+    ensures { option_owned result
+        ≡ operate ◌+ℤ◌ (option_owned left.entry) (option_owned right.entry) }
 {
     match (left, right) {
         (Some(ValueRef::Int(a)), Some(ValueRef::Int(b))) => match add(a, b) {
@@ -52,7 +53,8 @@ fn added<'a>(left: Option<ValueRef<'a>>, right: Option<ValueRef<'a>>) -> Option<
 /// The difference of two numbers, if it is an `i64`.
 #[tactic(auto, using(crate::proofs::Numbers::in_range_fits, crate::proofs::Numbers::out_of_range))]
 fn subtracted<'a>(left: Option<ValueRef<'a>>, right: Option<ValueRef<'a>>) -> Option<ValueRef<'a>>
-    ensures { option_owned result ≡ operate ◌-ℤ◌ (option_owned left.entry) (option_owned right.entry) }
+    ensures { option_owned result
+        ≡ operate ◌-ℤ◌ (option_owned left.entry) (option_owned right.entry) }
 {
     match (left, right) {
         (Some(ValueRef::Int(a)), Some(ValueRef::Int(b))) => match sub(a, b) {
@@ -66,7 +68,8 @@ fn subtracted<'a>(left: Option<ValueRef<'a>>, right: Option<ValueRef<'a>>) -> Op
 /// The product of two numbers, if it is an `i64`.
 #[tactic(auto, using(crate::proofs::Numbers::in_range_fits, crate::proofs::Numbers::out_of_range))]
 fn multiplied<'a>(left: Option<ValueRef<'a>>, right: Option<ValueRef<'a>>) -> Option<ValueRef<'a>>
-    ensures { option_owned result ≡ operate ◌*ℤ◌ (option_owned left.entry) (option_owned right.entry) }
+    ensures { option_owned result
+        ≡ operate ◌*ℤ◌ (option_owned left.entry) (option_owned right.entry) }
 {
     match (left, right) {
         (Some(ValueRef::Int(a)), Some(ValueRef::Int(b))) => match mul(a, b) {

@@ -24,7 +24,8 @@ pub struct LeftRow<'a> {
 ///
 /// Takes no memory, and costs two look-ups for each reference of a written row.
 pub fn first_broken<'a, R: Rows>(before: &R, writes: &'a Writes) -> Option<&'a Write>
-    ensures { option_copied result ≡ find (λ w. is_broken (after (R.rows before.now) writes.now) w.row) writes.now }
+    ensures { option_copied result
+        ≡ find (λ w. is_broken (after (R.rows before.now) writes.now) w.row) writes.now }
 {
     for write in writes.items() {
         if is_broken(before, writes, write) {
@@ -46,7 +47,8 @@ fn is_broken<R: Rows>(before: &R, writes: &Writes, write: &Write) -> bool
 
 /// Whether some slot of the list is empty after the writes.
 fn has_gone<R: Rows>(before: &R, writes: &Writes, refs: &[Slot]) -> bool
-    ensures { result ≡ list_any (λ p. not (live (after (R.rows before.now) writes.now) p)) refs.now }
+    ensures { result
+        ≡ list_any (λ p. not (live (after (R.rows before.now) writes.now) p)) refs.now }
 {
     for slot in refs {
         if !is_live_after(before, writes, slot) {
@@ -94,7 +96,8 @@ pub fn first_left<'a, R: Rows>(before: &'a R, writes: &'a Writes) -> Option<Left
 
 /// The first row that is bound after the writes to a slot which they empty.
 fn first_child<'a, R: Rows>(before: &'a R, writes: &'a Writes) -> Option<&'a Row>
-    ensures { option_copied result ≡ find (is_left writes.now) (after (R.rows before.now) writes.now) }
+    ensures { option_copied result
+        ≡ find (is_left writes.now) (after (R.rows before.now) writes.now) }
 {
     let kept = first_kept(before, writes);
     let written = first_written(writes, writes.items());
@@ -103,7 +106,8 @@ fn first_child<'a, R: Rows>(before: &'a R, writes: &'a Writes) -> Option<&'a Row
 
 /// The first such row of those before that aren't written.
 fn first_kept<'a, R: Rows>(before: &'a R, writes: &Writes) -> Option<&'a Row>
-    ensures row { option_copied result ≡ find (unwritten writes.now (is_left writes.now)) (R.rows before.now) }
+    ensures row { option_copied result
+        ≡ find (unwritten writes.now (is_left writes.now)) (R.rows before.now) }
     ensures rising { IsTrue (rising (R.rows before.now)) }
 {
     // Each answer also says that the rows rise.
@@ -117,7 +121,8 @@ fn first_kept<'a, R: Rows>(before: &'a R, writes: &Writes) -> Option<&'a Row>
 
 /// The first row of those before that isn't written and is bound to the write's slot, if the write empties it.
 fn kept_child<'a, R: Rows>(before: &'a R, writes: &Writes, write: &Write) -> Option<&'a Row>
-    ensures { option_copied result ≡ find (unwritten writes.now (λ r. empties_parent r write.now)) (R.rows before.now) }
+    ensures { option_copied result
+        ≡ find (unwritten writes.now (λ r. empties_parent r write.now)) (R.rows before.now) }
 {
     match &write.row {
         Some(_) => None,
@@ -127,7 +132,8 @@ fn kept_child<'a, R: Rows>(before: &'a R, writes: &Writes, write: &Write) -> Opt
 
 /// The first row that isn't written and is bound to a slot.
 fn unwritten_child<'a, R: Rows>(before: &'a R, writes: &Writes, slot: &Slot) -> Option<&'a Row>
-    ensures { option_copied result ≡ find (λ r. not (is_written writes.now r.slot) && is_child_of slot.now r) (R.rows before.now) }
+    ensures { option_copied result ≡ find
+        (λ r. not (is_written writes.now r.slot) && is_child_of slot.now r) (R.rows before.now) }
 {
     let mut after: Option<&'a Slot> = None;
     'children: while let Some(row) = before.bound_to(slot, after) {

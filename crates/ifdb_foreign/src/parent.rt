@@ -1,5 +1,5 @@
 // The parents that rows are bound to.
-ghost use Rattle.std.specs.Prelude.{◌≡◌, ◌&&◌, IsTrue, find, length};
+ghost use Rattle.std.specs.Prelude.{◌≡◌, ◌&&◌, find, length};
 ghost use Rattle.std.specs.Option.{option_copied};
 ghost use Rattle.ifdb_label.specs.Tags.{AreMade};
 ghost use Rattle.ifdb_row.specs.Slots.{is_of_key};
@@ -47,7 +47,8 @@ fn first_serving<'a, R: Rows>(
 ) -> Option<&'a Row>
     requires made { IsMade from (R.rows rows.now) }
     ensures { option_copied result ≡
-        find (λ r. is_of_key table key.now r.slot && candidate from.entry.tags.now r.slot.label from.entry.label.now from.entry.given.now)
+        find (λ r. is_of_key table key.now r.slot
+        && candidate from.entry.tags.now r.slot.label from.entry.label.now from.entry.given.now)
         (R.rows rows.now) }
 {
     let mut after: Option<&Label> = None;
@@ -65,7 +66,8 @@ fn serves(from: Standpoint<'_>, parent: &Label) -> bool
     requires parent_made { AreMade (length from.tags.now) parent.now }
     requires label_made { AreMade (length from.tags.now) from.label.now }
     requires given_made { AreMade (length from.tags.now) from.given.now }
-    ensures { result ≡ candidate from.entry.tags.now parent.now from.entry.label.now from.entry.given.now }
+    ensures { result
+        ≡ candidate from.entry.tags.now parent.now from.entry.label.now from.entry.given.now }
 {
     let child = from.label;
     let to_child = parent.flows_to_union(from.tags, child, from.given);

@@ -1,5 +1,5 @@
 // Parents of rows, and what writes leave without them, over plain rows.
-ghost use Rattle.std.specs.Prelude.{◌≡◌, IfOk, IsTrue, OnOk, length};
+ghost use Rattle.std.specs.Prelude.{◌≡◌, IfOk, IsTrue, length};
 ghost use Rattle.ifdb_label.specs.Tags.{AreMade};
 ghost use Rattle.ifdb_row.specs.Seen.{are_rows_made};
 ghost use Rattle.ifdb_row.specs.Writes.{is_fitting};

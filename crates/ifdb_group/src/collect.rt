@@ -1,5 +1,5 @@
 // Lists of values of which one may be out of range.
-ghost use Rattle.std.specs.Prelude.{◌≡◌, map, Option};
+ghost use Rattle.std.specs.Prelude.{map, Option};
 ghost use Rattle.std.specs.Fn.{FnReturnsAt};
 ghost use Rattle.ifdb_bound.specs.Query.{all_some};
 ghost use Rattle.ifdb_expr.specs.Tells.{Tells};
@@ -15,7 +15,8 @@ pub(crate) fn collected<X, T: Drop, F: Fn(&X) -> Result<T, ExprFault>>(
     give: F,
 ) -> Result<Sequence<T>, ExprFault>
     requires { F.IsAlwaysCallable give }
-    ensures { (gives : X → Option T) → ((x : X) (r : _) → FnReturnsAt F.Fn give x r → Tells (gives x) r) → Tells (all_some (map gives items.now)) result }
+    ensures { (gives : X → Option T) → ((x : X) (r : _) → FnReturnsAt F.Fn give x r
+        → Tells (gives x) r) → Tells (all_some (map gives items.now)) result }
 {
     let mut all = Sequence::new(alloc);
     for item in items {

@@ -43,7 +43,8 @@ impl<'a> Table<'a> {
         key: &[ValueRef<'a>],
         frame: &Frame<'a>,
     ) -> Result<(), OutOfMemory>
-        ensures { OnOk result ((columns : List BoundColumn) → map owned key.now ≡ group_key columns frame.now
+        ensures { OnOk result
+            ((columns : List BoundColumn) → map owned key.now ≡ group_key columns frame.now
             → (groups : List Group) → Stands items.now self.old groups
             → Stands items.now self.new (with_member columns groups frame.now)) }
     {
@@ -64,7 +65,8 @@ impl<'a> Table<'a> {
     ) -> Result<(), OutOfMemory>
         requires { list_any (λ k. same_values k (map owned key.now)) self.old.keys ≡ false }
         ensures { OnOk result ((self.new.keys ≡ self.old.keys ++ map owned key.now ∷ [])
-            × (self.new.totals.items ≡ self.old.totals.items ++ totals_of items.now (frame.now ∷ []) ∷ [])) }
+            × (self.new.totals.items
+            ≡ self.old.totals.items ++ totals_of items.now (frame.now ∷ []) ∷ [])) }
     {
         let mut total = Total::new(alloc, items)?;
         total.add(frame)?;

@@ -107,10 +107,14 @@ pub trait Site {
     /// none out. A refusal takes none of the site's doors.
     fn doors(&mut self, port: u16, count: usize, links: u64) -> Result<Vec<Self::Door>, SiteFault>
         ensures count { IfOk result (λ doors. vec_len doors ≡ count) }
-        ensures most { IfOk result (λ doors. All (λ door. Self.Door.Door.most door ≤ links) doors.items) }
-        ensures none_out { IfOk result (λ doors. All (λ door. Self.Door.Door.out door ≡ 0) doors.items) }
-        ensures asked { asked self.new ≡ Some (record { port = port; count = count; links = links }) }
-        ensures first { IfOk result (λ doors. LosesFirst (waiting self.old) (waiting self.new) doors.items) }
+        ensures most { IfOk result
+            (λ doors. All (λ door. Self.Door.Door.most door ≤ links) doors.items) }
+        ensures none_out { IfOk result
+            (λ doors. All (λ door. Self.Door.Door.out door ≡ 0) doors.items) }
+        ensures asked { asked self.new
+            ≡ Some (record { port = port; count = count; links = links }) }
+        ensures first { IfOk result
+            (λ doors. LosesFirst (waiting self.old) (waiting self.new) doors.items) }
         ensures refused { OnErr result (Stays (waiting self.old) (waiting self.new)) }
         ensures back { Stays (back self.old) (back self.new) }
         ensures later { faults self.old ≤ faults self.new }

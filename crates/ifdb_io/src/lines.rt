@@ -131,7 +131,8 @@ impl LineReader {
 
         // What each answer says of the bytes.
         ensures whole { result ≡ Ok Line.Whole →
-            Gives self.old self.new (R.left source.old) (R.left source.new) (self.new.text ++ 10 ∷ []) }
+            Gives self.old self.new (R.left source.old) (R.left source.new)
+            (self.new.text ++ 10 ∷ []) }
         ensures whole_line { result ≡ Ok Line.Whole → IsLine self.new.text }
         ensures whole_kept { result ≡ Ok Line.Whole → self.new.skipping ≡ false }
         ensures long { result ≡ Ok Line.TooLong →
@@ -214,7 +215,8 @@ impl LineReader {
         ensures some { result ≡ Ok true → 0 < length self.new.held }
         ensures none { result ≢ Ok true → self.new.held ≡ [] }
         ensures end { result ≡ Ok false → IsAtEnd (R.left source.new) }
-        ensures read { result ≡ Err LineFault.Read → Rose (R.faults source.old) (R.faults source.new) }
+        ensures read { result ≡ Err LineFault.Read
+            → Rose (R.faults source.old) (R.faults source.new) }
         ensures going { result ≡ Ok true → self.new.over ≡ false }
         ensures over { result ≢ Ok true → self.new.over ≡ true }
         ensures text { self.new.text ≡ self.old.text }
@@ -260,7 +262,8 @@ impl LineReader {
             Passes self.old self.new (R.left source.old) (R.left source.new) }
         ensures none { self.new.held ≡ [] }
         ensures end { OnOk result (IsAtEnd (R.left source.new)) }
-        ensures read { result ≡ Err LineFault.Read → Rose (R.faults source.old) (R.faults source.new) }
+        ensures read { result ≡ Err LineFault.Read
+            → Rose (R.faults source.old) (R.faults source.new) }
         ensures over { self.new.over ≡ true }
         ensures text { self.new.text ≡ self.old.text }
         ensures limit { self.new.limit ≡ self.old.limit }
@@ -283,7 +286,8 @@ impl LineReader {
     fn gather(&mut self) -> Gathered
         requires line { IsLine self.old.text }
         requires some { 0 < length self.old.held }
-        ensures newline { result ≡ Gathered.Line → Cuts self.old self.new (self.new.text ++ 10 ∷ []) }
+        ensures newline { result ≡ Gathered.Line
+            → Cuts self.old self.new (self.new.text ++ 10 ∷ []) }
         ensures newline_kept { result ≡ Gathered.Line → self.new.skipping ≡ false }
         ensures long { result ≡ Gathered.Long → Cuts self.old self.new self.new.text }
         ensures long_line { result ≡ Gathered.Long → IsLong self.new.text }
@@ -321,7 +325,8 @@ impl LineReader {
         requires plain { self.old.skipping ≡ false }
         requires line { IsLine self.old.text }
         requires some { 0 < length self.old.held }
-        ensures newline { result ≡ Gathered.Line → Cuts self.old self.new (self.new.text ++ 10 ∷ []) }
+        ensures newline { result ≡ Gathered.Line
+            → Cuts self.old self.new (self.new.text ++ 10 ∷ []) }
         ensures newline_kept { result ≡ Gathered.Line → self.new.skipping ≡ false }
         ensures long { result ≡ Gathered.Long → Cuts self.old self.new self.new.text }
         ensures long_line { result ≡ Gathered.Long → IsLong self.new.text }

@@ -1,5 +1,5 @@
 // Sites in memory.
-ghost use Rattle.std.specs.Prelude.{◌≡◌, ◌≤◌, true, [], None, All, IfOk};
+ghost use Rattle.std.specs.Prelude.{◌≡◌, ◌≤◌, true, [], None, All};
 ghost use Rattle.std.specs.Vec.Iter.{into_iter_len};
 
 use crate::{Asked, Link, MemoryDoor, Site, SiteFault};

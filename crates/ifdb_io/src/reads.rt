@@ -12,7 +12,8 @@ fn fill<R: Source>(source: &mut R, buffer: &mut [u8], room: usize) -> Result<usi
     requires fits { room ≤ length buffer.old }
     requires some { 0 < room }
     ensures bound { IfOk result (λ n. n ≤ room) }
-    ensures bytes { IfOk result (λ n. Consumes (R.left source.old) (R.left source.new) (take n buffer.new)) }
+    ensures bytes { IfOk result
+        (λ n. Consumes (R.left source.old) (R.left source.new) (take n buffer.new)) }
     ensures end { result ≡ Ok 0 → IsAtEnd (R.left source.new) }
     ensures kept { OnErr result (Keeps (R.left source.old) (R.left source.new)) }
     ensures cause { HasCause (R.faults source.old) (R.faults source.new) result }
@@ -27,7 +28,8 @@ pub fn refill<R: Source>(source: &mut R, chunk: &mut Vec<u8>, room: usize) -> Re
     requires some { 0 < room }
     ensures bound { IfOk result (λ n. n ≤ room) }
     ensures length { vec_len chunk.new ≡ vec_len chunk.old }
-    ensures bytes { IfOk result (λ n. Consumes (R.left source.old) (R.left source.new) (take n chunk.new.items)) }
+    ensures bytes { IfOk result
+        (λ n. Consumes (R.left source.old) (R.left source.new) (take n chunk.new.items)) }
     ensures end { result ≡ Ok 0 → IsAtEnd (R.left source.new) }
     ensures kept { OnErr result (Keeps (R.left source.old) (R.left source.new)) }
     ensures cause { HasCause (R.faults source.old) (R.faults source.new) result }

@@ -1,5 +1,5 @@
 // Sources in memory.
-ghost use Rattle.std.specs.Prelude.{◌≡◌, ◌<◌, [], length, drop, is_err, IfOk};
+ghost use Rattle.std.specs.Prelude.{◌≡◌, ◌<◌, length, drop, is_err, IfOk};
 ghost use Rattle.std.specs.Io.{ReadsAtMost};
 ghost use Rattle.std.specs.Io.KnownBytes.{ReadConsumes};
 ghost use Rattle.ifdb_io.specs.Causes.{HasCause};
@@ -52,8 +52,10 @@ impl Source for SureSource {
         ensures bound { ReadsAtMost result buf.new }
         ensures bytes { ReadConsumes (Some self.old.left) (Some self.new.left) result buf.new }
         ensures cause { HasCause 0 0 result }
-        ensures count { result ≡ Ok (portion (length self.old.left) self.old.piece (length buf.old)) }
-        ensures state { IfOk result (λ n. self.new ≡ record self.old { left = drop n self.old.left }) }
+        ensures count { result
+            ≡ Ok (portion (length self.old.left) self.old.piece (length buf.old)) }
+        ensures state { IfOk result
+            (λ n. self.new ≡ record self.old { left = drop n self.old.left }) }
     {
         let count = (self.bytes.len() - self.given)
             .min(self.piece)
@@ -121,7 +123,8 @@ impl Source for MemorySource {
         ensures bytes { ReadConsumes (Some self.old.left) (Some self.new.left) result buf.new }
         ensures cause { HasCause self.old.faults self.new.faults result }
         ensures fails { is_err result ≡ is_listed self.old.fails self.old.calls }
-        ensures count { IfOk result (λ n. n ≡ portion (length self.old.left) self.old.piece (length buf.old)) }
+        ensures count { IfOk result
+            (λ n. n ≡ portion (length self.old.left) self.old.piece (length buf.old)) }
         ensures state { self.new ≡ feed_after self.old (length buf.old) }
     {
         let call = self.calls;

@@ -35,7 +35,8 @@ fn first_seen<'a, R: Rows>(
     requires rows_made { IsTrue (are_rows_made (length tags.now) (R.rows rows.now)) }
     requires label_made { AreMade (length tags.now) label.now }
     ensures { option_copied result ≡
-        find (λ r. is_of_key table key.now r.slot && flows tags.now r.slot.label label.now) (R.rows rows.now) }
+        find (λ r. is_of_key table key.now r.slot && flows tags.now r.slot.label label.now)
+        (R.rows rows.now) }
 {
     let mut after: Option<&Label> = None;
     'keyed: while let Some(row) = rows.of_key(table, key, after) {

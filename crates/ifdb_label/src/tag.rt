@@ -187,8 +187,10 @@ impl Tags {
         ensures accepted { OnOk result (refusal self.old parents.now ≡ None) }
 
         // Each refusal, and want of memory apart from these.
-        ensures unknown { (result ≡ Err UnknownTag) ↔ (refusal self.old parents.now ≡ Some UnknownTag) }
-        ensures plain { (result ≡ Err NotCompound) ↔ (refusal self.old parents.now ≡ Some NotCompound) }
+        ensures unknown { (result ≡ Err UnknownTag)
+            ↔ (refusal self.old parents.now ≡ Some UnknownTag) }
+        ensures plain { (result ≡ Err NotCompound)
+            ↔ (refusal self.old parents.now ≡ Some NotCompound) }
         ensures err { OnErr result (self.new ≡ self.old) }
     {
         if !self.are_made(parents) {

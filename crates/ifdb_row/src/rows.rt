@@ -58,7 +58,8 @@ pub trait Rows {
 
     /// The key's first row behind a label, or its first.
     final fn of_key(&self, table: TableId, key: &[Value], after: Option<&Label>) -> Option<&Row>
-        ensures row { option_copied result ≡ of_key_behind table key.now after.entry (rows self.now) }
+        ensures row { option_copied result
+            ≡ of_key_behind table key.now after.entry (rows self.now) }
         ensures rising { IsTrue (rising (rows self.now)) }
     {
         let _slot: Option<&Slot> = None;

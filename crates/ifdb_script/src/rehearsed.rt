@@ -1,5 +1,5 @@
 // What a run of a script comes to, in numbers.
-ghost use Rattle.std.specs.Prelude.{◌≡◌, ◌+◌, ◌<◌, ◌^◌, ◌++◌, IfOk, OnOk, codes, decimal};
+ghost use Rattle.std.specs.Prelude.{◌≡◌, ◌+◌, ◌<◌, ◌^◌, ◌++◌, IfOk, OnOk};
 ghost use Rattle.ifdb_script.specs.Rehearsal.{counted_as, rehearsed_text};
 ghost use Rattle.ifdb_script.specs.Rehearsing.{IsFew, counted, none_counted};
 

@@ -41,19 +41,23 @@ pub fn run_script<R: Source, W: Sink>(
 ) -> ScriptEnd
     requires { limit ≤ 2 ^ 40 }
     ensures done { result ≡ ScriptEnd.Done
-        → RanWhole limit (R.left input.old) (R.left input.new) (W.written output.old) (W.written output.new) }
+        → RanWhole limit (R.left input.old) (R.left input.new) (W.written output.old)
+        (W.written output.new) }
 
     // A fault, and what was written before it.
     ensures read { result ≡ ScriptEnd.ReadFault → Rose (R.faults input.old) (R.faults input.new) }
     ensures read_front { result ≡ ScriptEnd.ReadFault → RanFront (λ n. n ≤ limit)
         (R.left input.old) (R.left input.new) (W.written output.old) (W.written output.new) }
-    ensures write { result ≡ ScriptEnd.WriteFault → Rose (W.faults output.old) (W.faults output.new) }
+    ensures write { result ≡ ScriptEnd.WriteFault
+        → Rose (W.faults output.old) (W.faults output.new) }
     ensures write_front { result ≡ ScriptEnd.WriteFault
-        → RanCut limit (R.left input.old) (R.left input.new) (W.written output.old) (W.written output.new) }
+        → RanCut limit (R.left input.old) (R.left input.new) (W.written output.old)
+        (W.written output.new) }
     ensures too_large { result ≡ ScriptEnd.TooLarge → RanFront (λ n. n ≡ limit + 1)
         (R.left input.old) (R.left input.new) (W.written output.old) (W.written output.new) }
 
-    ensures memory { result ≡ ScriptEnd.OutOfMemory → (input.new ≡ input.old) × (output.new ≡ output.old) }
+    ensures memory { result ≡ ScriptEnd.OutOfMemory
+        → (input.new ≡ input.old) × (output.new ≡ output.old) }
     ensures input_later { R.faults input.old ≤ R.faults input.new }
     ensures output_later { W.faults output.old ≤ W.faults output.new }
 {
@@ -90,7 +94,8 @@ fn run_lines<R: Source, W: Sink>(
     ensures read { result ≡ ScriptEnd.ReadFault → Rose (R.faults input.old) (R.faults input.new) }
     ensures read_front { result ≡ ScriptEnd.ReadFault → RanFront (λ n. n ≤ reader.old.limit)
         (R.left input.old) (R.left input.new) (W.written output.old) (W.written output.new) }
-    ensures write { result ≡ ScriptEnd.WriteFault → Rose (W.faults output.old) (W.faults output.new) }
+    ensures write { result ≡ ScriptEnd.WriteFault
+        → Rose (W.faults output.old) (W.faults output.new) }
     ensures write_front { result ≡ ScriptEnd.WriteFault → RanCut reader.old.limit
         (R.left input.old) (R.left input.new) (W.written output.old) (W.written output.new) }
     ensures too_large { result ≡ ScriptEnd.TooLarge → RanFront (λ n. n ≡ reader.old.limit + 1)
@@ -148,7 +153,8 @@ fn do_step(room: &mut Room, line: StepLine<'_>, out: &mut Out)
 }
 
 fn open(room: &mut Room, out: &mut Out)
-    ensures { Does read_line room.old room.new opens out.new.text ⊎ Does read_line room.old room.new (refused 0) out.new.text }
+    ensures { Does read_line room.old room.new opens out.new.text
+        ⊎ Does read_line room.old room.new (refused 0) out.new.text }
 {
     match room.sessions().checked_add(1) {
         // No memory holds so many sessions.

@@ -136,7 +136,8 @@ pub(crate) fn item_kind(scope: &[ScopeSource<'_>], item: &BoundItem) -> Option<V
 /// The kind of the label of a source's row, or `None` where there is no such source.
 #[tactic(auto, using(crate::proofs::ColumnKinds::as_many_kinds))]
 fn label_kind(scope: &[ScopeSource<'_>], source: usize) -> Option<ValueKind>
-    ensures { result ≡ (if nat_lt source (length (kinds_in scope.now)) then Some kind.Text else None) }
+    ensures { result
+        ≡ (if nat_lt source (length (kinds_in scope.now)) then Some kind.Text else None) }
 {
     if source < scope.len() {
         Some(ValueKind::Text)

@@ -1,5 +1,5 @@
 // What a column's name may mean.
-ghost use Rattle.std.specs.Prelude.{◌≡◌, ◌+◌, ◌^◌, ◌<◌, ◌∷◌, [], length, map};
+ghost use Rattle.std.specs.Prelude.{◌≡◌, ◌+◌, ◌^◌, ◌<◌, [], length, map};
 ghost use Rattle.ifdb_select.specs.Meaning.{columns_called, meaning, only, with_more};
 
 use crate::named::Named;
@@ -44,7 +44,8 @@ impl Meaning {
 #[tactic(auto, using(crate::proofs::Meanings::meaning_behind))]
 pub(crate) fn meaning_from<T: Named>(columns: &[T], name: &Name, first: BoundColumn) -> Meaning
     requires { first.column + length columns.now < 2 ^ 64 }
-    ensures { result ≡ meaning (columns_called name.now first.source first.column (map T.called columns.now)) }
+    ensures { result
+        ≡ meaning (columns_called name.now first.source first.column (map T.called columns.now)) }
 {
     match columns {
         [] => Meaning::Nothing,

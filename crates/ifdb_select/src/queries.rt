@@ -1,13 +1,13 @@
 // SELECT with numbers for its names.
 ghost use Rattle.std.specs.Prelude.{◌≡◌, ◌++◌, ◌+◌, ◌^◌, ◌<◌, true, false, map, flat_map, length, IfOk, IfErr, OnOk};
 ghost use Rattle.std.specs.List.{list_all};
-ghost use Rattle.ifdb_syntax.specs.declared.select.Source.{Source};
 ghost use Rattle.ifdb_wire.specs.declared.fault.Fault.TheVariants.{UnknownName};
 ghost use Rattle.ifdb_catalog.specs.Public.{table_at};
 ghost use Rattle.ifdb_catalog.specs.Scope.{column_at, is_alias, is_column, scope_of};
-ghost use Rattle.ifdb_catalog.specs.Queries.{all_from, bound_item, bound_relation, bound_order, bound_select, bound_source, columns_from, is_known_item, is_known_order, is_relation, output_names, select_is_known, source_from};
+ghost use Rattle.ifdb_catalog.specs.Queries.{all_from, bound_item, bound_relation, bound_select, bound_source, columns_from, is_known_item, select_is_known, source_from};
 ghost use Rattle.ifdb_select.specs.Lacks.{RefusedUnless};
 ghost use Rattle.ifdb_select.specs.Starred.{starred};
+ghost use Rattle.ifdb_select.specs.Whole.{are_known_orders, are_relations, order_keys};
 
 use crate::OutOfMemory;
 use crate::outputs::{bound_orders, output_names};
@@ -32,9 +32,9 @@ pub fn scope_of<'a>(
     catalog: &'a Catalog,
     sources: &'a [Source],
 ) -> Result<Sequence<ScopeSource<'a>>, Fault>
-    ensures known { IfOk result (λ _. list_all (λ (x : Source). is_relation catalog.now x.name) sources.now ≡ true) }
+    ensures known { IfOk result (λ _. are_relations catalog.now sources.now ≡ true) }
     ensures scope { IfOk result (λ scope. scope ≡ scope_of catalog.now sources.now) }
-    ensures lacks { RefusedUnless (list_all (λ (x : Source). is_relation catalog.now x.name) sources.now) result }
+    ensures lacks { RefusedUnless (are_relations catalog.now sources.now) result }
 {
     let mut scope = Sequence::new(alloc);
     for from in sources {
@@ -50,9 +50,9 @@ fn bound_sources(
     catalog: &Catalog,
     sources: &[Source],
 ) -> Result<BoundSources, Fault>
-    ensures known { IfOk result (λ _. list_all (λ (x : Source). is_relation catalog.now x.name) sources.now ≡ true) }
+    ensures known { IfOk result (λ _. are_relations catalog.now sources.now ≡ true) }
     ensures sources { IfOk result (λ bound. bound ≡ map (bound_source catalog.now) sources.now) }
-    ensures lacks { RefusedUnless (list_all (λ (x : Source). is_relation catalog.now x.name) sources.now) result }
+    ensures lacks { RefusedUnless (are_relations catalog.now sources.now) result }
 {
     let mut bound = BoundSources::new(alloc);
     for from in sources {
@@ -163,7 +163,8 @@ fn add_columns(
     from: &ScopeSource<'_>,
     source: usize,
 ) -> Result<(), OutOfMemory>
-    ensures { OnOk result (trees.new ≡ trees.old ++ starred (columns_from source 0 from.now.columns)) }
+    ensures { OnOk result
+        (trees.new ≡ trees.old ++ starred (columns_from source 0 from.now.columns)) }
 {
     for column in 0..from.width() {
         let place = BoundColumn { source, column };
@@ -177,7 +178,8 @@ fn source_named(scope: &[ScopeSource<'_>], alias: &Name, source: usize) -> Resul
     requires { source + length scope.now < 2 ^ 64 }
     ensures known { IfOk result (λ _. is_alias scope.now alias.now ≡ true) }
     ensures place { IfOk result (λ place. place ≡ source_from alias.now source scope.now) }
-    ensures unknown { IfErr result (λ fault. (fault ≡ UnknownName) × (is_alias scope.now alias.now ≡ false)) }
+    ensures unknown { IfErr result
+        (λ fault. (fault ≡ UnknownName) × (is_alias scope.now alias.now ≡ false)) }
 {
     match scope {
         [] => Err(Fault::UnknownName),
@@ -217,9 +219,9 @@ fn order_keys(
     items: &[Item],
     orders: &[Order],
 ) -> Result<OrderKeys, Fault>
-    ensures known { IfOk result (λ _. list_all (is_known_order (flat_map (output_names scope.now) items.now)) orders.now ≡ true) }
-    ensures keys { IfOk result (λ keys. keys ≡ map (bound_order (flat_map (output_names scope.now) items.now)) orders.now) }
-    ensures lacks { RefusedUnless (list_all (is_known_order (flat_map (output_names scope.now) items.now)) orders.now) result }
+    ensures known { IfOk result (λ _. are_known_orders scope.now items.now orders.now ≡ true) }
+    ensures keys { IfOk result (λ keys. keys ≡ order_keys scope.now items.now orders.now) }
+    ensures lacks { RefusedUnless (are_known_orders scope.now items.now orders.now) result }
 {
     match orders {
         [] => Ok(OrderKeys::new(alloc)),

@@ -98,7 +98,8 @@ impl<'a> ScopeSource<'a> {
 
     /// Adds the names of the columns, in order, to output names.
     pub(crate) fn add_names(&self, names: &mut Sequence<OutputName<'a>>) -> Result<(), OutOfMemory>
-        ensures { OnOk result (names.new ≡ names.old ++ map Some (map (λ (c : Column). c.name) self.now.columns)) }
+        ensures { OnOk result
+            (names.new ≡ names.old ++ map Some (map (λ (c : Column). c.name) self.now.columns)) }
     {
         match &self.columns {
             Listed::Table(columns) => add_named(names, columns),

@@ -1,11 +1,12 @@
 // Sources of statements, with the columns of their tables and views.
-ghost use Rattle.std.specs.Prelude.{◌≡◌, ◌∷◌, [], map, IfOk, Some, length};
+ghost use Rattle.std.specs.Prelude.{◌≡◌, [], map, IfOk, Some, length};
 ghost use Rattle.std.specs.Option.{ok_or};
 ghost use Rattle.ifdb_value.specs.declared.value.ValueKind.TheVariants as kind;
 ghost use Rattle.ifdb_wire.specs.declared.fault.Fault.TheVariants.{UnknownName};
 ghost use Rattle.ifdb_bound.specs.Kinds.{item_kind};
 ghost use Rattle.ifdb_catalog.specs.Public.{relation_named, table_at, view_at};
 ghost use Rattle.ifdb_catalog.specs.Scope.{kind_or, kinds_in, relation_columns, table_columns, table_kinds, view_columns};
+ghost use Rattle.ifdb_select.specs.Whole.{source_called};
 
 use crate::OutOfMemory;
 use crate::kinds::item_kind;
@@ -43,7 +44,8 @@ pub fn source<'a>(
     alias: &'a Name,
     relation: Relation,
 ) -> Result<ScopeSource<'a>, OutOfMemory>
-    ensures { IfOk result (λ s. s ≡ record { alias = alias.now; columns = relation_columns catalog.now (Some relation) }) }
+    ensures { IfOk result
+        (λ s. s ≡ source_called alias.now (relation_columns catalog.now (Some relation))) }
 {
     match relation {
         Relation::Table(table) => Ok(ScopeSource::table(alias, columns_of(catalog, table))),
@@ -58,7 +60,8 @@ fn view_source<'a>(
     alias: &'a Name,
     view: ViewId,
 ) -> Result<ScopeSource<'a>, OutOfMemory>
-    ensures { IfOk result (λ s. s ≡ record { alias = alias.now; columns = view_columns catalog.now (view_at catalog.now view) }) }
+    ensures { IfOk result
+        (λ s. s ≡ source_called alias.now (view_columns catalog.now (view_at catalog.now view))) }
 {
     match catalog.view(view) {
         Some(view) => made_view_source(alloc, catalog, alias, view),
@@ -74,7 +77,7 @@ fn made_view_source<'a>(
     view: &'a ViewDef,
 ) -> Result<ScopeSource<'a>, OutOfMemory>
     requires { length view.now.names ≡ length view.now.select.items }
-    ensures { IfOk result (λ s. s ≡ record { alias = alias.now; columns = view_columns catalog.now view.now }) }
+    ensures { IfOk result (λ s. s ≡ source_called alias.now (view_columns catalog.now view.now)) }
 {
     let kinds = view_kinds(alloc, catalog, view)?;
     Ok(ScopeSource::view(alias, view.names.items(), kinds))
@@ -83,7 +86,8 @@ fn made_view_source<'a>(
 /// The kinds of a view's columns: those of its items over its tables.
 fn view_kinds(alloc: Global, catalog: &Catalog, view: &ViewDef) -> Result<Kinds, OutOfMemory>
     ensures { IfOk result
-        (λ kinds. kinds ≡ map (λ i. kind_or kind.Int (item_kind (table_kinds catalog.now view.now.select.sources) i)) view.now.select.items) }
+        (λ kinds. kinds ≡ map (λ i. kind_or kind.Int
+        (item_kind (table_kinds catalog.now view.now.select.sources) i)) view.now.select.items) }
 {
     let tables = tables_of(alloc, catalog, view)?;
     item_kinds(alloc, tables.items(), view.select.items.items())
@@ -95,7 +99,8 @@ fn item_kinds(
     scope: &[ScopeSource<'_>],
     items: &[BoundItem],
 ) -> Result<Kinds, OutOfMemory>
-    ensures { IfOk result (λ kinds. kinds ≡ map (λ i. kind_or kind.Int (item_kind (kinds_in scope.now) i)) items.now) }
+    ensures { IfOk result (λ kinds. kinds
+        ≡ map (λ i. kind_or kind.Int (item_kind (kinds_in scope.now) i)) items.now) }
 {
     let mut kinds = Sequence::new(alloc);
     for item in items {
@@ -110,7 +115,8 @@ fn tables_of<'a>(
     catalog: &'a Catalog,
     view: &'a ViewDef,
 ) -> Result<Sequence<ScopeSource<'a>>, OutOfMemory>
-    ensures { IfOk result (λ tables. kinds_in tables ≡ table_kinds catalog.now view.now.select.sources) }
+    ensures { IfOk result
+        (λ tables. kinds_in tables ≡ table_kinds catalog.now view.now.select.sources) }
 {
     let mut tables = Sequence::new(alloc);
     for source in view.select.sources.items() {

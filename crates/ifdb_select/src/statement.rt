@@ -260,7 +260,8 @@ fn have_kinds(scope: &[ScopeSource<'_>], items: &[BoundItem]) -> bool
 
 /// Whether each column is there.
 fn are_columns(scope: &[ScopeSource<'_>], columns: &BoundColumns) -> bool
-    ensures { result ≡ list_all (λ c. is_some (kinds.column_kind (kinds_in scope.now) c)) columns.now }
+    ensures { result
+        ≡ list_all (λ c. is_some (kinds.column_kind (kinds_in scope.now) c)) columns.now }
 {
     for column in columns.items() {
         if column_kind(scope, *column).is_none() {

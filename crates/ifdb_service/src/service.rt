@@ -31,7 +31,8 @@ pub fn serve<R: Threads + Wait + Sync, W: Sink, S: Site>(
     ensures done { result ≡ ServiceEnd.Done
         → IsDone S.Site S.Door.Door S.Door.Link.Source S.Door.Link.Sink W.Sink service
         site.old site.new output.old output.new }
-    ensures write { result ≡ ServiceEnd.WriteFault → Rose (W.faults output.old) (W.faults output.new) }
+    ensures write { result ≡ ServiceEnd.WriteFault
+        → Rose (W.faults output.old) (W.faults output.new) }
     ensures cut { result ≡ ServiceEnd.WriteFault
         → IsCut S.Site S.Door.Door S.Door.Link.Source S.Door.Link.Sink W.Sink service
         site.old site.new output.old output.new }

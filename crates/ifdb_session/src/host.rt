@@ -1,5 +1,4 @@
 // What serves the connections of one worker.
-ghost use Rattle.std.specs.Prelude.{◌≡◌};
 
 use crate::{SharedRoom, serve_link};
 use ifdb_io::Link;

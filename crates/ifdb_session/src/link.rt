@@ -1,5 +1,5 @@
 // One connection: its lines are asked one by one, and each reply is written before the next line is read.
-ghost use Rattle.std.specs.Prelude.{◌≡◌, ◌≢◌, ◌≤◌, ◌^◌, ◌++◌, ◌∷◌, [], ℕ, true, false, OnOk, OnErr};
+ghost use Rattle.std.specs.Prelude.{◌≡◌, ◌≢◌, ◌≤◌, ◌^◌, [], ℕ, true, false, OnOk, OnErr};
 ghost use Rattle.std.specs.Io.KnownBytes.{Appends};
 ghost use Rattle.ifdb_io.specs.Causes.{HasCause, Rose, WritesShort};
 ghost use Rattle.ifdb_turn.specs.Passes.{history, places, BelongsTo, IsOrderly};
@@ -8,7 +8,7 @@ ghost use Rattle.ifdb_history.specs.History.{IsRight};
 ghost use Rattle.ifdb_db.specs.Reading.{read_line};
 ghost use Rattle.ifdb_session.specs.Passes.{Sees, Adds, Asks, TakesNoTurn};
 ghost use Rattle.ifdb_session.specs.Seats.{lines_in, IsSeated, IsToldIn};
-ghost use Rattle.ifdb_session.specs.Links.{Served, Span};
+ghost use Rattle.ifdb_session.specs.Links.{Served};
 ghost use Rattle.ifdb_session.specs.Talk.{IsTalked};
 
 use crate::seat::Seat;
@@ -111,12 +111,13 @@ fn talk<R: Wait, K: Link>(
     ensures sees { Sees hall.now pass.old pass.new }
     ensures adds { Adds seat.old.number pass.old pass.new }
     ensures number { seat.new.number ≡ seat.old.number }
-    ensures talked { IsTalked (history pass.new) (places pass.new) seat.new reader.old.limit (record {
-      left = K.left link.old;
-      left_now = K.left link.new;
-      written = K.written link.old;
-      written_now = K.written link.new;
-    }) result }
+    ensures talked { IsTalked (history pass.new) (places pass.new) seat.new reader.old.limit
+        (record {
+          left = K.left link.old;
+          left_now = K.left link.new;
+          written = K.written link.old;
+          written_now = K.written link.new;
+        }) result }
     ensures read_cause { result.ending ≡ Ending.LinkRead
         → Rose (K.Source.faults link.old) (K.Source.faults link.new) }
     ensures write_cause { result.ending ≡ Ending.LinkWrite

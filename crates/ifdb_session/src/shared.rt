@@ -204,7 +204,8 @@ fn tell(
     out: &mut Out,
 ) -> Result<Reply, OutOfMemory>
     requires { MayBeBack room.old n lent.old }
-    ensures asked { OnOk result (GoesBy (with_lent room.old n lent.old) room.new (asks n line.entry)) }
+    ensures asked { OnOk result
+        (GoesBy (with_lent room.old n lent.old) room.new (asks n line.entry)) }
     ensures told { IfOk result (IsReplyTo (with_lent room.old n lent.old) n line.entry) }
     ensures text { IfOk result (λ r. out.new.text ≡ reply_text None r) }
     ensures back { OnOk result (lent.new ≡ None) }

@@ -1,5 +1,5 @@
 // One turn at the shared room each: a session is opened, asks a line, or leaves.
-ghost use Rattle.std.specs.Prelude.{◌≡◌, ◌++◌, ◌∷◌, [], ℕ, List, true, false, IfOk, OnErr, Some};
+ghost use Rattle.std.specs.Prelude.{◌≡◌, ℕ, List, true, IfOk, OnErr, Some};
 ghost use Rattle.ifdb_turn.specs.Passes.{history, places, BelongsTo};
 ghost use Rattle.ifdb_turn.specs.Turns.{object_of, pass_of, IsTurn, Adds as AddsEntry};
 ghost use Rattle.ifdb_db.specs.Reading.{read_line};

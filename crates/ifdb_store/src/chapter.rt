@@ -1,6 +1,6 @@
 // Chapters of pages.
-ghost use Rattle.std.specs.Prelude.{◌≡◌, ◌≤◌, ◌<◌, ◌+◌, ◌++◌, ◌^◌, IfOk, IfSome, IsTrue, None, OnOk, length};
-ghost use Rattle.std.specs.List.{list_all, flat_map};
+ghost use Rattle.std.specs.Prelude.{◌≡◌, ◌≤◌, ◌<◌, ◌+◌, ◌^◌, IfSome, IsTrue, None, OnOk, length};
+ghost use Rattle.std.specs.List.{list_all};
 ghost use Rattle.ifdb_row.specs.Content.{after, rising};
 ghost use Rattle.ifdb_store.specs.Pages.{AddsOne, AddsRows, StaysFull, flat, is_chapter, is_full, is_page};
 

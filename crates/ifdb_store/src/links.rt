@@ -239,7 +239,8 @@ pub(crate) fn first_child<'a>(
 /// The first link from a print whose child is behind a slot, or the first one from it.
 fn next_link<'a>(links: &'a Tree, print: u32, behind: Option<&Slot>) -> Option<&'a Row>
     requires { IsTrue (is_near_if (option_copied behind)) }
-    ensures link { option_copied result ≡ find (is_next_link print (option_copied behind.entry)) links.now }
+    ensures link { option_copied result
+        ≡ find (is_next_link print (option_copied behind.entry)) links.now }
     ensures rising { IsTrue (rising links.now) }
 {
     match behind {
@@ -300,7 +301,8 @@ fn child_of(link: &Row) -> &Slot
 
 /// The row in a slot, if it is bound to another.
 fn child_in<'a>(rows: &'a Tree, child: &Slot, slot: &Slot) -> Option<&'a Row>
-    ensures row { option_copied result ≡ if_passes (is_child_of slot.now) (row_at child.now rows.now) }
+    ensures row { option_copied result
+        ≡ if_passes (is_child_of slot.now) (row_at child.now rows.now) }
     ensures rising { IsTrue (rising rows.now) }
 {
     if_child_of(rows.get(child), slot)

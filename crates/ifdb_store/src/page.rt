@@ -1,6 +1,6 @@
 // Pages of rows.
-ghost use Rattle.std.specs.Prelude.{◌≡◌, ◌≤◌, ◌<◌, ◌+◌, ◌++◌, IfOk, IsTrue, OnOk, length};
-ghost use Rattle.std.specs.List.{list_all, flat_map};
+ghost use Rattle.std.specs.Prelude.{◌≡◌, ◌≤◌, ◌<◌, ◌+◌, ◌++◌, IsTrue, OnOk, length};
+ghost use Rattle.std.specs.List.{list_all};
 ghost use Rattle.ifdb_row.specs.Content.{after, rising};
 ghost use Rattle.ifdb_store.specs.Pages.{flat, is_page};
 

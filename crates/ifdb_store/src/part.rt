@@ -1,8 +1,6 @@
 // Parts of a content: what is found in them, and what they are after writes.
-ghost use Rattle.std.specs.Prelude.{◌≡◌, ◌≤◌, ◌<◌, ◌+◌, ◌-◌, ◌*◌, ◌^◌, ◌/◌, ◌++◌, ℕ, List, Bool, true, IsTrue, OnOk, length, take, drop, not};
+ghost use Rattle.std.specs.Prelude.{◌≡◌, ◌≤◌, ◌<◌, ◌+◌, ◌-◌, ◌*◌, ◌^◌, ◌/◌, ℕ, Bool, true, IsTrue, OnOk, length, take, drop};
 ghost use Rattle.std.specs.List.{list_all, flat_map};
-ghost use Rattle.ifdb_row.specs.declared.row.Row.{Row as AnyRow};
-ghost use Rattle.ifdb_row.specs.Slots.{slot_lt};
 ghost use Rattle.ifdb_row.specs.Edges.{lies_before};
 ghost use Rattle.ifdb_row.specs.Writes.{are_fitting, are_rising};
 ghost use Rattle.ifdb_row.specs.Content.{after, rising};
@@ -40,7 +38,8 @@ pub(crate) trait Part: Placed + Drop {
         requires fitting { IsTrue (are_fitting writes.now) }
         requires rising { IsTrue (are_rising writes.now) }
         requires parts { IsTrue (list_all is_part out.old.items) }
-        ensures rows { OnOk result (AddsAfter Self.rows out.old out.new (Self.rows self.now) writes.now) }
+        ensures rows { OnOk result
+            (AddsAfter Self.rows out.old out.new (Self.rows self.now) writes.now) }
         ensures parts { OnOk result (IsTrue (list_all is_part out.new.items)) };
 
     /// Its first rows, as many as lie side by side.

@@ -1,5 +1,5 @@
 // The store: the newest content, what is prepared, and the commits that somebody may still ask for.
-ghost use Rattle.std.specs.Prelude.{◌≡◌, ◌≤◌, ◌<◌, ◌++◌, ◌∷◌, [], None, Some, IfOk, IsTrue, OnOk, OnErr, length, filter};
+ghost use Rattle.std.specs.Prelude.{◌≡◌, ◌<◌, ◌++◌, ◌∷◌, [], None, Some, IfOk, OnOk, OnErr};
 ghost use Rattle.ifdb_row.specs.Content.{after};
 ghost use Rattle.ifdb_store.specs.Kept.{is_later, trimmed};
 

@@ -113,10 +113,12 @@ fn add_in_four<R: Threads + Wait + Sync>(
     let ((mut pass, second), (third, fourth)) = join(
         rt,
         || -> (Pass<Counter>, Pass<Counter>)
-            requires { IsSync R.row × BelongsTo turnstile.now pass × BelongsTo turnstile.now second }
+            requires { IsSync R.row × BelongsTo turnstile.now pass
+                × BelongsTo turnstile.now second }
         { add_in_two(rt, turnstile, pass, second, often) },
         || -> (Pass<Counter>, Pass<Counter>)
-            requires { IsSync R.row × BelongsTo turnstile.now third × BelongsTo turnstile.now fourth }
+            requires { IsSync R.row × BelongsTo turnstile.now third
+                × BelongsTo turnstile.now fourth }
         { add_in_two(rt, turnstile, third, fourth, often) },
     );
     turnstile.join_pass(&mut pass, second);
@@ -164,9 +166,11 @@ fn finish<N: NamedEntry<Page>>(turn: Turn<'_, Diary>, book: u64, opens: bool)
     requires page { N.entry ≡ Some (record { book = book; opens = opens }) }
     requires pages { (object_of turn).pages ≡ length (history (pass_of turn)) + 1 }
     requires opens { IsTrue opens ↔ (book ≡ length (history (pass_of turn))) }
-    requires book { (book ≡ length (history (pass_of turn))) ⊎ (0 < times book (places (pass_of turn))) }
+    requires book { (book ≡ length (history (pass_of turn)))
+        ⊎ (0 < times book (places (pass_of turn))) }
     ensures pass { BelongsTo (turnstile_of turn.entry) turn.exit.0.now }
-    ensures places { places turn.exit.0.now ≡ places (pass_of turn.entry) ++ length (history (pass_of turn.entry)) ∷ [] }
+    ensures places { places turn.exit.0.now
+        ≡ places (pass_of turn.entry) ++ length (history (pass_of turn.entry)) ∷ [] }
     ensures shares { shares turn.exit.0.now ≡ shares (pass_of turn.entry) }
 {
     turn.done::<N>();

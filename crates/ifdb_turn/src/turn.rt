@@ -26,7 +26,8 @@ impl<'a, O: Object> Turn<'a, O> {
 
     /// The object, to read and to change. What is written through it is the turn's object, and nothing else changes.
     pub fn object(&mut self) -> &mut O
-        ensures* writes_back { sem 𝓛 (follows (the_row (record { mir = named 1; lft = [] }) O.row O.Entry.row O.Object)
+        ensures* writes_back { sem 𝓛
+            (follows (the_row (record { mir = named 1; lft = [] }) O.row O.Entry.row O.Object)
             O.row self.entry.ghost_name result.ghost_name (turn_with self.old)) }
         ensures value { result.now ≡ object_of self.old }
     {

@@ -206,7 +206,8 @@ impl<O: Object> Turnstile<O> {
         requires turn { KnowsAll self.now.table.shared.table_id seat.old }
         requires slot { seat.old.me.1 ≡ (0, None) ∷ [] }
         requires kept { Keeps O.stands seat.old.me.0.table seat.old.me.0.history kept }
-        ensures seat { IsSameSeat seat.old seat.new × (seat.new.me ≡ (record seat.old.me.0 { stage = Idle }, [])) }
+        ensures seat { IsSameSeat seat.old seat.new
+            × (seat.new.me ≡ (record seat.old.me.0 { stage = Idle }, [])) }
         ensures orderly { IsOrderlyView O.right seat.old.me.0 }
     {
         let shared = &self.table.shared;

@@ -14,7 +14,7 @@ use ifdb_wire::Fault;
 use std::alloc::Global;
 
 /// A row's new values, each computed from the old ones. `OutOfRange` exactly where one isn't an `i64`.
-#[tactic(auto, using(crate::proofs::Assigning::assigned_on, crate::proofs::Assigning::assigned_out))]
+#[tactic(auto, using(crate::proofs::Assigning::assigned_on))]
 pub(crate) fn assigned(
     alloc: Global,
     old: &[Value],

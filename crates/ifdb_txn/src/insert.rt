@@ -1,12 +1,11 @@
 // INSERT.
-ghost use Rattle.std.specs.Prelude.{◌≡◌, [], Ok, IfOk, IsTrue, OnOk, false, not};
+ghost use Rattle.std.specs.Prelude.{◌≡◌, [], IfOk, IsTrue, OnOk, false, not};
 ghost use Rattle.ifdb_row.specs.Content.{after};
-ghost use Rattle.ifdb_row.specs.Seen.{clash};
 ghost use Rattle.ifdb_foreign.specs.Parents.{IsMade};
-ghost use Rattle.ifdb_model.specs.Writes.{insert_all, insert_one, new_slot, new_write};
+ghost use Rattle.ifdb_model.specs.Writes.{new_write};
 ghost use Rattle.ifdb_txn.specs.Answers.{Fills, Gives};
 ghost use Rattle.ifdb_txn.specs.Inserted.{are_new};
-ghost use Rattle.ifdb_txn.specs.Scenes.{scene_of};
+ghost use Rattle.ifdb_txn.specs.Scenes.{all_inserted, are_fresh, is_clashing, one_inserted, slot_of};
 
 use crate::OutOfMemory;
 use crate::assigned::copied;
@@ -25,7 +24,7 @@ pub(crate) fn insert_all<R: Rows>(
     values: &[ValueRow],
 ) -> Result<Writes, Fault>
     requires made { IsMade target.now.from (R.rows rows.now) }
-    ensures { Gives (insert_all (scene_of target.now.from (R.rows rows.now)) target.now.table target.now.schema.now values.now (Ok [])) result }
+    ensures { Gives (all_inserted target.now (R.rows rows.now) values.now) result }
 {
     let mut writes = Writes::new(target.alloc);
     insert_into(target, rows, values, &mut writes)?;
@@ -33,7 +32,7 @@ pub(crate) fn insert_all<R: Rows>(
 }
 
 /// Inserts the rows one by one, up to the first refusal.
-#[tactic(auto, using(crate::proofs::Inserting::one_more, crate::proofs::Inserting::all_refused))]
+#[tactic(auto, using(crate::proofs::Inserting::one_more))]
 fn insert_into<R: Rows>(
     target: &Target<'_>,
     rows: &R,
@@ -42,9 +41,9 @@ fn insert_into<R: Rows>(
 ) -> Result<(), Fault>
     requires made { IsMade target.now.from (R.rows rows.now) }
     requires empty { writes.old ≡ [] }
-    ensures fills { Fills (insert_all (scene_of target.now.from (R.rows rows.now)) target.now.table target.now.schema.now values.now (Ok []))
+    ensures fills { Fills (all_inserted target.now (R.rows rows.now) values.now)
         result writes.new }
-    ensures fresh { OnOk result (IsTrue (are_new (R.rows rows.now) target.now.table target.now.from.label.now writes.new)) }
+    ensures fresh { OnOk result (IsTrue (are_fresh target.now (R.rows rows.now) writes.new)) }
 {
     for row in values {
         match insert_one(target, rows, row, writes) {
@@ -64,10 +63,10 @@ fn insert_one<R: Rows>(
     earlier: &mut Writes,
 ) -> Result<(), Fault>
     requires made { IsMade target.now.from (R.rows rows.now) }
-    requires fresh { IsTrue (are_new (R.rows rows.now) target.now.table target.now.from.label.now earlier.old) }
-    ensures fills { Fills (insert_one (scene_of target.now.from (R.rows rows.now)) target.now.table target.now.schema.now earlier.old values.now)
+    requires fresh { IsTrue (are_fresh target.now (R.rows rows.now) earlier.old) }
+    ensures fills { Fills (one_inserted target.now (R.rows rows.now) earlier.old values.now)
         result earlier.new }
-    ensures fresh { OnOk result (IsTrue (are_new (R.rows rows.now) target.now.table target.now.from.label.now earlier.new)) }
+    ensures fresh { OnOk result (IsTrue (are_fresh target.now (R.rows rows.now) earlier.new)) }
 {
     let slot = slot_of(target, values.items())?;
     if !is_free_beside(target, rows, earlier, &slot) {
@@ -86,8 +85,9 @@ fn is_free_beside<R: Rows>(target: &Target<'_>, rows: &R, earlier: &Writes, slot
     requires made { IsMade target.now.from (R.rows rows.now) }
     requires label { slot.now.label ≡ target.now.from.label.now }
     requires fresh { IsTrue (are_new (R.rows rows.now) slot.now.table slot.now.label earlier.now) }
-    ensures free { result ≡ not (clash target.now.from.tags.now (after (R.rows rows.now) earlier.now) slot.now.table slot.now.key slot.now.label) }
-    ensures before { IsTrue result → clash target.now.from.tags.now (R.rows rows.now) slot.now.table slot.now.key slot.now.label ≡ false }
+    ensures free { result
+        ≡ not (is_clashing target.now (after (R.rows rows.now) earlier.now) slot.now) }
+    ensures before { IsTrue result → is_clashing target.now (R.rows rows.now) slot.now ≡ false }
 {
     let _ = earlier.items();
     let before = is_free(
@@ -103,7 +103,7 @@ fn is_free_beside<R: Rows>(target: &Target<'_>, rows: &R, earlier: &Writes, slot
 
 /// Where a new row stands.
 fn slot_of(target: &Target<'_>, values: &[Value]) -> Result<Slot, OutOfMemory>
-    ensures { IfOk result (λ slot. slot ≡ new_slot target.now.table target.now.schema.now values.now target.now.from.label.now) }
+    ensures { IfOk result (λ slot. slot ≡ slot_of target.now values.now) }
 {
     let key = values_at(target.alloc, values, target.schema.key.items())?;
     let label = target.from.label.copy(target.alloc)?;
@@ -128,8 +128,10 @@ pub(crate) fn write_of(
         values,
         refs,
     };
+    let row = Shared::new(alloc, row)?;
+    let slot = slot.copy(alloc)?;
     Ok(Write {
-        slot: slot.copy(alloc)?,
-        row: Some(Shared::new(alloc, row)?),
+        slot,
+        row: Some(row),
     })
 }

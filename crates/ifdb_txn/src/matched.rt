@@ -1,16 +1,15 @@
 // The rows that UPDATE and DELETE are about.
-ghost use Rattle.std.specs.Prelude.{◌≡◌, ◌∷◌, ◌++◌, [], IfOk, OnOk, IsTrue, filter, length, map};
-ghost use Rattle.std.specs.Option.{option_copied};
+ghost use Rattle.std.specs.Prelude.{◌≡◌, ◌∷◌, ◌++◌, [], IfOk, OnOk, IsTrue, length, map};
 ghost use Rattle.ifdb_label.specs.Tags.{AreMade};
 ghost use Rattle.ifdb_bound.specs.Conditions.{passes};
 ghost use Rattle.ifdb_row.specs.Content.{rising};
 ghost use Rattle.ifdb_row.specs.Seen.{are_rows_made};
 ghost use Rattle.ifdb_row.specs.Slots.{is_same_label};
 ghost use Rattle.ifdb_foreign.specs.Parents.{IsMade};
-ghost use Rattle.ifdb_model.specs.Writes.{are_writable, deletion, matched};
+ghost use Rattle.ifdb_model.specs.Writes.{are_writable, deletion};
 ghost use Rattle.ifdb_plan.specs.Keys.{HasKey};
-ghost use Rattle.ifdb_txn.specs.Keyed.{are_keyed};
-ghost use Rattle.ifdb_txn.specs.Matches.{is_wanted, now_of};
+ghost use Rattle.ifdb_txn.specs.Matches.{is_wanted, now_of, wanted_of};
+ghost use Rattle.ifdb_txn.specs.Scenes.{are_under_keys, matched_of};
 
 use crate::OutOfMemory;
 use crate::target::Target;
@@ -32,9 +31,9 @@ pub(crate) fn matched<'a, R: Rows>(
     cond: &Option<BoundCond>,
 ) -> Result<Vec<&'a Row>, OutOfMemory>
     requires made { IsMade target.now.from (R.rows rows.now) }
-    requires keyed { IsTrue (are_keyed target.now.table target.now.schema.now.key (R.rows rows.now)) }
+    requires keyed { IsTrue (are_under_keys target.now (R.rows rows.now)) }
     ensures rows { IfOk result (λ found. map now_of found.items
-        ≡ matched target.now.from.tags.now (R.rows rows.now) target.now.table cond.now target.now.from.label.now) }
+        ≡ matched_of target.now (R.rows rows.now) cond.now) }
     ensures rising { IfOk result (λ found. IsTrue (rising (map now_of found.items))) }
 {
     match whole_key(target.alloc, cond, target.schema.key.items())? {
@@ -51,10 +50,10 @@ fn matched_of_key<'a, R: Rows>(
     key: &[Value],
 ) -> Result<Vec<&'a Row>, OutOfMemory>
     requires made { IsMade target.now.from (R.rows rows.now) }
-    requires keyed { IsTrue (are_keyed target.now.table target.now.schema.now.key (R.rows rows.now)) }
+    requires keyed { IsTrue (are_under_keys target.now (R.rows rows.now)) }
     requires has_key { HasKey cond.now target.now.schema.now.key key.now }
     ensures rows { IfOk result (λ found. map now_of found.items
-        ≡ matched target.now.from.tags.now (R.rows rows.now) target.now.table cond.now target.now.from.label.now) }
+        ≡ matched_of target.now (R.rows rows.now) cond.now) }
     ensures rising { IfOk result (λ found. IsTrue (rising (map now_of found.items))) }
 {
     let mut found: Vec<&'a Row> = Vec::new(target.alloc);
@@ -74,7 +73,7 @@ fn matched_of_table<'a, R: Rows>(
 ) -> Result<Vec<&'a Row>, OutOfMemory>
     requires made { IsMade target.now.from (R.rows rows.now) }
     ensures rows { IfOk result (λ found. map now_of found.items
-        ≡ matched target.now.from.tags.now (R.rows rows.now) target.now.table cond.now target.now.from.label.now) }
+        ≡ matched_of target.now (R.rows rows.now) cond.now) }
     ensures rising { IfOk result (λ found. IsTrue (rising (map now_of found.items))) }
 {
     let mut found: Vec<&'a Row> = Vec::new(target.alloc);
@@ -99,7 +98,7 @@ fn keep_matched<'a>(
     requires rows_made { IsTrue (are_rows_made (length from.tags.now) run.now) }
     requires label_made { AreMade (length from.tags.now) from.label.now }
     ensures { OnOk result (map now_of found.new.items
-        ≡ map now_of found.old.items ++ filter (is_wanted from.entry.tags.now cond.now from.entry.label.now) run.now) }
+        ≡ map now_of found.old.items ++ wanted_of from.entry cond.now run.now) }
 {
     for row in run {
         keep_wanted(from, row.get(), cond, found)?;
@@ -117,7 +116,7 @@ fn keep_wanted<'a>(
     requires row_made { AreMade (length from.tags.now) row.now.slot.label }
     requires label_made { AreMade (length from.tags.now) from.label.now }
     ensures { OnOk result (map now_of found.new.items
-        ≡ map now_of found.old.items ++ filter (is_wanted from.entry.tags.now cond.now from.entry.label.now) (row.now ∷ [])) }
+        ≡ map now_of found.old.items ++ wanted_of from.entry cond.now (row.now ∷ [])) }
 {
     if is_wanted(from, row, cond) {
         found.push(row)?;

@@ -2,9 +2,9 @@
 ghost use Rattle.std.specs.Prelude.{◌≡◌, IfOk};
 ghost use Rattle.std.specs.Option.{option_copied};
 ghost use Rattle.ifdb_bound.specs.Expressions.{value_at};
-ghost use Rattle.ifdb_model.specs.Writes.{bound_parent, bound_parents, rebound, values_at};
+ghost use Rattle.ifdb_model.specs.Writes.{bound_parent, values_at};
 ghost use Rattle.ifdb_foreign.specs.Parents.{Binds, IsMade};
-ghost use Rattle.ifdb_txn.specs.Scenes.{scene_of};
+ghost use Rattle.ifdb_txn.specs.Scenes.{parents_of, rebound_of, scene_of};
 ghost use Rattle.ifdb_txn.specs.Rebinding.{kept_of, kept_or_bound};
 
 use crate::OutOfMemory;
@@ -26,7 +26,7 @@ pub(crate) fn bind_parents<R: Rows>(
     values: &[Value],
 ) -> Result<Refs, Fault>
     requires made { IsMade target.now.from (R.rows rows.now) }
-    ensures { Binds (bound_parents (scene_of target.now.from (R.rows rows.now)) values.now target.now.schema.now.foreign) result }
+    ensures { Binds (parents_of target.now (R.rows rows.now) values.now) result }
 {
     let mut refs = Refs::new(target.alloc);
     for foreign in target.schema.foreign.items() {
@@ -36,7 +36,6 @@ pub(crate) fn bind_parents<R: Rows>(
 }
 
 /// The parents of a row that is updated: those of the foreign keys with an assigned column are bound anew, and the others stay.
-#[tactic(auto, using(crate::proofs::Rebound::with_rebound, crate::proofs::Rebound::without_rebound))]
 pub(crate) fn rebind_parents<R: Rows>(
     target: &Target<'_>,
     rows: &R,
@@ -45,7 +44,8 @@ pub(crate) fn rebind_parents<R: Rows>(
     refs: &[Slot],
 ) -> Result<Refs, Fault>
     requires made { IsMade target.now.from (R.rows rows.now) }
-    ensures { Binds (rebound (scene_of target.now.from (R.rows rows.now)) assignments.now values.now target.now.schema.now.foreign refs.now) result }
+    ensures { Binds (rebound_of target.now (R.rows rows.now) assignments.now values.now refs.now)
+        result }
 {
     let mut found = Refs::new(target.alloc);
     for (at, foreign) in target.schema.foreign.items().iter().enumerate() {
@@ -61,7 +61,8 @@ fn kept<'a>(
     foreign: &Foreign,
     bound: Option<&'a Slot>,
 ) -> Option<&'a Slot>
-    ensures { option_copied result ≡ kept_of assignments.now foreign.now (option_copied bound.entry) }
+    ensures { option_copied result
+        ≡ kept_of assignments.now foreign.now (option_copied bound.entry) }
 {
     if is_assigned(assignments, foreign) {
         return None;
@@ -78,7 +79,8 @@ fn kept_or_bound<R: Rows>(
     kept: Option<&Slot>,
 ) -> Result<Slot, Fault>
     requires made { IsMade target.now.from (R.rows rows.now) }
-    ensures { Binds (kept_or_bound (scene_of target.now.from (R.rows rows.now)) values.now foreign.now (option_copied kept.entry)) result }
+    ensures { Binds (kept_or_bound (scene_of target.now (R.rows rows.now)) values.now foreign.now
+        (option_copied kept.entry)) result }
 {
     match kept {
         Some(slot) => {
@@ -97,7 +99,8 @@ fn parent_by<R: Rows>(
     foreign: &Foreign,
 ) -> Result<Slot, Fault>
     requires made { IsMade target.now.from (R.rows rows.now) }
-    ensures { Binds (bound_parent (scene_of target.now.from (R.rows rows.now)) values.now foreign.now) result }
+    ensures { Binds (bound_parent (scene_of target.now (R.rows rows.now)) values.now foreign.now)
+        result }
 {
     let key = values_at(target.alloc, values, foreign.columns.items())?;
     bind_parent(target.alloc, target.from, rows, foreign.parent, key.items())

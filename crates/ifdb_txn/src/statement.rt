@@ -1,16 +1,16 @@
 // What a statement writes, over the public state.
-ghost use Rattle.std.specs.Prelude.{◌≡◌, ◌<◌, Ok, [], IsTrue, length};
+ghost use Rattle.std.specs.Prelude.{◌<◌, IsTrue, length};
 ghost use Rattle.std.specs.Option.{option_copied};
 ghost use Rattle.ifdb_label.specs.Tags.{AreMade};
 ghost use Rattle.ifdb_bound.specs.declared.request.Bound.TheVariants as bound;
 ghost use Rattle.ifdb_row.specs.Seen.{are_rows_made};
 ghost use Rattle.ifdb_catalog.specs.Fits.{bound_fits};
 ghost use Rattle.ifdb_foreign.specs.Parents.{IsMade};
-ghost use Rattle.ifdb_model.specs.Writes.{counted, delete_matched, insert_all, matched, update_matched, writes_of};
+ghost use Rattle.ifdb_model.specs.Writes.{counted, delete_matched, update_matched, writes_of};
 ghost use Rattle.ifdb_txn.specs.Answers.{Gives};
-ghost use Rattle.ifdb_txn.specs.Keyed.{are_all_keyed, are_keyed};
-ghost use Rattle.ifdb_txn.specs.Scenes.{scene_of};
-ghost use Rattle.ifdb_txn.specs.Tables.{IsTable, IsTarget};
+ghost use Rattle.ifdb_txn.specs.Keyed.{are_all_keyed};
+ghost use Rattle.ifdb_txn.specs.Scenes.{all_inserted, are_under_keys, matched_of, scene_of};
+ghost use Rattle.ifdb_txn.specs.Tables.{IsTable, IsTarget, written_by};
 
 use crate::insert::insert_all;
 use crate::matched::{are_writable, deletions, matched};
@@ -48,11 +48,13 @@ pub struct Writer<'a> {
 /// key, an earlier one of the statement among them; `WriteLabel` where a matching row has another label; `OutOfRange` where an assigned
 /// number isn't an `i64`; `NoReference` where no row may be a parent; in this order, the first row's refusal before the next row's.
 pub fn writes_of<R: Rows>(writer: &Writer<'_>, rows: &R, bound: &Bound) -> Result<Written, Fault>
-    requires rows_made { IsTrue (are_rows_made (length writer.now.catalog.now.tags) (R.rows rows.now)) }
+    requires rows_made { IsTrue
+        (are_rows_made (length writer.now.catalog.now.tags) (R.rows rows.now)) }
     requires rows_keyed { IsTrue (are_all_keyed writer.now.catalog.now (R.rows rows.now)) }
     requires label_made { AreMade (length writer.now.catalog.now.tags) writer.now.label.now }
     requires fits { IsTrue (bound_fits writer.now.catalog.now bound.now) }
-    ensures { Gives (writes_of writer.now.catalog.now writer.now.asker (R.rows rows.now) writer.now.label.now bound.now) result }
+    ensures { Gives (writes_of writer.now.catalog.now writer.now.asker
+        (R.rows rows.now) writer.now.label.now bound.now) result }
 {
     match bound {
         Bound::Insert {
@@ -84,12 +86,12 @@ fn delete<R: Rows>(
     table: TableId,
     cond: &Option<BoundCond>,
 ) -> Result<Written, Fault>
-    requires rows_made { IsTrue (are_rows_made (length writer.now.catalog.now.tags) (R.rows rows.now)) }
+    requires rows_made { IsTrue
+        (are_rows_made (length writer.now.catalog.now.tags) (R.rows rows.now)) }
     requires rows_keyed { IsTrue (are_all_keyed writer.now.catalog.now (R.rows rows.now)) }
     requires label_made { AreMade (length writer.now.catalog.now.tags) writer.now.label.now }
     requires table { table < length writer.now.catalog.now.tables }
-    ensures { Gives (writes_of writer.now.catalog.now writer.now.asker (R.rows rows.now) writer.now.label.now (bound.Delete table cond.now))
-        result }
+    ensures { Gives (written_by writer.now (R.rows rows.now) (bound.Delete table cond.now)) result }
 {
     match table_of(writer.catalog, table) {
         Some(schema) => {
@@ -152,7 +154,7 @@ pub(crate) fn insert_counted<R: Rows>(
 ) -> Result<Written, Fault>
     requires made { IsMade target.now.from (R.rows rows.now) }
     ensures { Gives (counted (length values.now)
-        (insert_all (scene_of target.now.from (R.rows rows.now)) target.now.table target.now.schema.now values.now (Ok []))) result }
+        (all_inserted target.now (R.rows rows.now) values.now)) result }
 {
     let count = values.len() as u64;
     match insert_all(target, rows, values) {
@@ -169,9 +171,9 @@ pub(crate) fn update_matched<R: Rows>(
     cond: &Option<BoundCond>,
 ) -> Result<Written, Fault>
     requires made { IsMade target.now.from (R.rows rows.now) }
-    requires keyed { IsTrue (are_keyed target.now.table target.now.schema.now.key (R.rows rows.now)) }
-    ensures { Gives (update_matched (scene_of target.now.from (R.rows rows.now)) target.now.schema.now assignments.now
-        (matched target.now.from.tags.now (R.rows rows.now) target.now.table cond.now target.now.from.label.now)) result }
+    requires keyed { IsTrue (are_under_keys target.now (R.rows rows.now)) }
+    ensures { Gives (update_matched (scene_of target.now (R.rows rows.now)) target.now.schema.now
+        assignments.now (matched_of target.now (R.rows rows.now) cond.now)) result }
 {
     let found = matched(target, rows, cond)?;
     if !are_writable(target.from.label, &found) {
@@ -192,9 +194,9 @@ pub(crate) fn delete_matched<R: Rows>(
     cond: &Option<BoundCond>,
 ) -> Result<Written, Fault>
     requires made { IsMade target.now.from (R.rows rows.now) }
-    requires keyed { IsTrue (are_keyed target.now.table target.now.schema.now.key (R.rows rows.now)) }
+    requires keyed { IsTrue (are_under_keys target.now (R.rows rows.now)) }
     ensures { Gives (delete_matched target.now.from.label.now
-        (matched target.now.from.tags.now (R.rows rows.now) target.now.table cond.now target.now.from.label.now)) result }
+        (matched_of target.now (R.rows rows.now) cond.now)) result }
 {
     let found = matched(target, rows, cond)?;
     if !are_writable(target.from.label, &found) {

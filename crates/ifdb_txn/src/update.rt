@@ -2,10 +2,9 @@
 ghost use Rattle.std.specs.Prelude.{◌≡◌, ◌++◌, ◌∷◌, [], OnOk, map, IsTrue};
 ghost use Rattle.ifdb_row.specs.Content.{rising};
 ghost use Rattle.ifdb_foreign.specs.Parents.{IsMade};
-ghost use Rattle.ifdb_model.specs.Writes.{update_all, update_one};
 ghost use Rattle.ifdb_txn.specs.Answers.{Fills, Gives};
 ghost use Rattle.ifdb_txn.specs.Matches.{now_of};
-ghost use Rattle.ifdb_txn.specs.Scenes.{scene_of};
+ghost use Rattle.ifdb_txn.specs.Scenes.{all_updated, one_updated};
 
 use crate::OutOfMemory;
 use crate::assigned::assigned;
@@ -27,7 +26,8 @@ pub(crate) fn update_all<R: Rows>(
 ) -> Result<Writes, Fault>
     requires made { IsMade target.now.from (R.rows rows.now) }
     requires rising { IsTrue (rising (map now_of matched.now)) }
-    ensures { Gives (update_all (scene_of target.now.from (R.rows rows.now)) target.now.schema.now assignments.now (map now_of matched.now)) result }
+    ensures { Gives (all_updated target.now (R.rows rows.now) assignments.now
+        (map now_of matched.now)) result }
 {
     let mut writes = Vec::new(target.alloc);
     update_into(target, rows, assignments, matched, &mut writes)?;
@@ -45,8 +45,8 @@ fn update_into<R: Rows>(
 ) -> Result<(), Fault>
     requires made { IsMade target.now.from (R.rows rows.now) }
     requires empty { writes.old.items ≡ [] }
-    ensures { Fills (update_all (scene_of target.now.from (R.rows rows.now)) target.now.schema.now assignments.now (map now_of matched.now))
-        result writes.new.items }
+    ensures { Fills (all_updated target.now (R.rows rows.now) assignments.now
+        (map now_of matched.now)) result writes.new.items }
 {
     for row in matched {
         match update_one(target, rows, assignments, row) {
@@ -66,7 +66,7 @@ fn update_one<R: Rows>(
     row: &Row,
 ) -> Result<Write, Fault>
     requires made { IsMade target.now.from (R.rows rows.now) }
-    ensures { Gives (update_one (scene_of target.now.from (R.rows rows.now)) target.now.schema.now assignments.now row.now) result }
+    ensures { Gives (one_updated target.now (R.rows rows.now) assignments.now row.now) result }
 {
     let values = assigned(target.alloc, row.values.items(), assignments)?;
     let refs = rebind_parents(target, rows, assignments, values.items(), row.refs.items())?;

@@ -5,6 +5,7 @@ use Rattle.ifdb_label.specs.Tags.{MadeTag, are_made}
 use Rattle.ifdb_bound.specs.declared.schema.ViewDef.{ViewDef}
 use Rattle.ifdb_bound.specs.Query.{SourceRow}
 use Rattle.ifdb_expr.specs.View.{Setting}
+use Rattle.ifdb_exec.specs.declared.reading.Reading.{Reading}
 
 -- a row's label is of made tags, where n are
 abbrev pub is_made : ℕ → SourceRow → Bool
@@ -29,3 +30,7 @@ owner_holds allows (Some v) = allows v
 -- what a SELECT reads beside the rows
 abbrev pub setting : List MadeTag → List (List ℕ) → List ViewDef → (ViewDef → Bool) → Setting
 setting tags names views allows = record { tags = tags; names = names; views = views; allows = allows }
+
+-- the same of a reader
+abbrev pub setting_of : Reading → List ViewDef → (ViewDef → Bool) → Setting
+setting_of x views allows = setting x.tags.now x.names.now views allows

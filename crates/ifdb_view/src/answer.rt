@@ -1,16 +1,15 @@
 // What a SELECT answers over tables and views.
-ghost use Rattle.std.specs.Prelude.{◌≡◌, ◌≤◌, IsTrue, length, map, option_and_then, true};
-ghost use Rattle.std.specs.List.{list_all};
+ghost use Rattle.std.specs.Prelude.{◌≡◌, ◌≤◌, IsTrue, length, option_and_then, true};
 ghost use Rattle.ifdb_label.specs.Tags.{AreMade};
-ghost use Rattle.ifdb_bound.specs.declared.select.BoundSource.{BoundSource as AnySource};
-ghost use Rattle.ifdb_bound.specs.Query.{all_some, select};
-ghost use Rattle.ifdb_expr.specs.Query.{is_allowed, query, source_rows};
+ghost use Rattle.ifdb_bound.specs.Query.{select};
+ghost use Rattle.ifdb_expr.specs.Query.{query};
 ghost use Rattle.ifdb_expr.specs.Tells.{Tells};
 ghost use Rattle.ifdb_row.specs.Seen.{are_rows_made};
-ghost use Rattle.ifdb_exec.specs.Given.{are_given_keyed, rows_given};
+ghost use Rattle.ifdb_exec.specs.Given.{are_given_keyed, seen_sources};
 ghost use Rattle.ifdb_view.specs.Faults.{TellsQuery};
 ghost use Rattle.ifdb_view.specs.Keyed.{are_sources_keyed, are_views_keyed};
-ghost use Rattle.ifdb_view.specs.Made.{are_views_made, setting};
+ghost use Rattle.ifdb_view.specs.Made.{are_views_made, setting_of};
+ghost use Rattle.ifdb_view.specs.Sources.{all_source_rows, are_allowed};
 
 use crate::fault::ViewFault;
 use crate::sources::{all_allowed, given};
@@ -34,12 +33,12 @@ pub fn query<'q, R: Rows, V: Views>(
 ) -> Result<ValueRows, ViewFault>
     requires rows_made { IsTrue (are_rows_made (length reading.now.tags.now) (R.rows rows.now)) }
     requires label_made { AreMade (length reading.now.tags.now) reading.now.label.now }
-    requires views_made { IsTrue (are_views_made (length reading.now.tags.now) (V.views views.now)) }
+    requires views_made { IsTrue
+        (are_views_made (length reading.now.tags.now) (V.views views.now)) }
     requires keyed { IsTrue (are_sources_keyed (R.rows rows.now) request.now.sources) }
     requires views_keyed { IsTrue (are_views_keyed (R.rows rows.now) (V.views views.now)) }
     requires room { length request.now.sources ≤ 4 }
-    ensures { TellsQuery (query
-        (setting reading.now.tags.now reading.now.names.now (V.views views.now) (V.allows views.now))
+    ensures { TellsQuery (query (setting_of reading.now (V.views views.now) (V.allows views.now))
         (R.rows rows.now) reading.now.label.now request.now) result }
 {
     let are_allowed = all_allowed(views, request.sources.items())?;
@@ -59,18 +58,18 @@ fn over_sources<'q, R: Rows, V: Views>(
     views: &V,
     query: &'q BoundSelect,
 ) -> Result<ValueRows, ExprFault>
-    requires allowed { list_all (λ (x : AnySource). is_allowed
-        (setting reading.now.tags.now reading.now.names.now (V.views views.now) (V.allows views.now)) x.relation)
-        query.now.sources ≡ true }
+    requires allowed { are_allowed
+        (setting_of reading.now (V.views views.now) (V.allows views.now)) query.now.sources ≡ true }
     requires rows_made { IsTrue (are_rows_made (length reading.now.tags.now) (R.rows rows.now)) }
     requires label_made { AreMade (length reading.now.tags.now) reading.now.label.now }
-    requires views_made { IsTrue (are_views_made (length reading.now.tags.now) (V.views views.now)) }
+    requires views_made { IsTrue
+        (are_views_made (length reading.now.tags.now) (V.views views.now)) }
     requires keyed { IsTrue (are_sources_keyed (R.rows rows.now) query.now.sources) }
     requires views_keyed { IsTrue (are_views_keyed (R.rows rows.now) (V.views views.now)) }
     requires room { length query.now.sources ≤ 4 }
-    ensures { Tells (option_and_then (select reading.now.names.now query.now) (all_some (map (λ (x : AnySource). source_rows
-        (setting reading.now.tags.now reading.now.names.now (V.views views.now) (V.allows views.now))
-        (R.rows rows.now) reading.now.label.now x.relation) query.now.sources))) result }
+    ensures { Tells (option_and_then (select reading.now.names.now query.now) (all_source_rows
+        (setting_of reading.now (V.views views.now) (V.allows views.now))
+        (R.rows rows.now) reading.now.label.now query.now.sources)) result }
 {
     match given(reading, rows, views, query.sources.items()) {
         Ok(given) => over_given(reading, rows, query, given),
@@ -90,7 +89,7 @@ fn over_given<'q, R: Rows>(
     requires keyed { IsTrue (are_given_keyed (R.rows rows.now) given) }
     requires room { length given ≤ 4 }
     ensures { Tells (select reading.now.names.now query.now
-        (map (rows_given reading.now.tags.now (R.rows rows.now) reading.now.label.now) given.entry)) result }
+        (seen_sources reading.now (R.rows rows.now) given.entry)) result }
 {
     answer(reading, rows, query, given.items())
 }

@@ -1,15 +1,13 @@
 // Where the rows of a SELECT's sources are.
-ghost use Rattle.std.specs.Prelude.{◌≡◌, IsTrue, IfOk, List, ℕ, length, map, true};
-ghost use Rattle.std.specs.List.{list_all};
+ghost use Rattle.std.specs.Prelude.{◌≡◌, IsTrue, IfOk, List, ℕ, length, true};
 ghost use Rattle.ifdb_label.specs.Tags.{AreMade, MadeTag};
-ghost use Rattle.ifdb_bound.specs.declared.select.BoundSource.{BoundSource as AnySource};
-ghost use Rattle.ifdb_bound.specs.Query.{all_some};
 ghost use Rattle.ifdb_expr.specs.Query.{is_allowed, source_rows};
 ghost use Rattle.ifdb_row.specs.Seen.{are_rows_made};
-ghost use Rattle.ifdb_exec.specs.Given.{are_given_keyed, is_given_keyed, rows_given};
+ghost use Rattle.ifdb_exec.specs.Given.{are_given_keyed, is_given_keyed, seen_source, seen_sources};
 ghost use Rattle.ifdb_view.specs.Faults.{TellsBy};
 ghost use Rattle.ifdb_view.specs.Keyed.{are_sources_keyed, are_views_keyed, is_relation_keyed};
-ghost use Rattle.ifdb_view.specs.Made.{are_views_made, setting};
+ghost use Rattle.ifdb_view.specs.Made.{are_views_made, setting, setting_of};
+ghost use Rattle.ifdb_view.specs.Sources.{all_source_rows, are_allowed};
 
 use crate::OutOfMemory;
 use crate::table::table_given;
@@ -23,9 +21,8 @@ use ifdb_value::Sequence;
 
 /// Whether each source is a table, or a view whose owner holds each tag that the view declassifies.
 pub(crate) fn all_allowed<V: Views>(views: &V, sources: &[BoundSource]) -> Result<bool, OutOfMemory>
-    ensures { IfOk result (λ allowed. (tags : List MadeTag) (names : List (List ℕ)) → allowed ≡ list_all
-        (λ (x : AnySource). is_allowed (setting tags names (V.views views.now) (V.allows views.now)) x.relation)
-        sources.now) }
+    ensures { IfOk result (λ allowed. (tags : List MadeTag) (names : List (List ℕ)) → allowed
+        ≡ are_allowed (setting tags names (V.views views.now) (V.allows views.now)) sources.now) }
 {
     for source in sources {
         let is_allowed = allowed(views, source.relation)?;
@@ -39,8 +36,8 @@ pub(crate) fn all_allowed<V: Views>(views: &V, sources: &[BoundSource]) -> Resul
 /// Whether a source is a table, or a view whose owner holds each tag that the view declassifies.
 #[tactic(auto, using(crate::proofs::Giving::owner_allows))]
 fn allowed<V: Views>(views: &V, relation: Relation) -> Result<bool, OutOfMemory>
-    ensures { IfOk result (λ allowed. (tags : List MadeTag) (names : List (List ℕ))
-        → allowed ≡ is_allowed (setting tags names (V.views views.now) (V.allows views.now)) relation) }
+    ensures { IfOk result (λ allowed. (tags : List MadeTag) (names : List (List ℕ)) → allowed
+        ≡ is_allowed (setting tags names (V.views views.now) (V.allows views.now)) relation) }
 {
     match relation {
         Relation::Table(_) => Ok(true),
@@ -57,12 +54,12 @@ pub(crate) fn given<'k, R: Rows, V: Views>(
 ) -> Result<Sequence<Given<'k>>, ExprFault>
     requires rows_made { IsTrue (are_rows_made (length reading.now.tags.now) (R.rows rows.now)) }
     requires label_made { AreMade (length reading.now.tags.now) reading.now.label.now }
-    requires views_made { IsTrue (are_views_made (length reading.now.tags.now) (V.views views.now)) }
+    requires views_made { IsTrue
+        (are_views_made (length reading.now.tags.now) (V.views views.now)) }
     requires views_keyed { IsTrue (are_views_keyed (R.rows rows.now) (V.views views.now)) }
-    ensures rows { TellsBy (map (rows_given reading.now.tags.now (R.rows rows.now) reading.now.label.now))
-        (all_some (map (λ (x : AnySource). source_rows
-        (setting reading.now.tags.now reading.now.names.now (V.views views.now) (V.allows views.now))
-        (R.rows rows.now) reading.now.label.now x.relation) sources.now)) result }
+    ensures rows { TellsBy (seen_sources reading.now (R.rows rows.now)) (all_source_rows
+        (setting_of reading.now (V.views views.now) (V.allows views.now))
+        (R.rows rows.now) reading.now.label.now sources.now) result }
     ensures keyed { IfOk result (λ given. are_sources_keyed (R.rows rows.now) sources.now ≡ true
         → are_given_keyed (R.rows rows.now) given ≡ true) }
 {
@@ -85,11 +82,11 @@ fn given_of<'k, R: Rows, V: Views>(
 ) -> Result<Given<'k>, ExprFault>
     requires rows_made { IsTrue (are_rows_made (length reading.now.tags.now) (R.rows rows.now)) }
     requires label_made { AreMade (length reading.now.tags.now) reading.now.label.now }
-    requires views_made { IsTrue (are_views_made (length reading.now.tags.now) (V.views views.now)) }
+    requires views_made { IsTrue
+        (are_views_made (length reading.now.tags.now) (V.views views.now)) }
     requires views_keyed { IsTrue (are_views_keyed (R.rows rows.now) (V.views views.now)) }
-    ensures rows { TellsBy (rows_given reading.now.tags.now (R.rows rows.now) reading.now.label.now)
-        (source_rows
-        (setting reading.now.tags.now reading.now.names.now (V.views views.now) (V.allows views.now))
+    ensures rows { TellsBy (seen_source reading.now (R.rows rows.now)) (source_rows
+        (setting_of reading.now (V.views views.now) (V.allows views.now))
         (R.rows rows.now) reading.now.label.now source.now.relation) result }
     ensures keyed { IfOk result (λ given.
         is_relation_keyed (R.rows rows.now) source.now.key source.now.relation ≡ true

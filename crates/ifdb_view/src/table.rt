@@ -14,7 +14,8 @@ use ifdb_value::TableId;
 pub(crate) fn table_given(table: TableId, key: &[usize]) -> Given<'_>
     ensures rows { (tags : List MadeTag) (rows : List AnyRow) (label : List ℕ)
         → rows_given tags rows label result ≡ table_rows tags rows table label }
-    ensures keyed { (rows : List AnyRow) → is_relation_keyed rows key.now (relation.Table table) ≡ true
+    ensures keyed { (rows : List AnyRow)
+        → is_relation_keyed rows key.now (relation.Table table) ≡ true
         → is_given_keyed rows result ≡ true }
 {
     if key.is_empty() {

@@ -33,7 +33,8 @@ pub(crate) fn label_of(
 
 /// Adds the tags of the labels of some rows.
 fn push_labels(all: &mut Vec<Tag>, rows: &[SeenRow<'_>]) -> Result<(), OutOfMemory>
-    ensures { OnOk result (all.new.items ≡ all.old.items ++ flat_map (λ (r : SourceRow). r.label) (all_shown rows.now)) }
+    ensures { OnOk result (all.new.items
+        ≡ all.old.items ++ flat_map (λ (r : SourceRow). r.label) (all_shown rows.now)) }
 {
     for row in rows {
         all.extend_from_slice(row.label)?;

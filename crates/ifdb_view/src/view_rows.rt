@@ -4,14 +4,14 @@ ghost use Rattle.std.specs.List.{list_all};
 ghost use Rattle.ifdb_label.specs.Tags.{AreMade, MadeTag};
 ghost use Rattle.ifdb_row.specs.declared.row.Row.{Row as AnyRow};
 ghost use Rattle.ifdb_bound.specs.declared.schema.ViewDef.{ViewDef as AnyView};
-ghost use Rattle.ifdb_bound.specs.declared.select.BoundSource.{BoundSource as AnySource};
 ghost use Rattle.ifdb_bound.specs.Query.{all_some};
 ghost use Rattle.ifdb_expr.specs.Tells.{Tells};
 ghost use Rattle.ifdb_expr.specs.View.{base_rows, view_row, view_rows};
 ghost use Rattle.ifdb_row.specs.Seen.{are_rows_made};
 ghost use Rattle.ifdb_exec.specs.Given.{are_given_keyed, is_given_keyed, rows_given};
 ghost use Rattle.ifdb_view.specs.Keyed.{are_sources_keyed, is_relation_keyed};
-ghost use Rattle.ifdb_view.specs.Made.{are_all_made, is_made, setting};
+ghost use Rattle.ifdb_view.specs.Made.{are_all_made, is_made, setting_of};
+ghost use Rattle.ifdb_view.specs.Sources.{all_base_rows};
 
 use crate::OutOfMemory;
 use crate::table::table_given;
@@ -38,7 +38,7 @@ pub fn rows_of<R: Rows>(
     requires keyed { IsTrue (are_sources_keyed (R.rows rows.now) view.now.select.sources) }
     requires room { length view.now.select.sources ≤ 4 }
     ensures { (views : List AnyView) (allows : AnyView → Bool)
-        → Tells (view_rows (setting reading.now.tags.now reading.now.names.now views allows)
+        → Tells (view_rows (setting_of reading.now views allows)
         (R.rows rows.now) reading.now.label.now view.now) result }
 {
     let wide = reading
@@ -57,11 +57,11 @@ pub fn rows_of<R: Rows>(
 
 /// Where the rows of a view's sources are, which are tables.
 fn bases(alloc: Global, sources: &[BoundSource]) -> Result<Vec<Given<'_>>, OutOfMemory>
-    ensures rows { IfOk result (λ all. (tags : List MadeTag) (rows : List AnyRow) (label : List ℕ)
-        → map (rows_given tags rows label) all.items
-        ≡ map (λ (s : AnySource). base_rows tags rows label s.relation) sources.now) }
-    ensures keyed { IfOk result (λ all. (rows : List AnyRow) → are_sources_keyed rows sources.now ≡ true
-        → are_given_keyed rows all.items ≡ true) }
+    ensures rows { IfOk result (λ all.
+        (tags : List MadeTag) (rows : List AnyRow) (label : List ℕ)
+        → map (rows_given tags rows label) all.items ≡ all_base_rows tags rows label sources.now) }
+    ensures keyed { IfOk result (λ all. (rows : List AnyRow)
+        → are_sources_keyed rows sources.now ≡ true → are_given_keyed rows all.items ≡ true) }
 {
     let mut all = Vec::new(alloc);
     for source in sources {
@@ -74,7 +74,8 @@ fn bases(alloc: Global, sources: &[BoundSource]) -> Result<Vec<Given<'_>>, OutOf
 fn base(alloc: Global, source: &BoundSource) -> Given<'_>
     ensures rows { (tags : List MadeTag) (rows : List AnyRow) (label : List ℕ)
         → rows_given tags rows label result ≡ base_rows tags rows label source.now.relation }
-    ensures keyed { (rows : List AnyRow) → is_relation_keyed rows source.now.key source.now.relation ≡ true
+    ensures keyed { (rows : List AnyRow)
+        → is_relation_keyed rows source.now.key source.now.relation ≡ true
         → is_given_keyed rows result ≡ true }
 {
     match source.relation {
@@ -92,8 +93,8 @@ fn each_row(
     requires made { IsTrue (are_all_made (length reading.now.tags.now) frames.now) }
     requires given_made { AreMade (length reading.now.tags.now) view.now.declassifying }
     ensures { (views : List AnyView) (allows : AnyView → Bool)
-        → Tells (all_some (map (view_row (setting reading.now.tags.now reading.now.names.now views allows) view.now)
-        frames.now)) result }
+        → Tells (all_some
+        (map (view_row (setting_of reading.now views allows) view.now) frames.now)) result }
 {
     let mut all = ViewRows::new(reading.alloc);
     for frame in frames {
@@ -110,7 +111,7 @@ fn row_of(reading: &Reading<'_>, view: &ViewDef, frame: &Frame<'_>) -> Result<Vi
     requires made { IsTrue (list_all (is_made (length reading.now.tags.now)) frame.now) }
     requires given_made { AreMade (length reading.now.tags.now) view.now.declassifying }
     ensures { (views : List AnyView) (allows : AnyView → Bool)
-        → Tells (view_row (setting reading.now.tags.now reading.now.names.now views allows) view.now frame.now) result }
+        → Tells (view_row (setting_of reading.now views allows) view.now frame.now) result }
 {
     let label = label_of(reading.alloc, reading.tags, view, frame)?;
     match answer_row(

@@ -22,5 +22,6 @@ pub trait Views {
 
     /// Whether the owner of a view holds each tag that the view declassifies; true where there is none of this number.
     fn is_allowed(&self, id: ViewId) -> Result<bool, OutOfMemory>
-        ensures { IfOk result (λ allowed. allowed ≡ owner_holds (allows self.now) (slice_get (views self.now) id)) };
+        ensures { IfOk result (λ allowed.
+            allowed ≡ owner_holds (allows self.now) (slice_get (views self.now) id)) };
 }

@@ -1,5 +1,5 @@
 // The text of one reply.
-ghost use Rattle.std.specs.Prelude.{◌≡◌, ◌+◌, ◌≤◌, ◌++◌, ◌∷◌, [], true, false, IfOk, OnOk, None, length, codes, decimal};
+ghost use Rattle.std.specs.Prelude.{◌≡◌, ◌+◌, ◌≤◌, ◌++◌, [], true, false, IfOk, OnOk, None, length, decimal};
 ghost use Rattle.ifdb_wire.specs.Fault.{fault_text, place_text};
 ghost use Rattle.ifdb_wire.specs.Text.{line, line_head, rows_head, reply_text, IsUnbounded};
 
@@ -75,7 +75,8 @@ impl Out {
     /// which only Label and Rows can meet, and the text is then that of error 20. In time the length of the text.
     pub fn put(&mut self, reply: &Reply) -> bool
         ensures text { result ≡ true → self.new.text ≡ reply_text self.old.session reply.now }
-        ensures memory { result ≡ false → self.new.text ≡ reply_text self.old.session (Reply.Refused Fault.OutOfMemory) }
+        ensures memory { result ≡ false
+            → self.new.text ≡ reply_text self.old.session (Reply.Refused Fault.OutOfMemory) }
         ensures unbounded { result ≡ false → IsUnbounded reply.now }
         ensures session { self.new.session ≡ self.old.session }
     {
@@ -91,8 +92,10 @@ impl Out {
     }
 
     fn put_label(&mut self, names: &[u8]) -> bool
-        ensures text { result ≡ true → self.new.text ≡ reply_text self.old.session (Reply.Label names.now) }
-        ensures memory { result ≡ false → self.new.text ≡ reply_text self.old.session (Reply.Refused Fault.OutOfMemory) }
+        ensures text { result ≡ true
+            → self.new.text ≡ reply_text self.old.session (Reply.Label names.now) }
+        ensures memory { result ≡ false
+            → self.new.text ≡ reply_text self.old.session (Reply.Refused Fault.OutOfMemory) }
         ensures session { self.new.session ≡ self.old.session }
     {
         if try_label(self, names).is_ok() {
@@ -103,8 +106,10 @@ impl Out {
     }
 
     fn put_rows(&mut self, table: &Table) -> bool
-        ensures text { result ≡ true → self.new.text ≡ reply_text self.old.session (Reply.Rows table.now) }
-        ensures memory { result ≡ false → self.new.text ≡ reply_text self.old.session (Reply.Refused Fault.OutOfMemory) }
+        ensures text { result ≡ true
+            → self.new.text ≡ reply_text self.old.session (Reply.Rows table.now) }
+        ensures memory { result ≡ false
+            → self.new.text ≡ reply_text self.old.session (Reply.Refused Fault.OutOfMemory) }
         ensures session { self.new.session ≡ self.old.session }
     {
         if try_rows(self, table).is_ok() {

@@ -34,7 +34,8 @@ pub(crate) fn try_rows(out: &mut Out, table: &Table) -> Result<(), AllocError>
 
 // The line of a row.
 fn try_row(out: &mut Out, row: &[Value]) -> Result<(), AllocError>
-    ensures text { OnOk result (out.new.text ≡ out.old.text ++ line out.old.session (row_text row.now)) }
+    ensures text { OnOk result
+        (out.new.text ≡ out.old.text ++ line out.old.session (row_text row.now)) }
     ensures session { out.new.session ≡ out.old.session }
 {
     out.try_head()?;
@@ -58,7 +59,8 @@ fn try_values(out: &mut Out, row: &[Value]) -> Result<(), AllocError>
 
 // Values, with a tab before each.
 fn try_more(out: &mut Out, more: &[Value]) -> Result<(), AllocError>
-    ensures text { OnOk result (out.new.text ≡ out.old.text ++ flat_map (λ value. 9 ∷ value_text value) more.now) }
+    ensures text { OnOk result
+        (out.new.text ≡ out.old.text ++ flat_map (λ value. 9 ∷ value_text value) more.now) }
     ensures session { out.new.session ≡ out.old.session }
 {
     for value in more {

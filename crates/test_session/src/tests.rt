@@ -1,7 +1,5 @@
 // What no clause says: that connections are served while there is memory, what their sessions see of each other, how they
 // end, and what is counted of them.
-ghost use Rattle.std.specs.Prelude.{◌≡◌};
-ghost use Rattle.ifdb_turn.specs.Passes.{shares};
 
 use ifdb_io::{MemoryLink, MemorySink, MemorySource};
 use ifdb_session::{Counts, Ending, SharedRoom, serve_link};

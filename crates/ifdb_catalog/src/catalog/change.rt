@@ -1,6 +1,5 @@
 // Changes of the public state.
-ghost use Rattle.std.specs.Prelude.{◌≡◌, ◌↔◌, ◌++◌, ◌∷◌, [], Some, None, Err, OnOk, OnErr, IfOk, IfErr, IsTrue, length};
-ghost use Rattle.std.specs.Option.{is_some};
+ghost use Rattle.std.specs.Prelude.{◌≡◌, ◌↔◌, Some, None, Err, OnOk, OnErr, IfOk, IfErr, IsTrue, length};
 ghost use Rattle.ifdb_label.specs.Tags.{AreMade};
 ghost use Rattle.ifdb_bound.specs.declared.request.Change.TheVariants as change;
 ghost use Rattle.ifdb_wire.specs.declared.fault.Fault.TheVariants.{NotGranted};
@@ -29,7 +28,8 @@ impl Catalog {
         ensures done { OnOk result (self.new ≡ changed self.old change) }
         ensures accepted { OnOk result (refusal self.old change ≡ None) }
         ensures refused { RefusedFor (refusal self.old change) result }
-        ensures not_granted { (result ≡ Err NotGranted) ↔ (refusal self.old change ≡ Some NotGranted) }
+        ensures not_granted { (result ≡ Err NotGranted)
+            ↔ (refusal self.old change ≡ Some NotGranted) }
         ensures err { OnErr result (self.new ≡ self.old) }
     {
         match change {
@@ -50,7 +50,8 @@ impl Catalog {
     /// The next principal.
     fn add_principal(&mut self, _asker: Principal, name: Name, key: Word) -> Result<(), OutOfMemory>
         requires { IsTrue (is_new self.old (change.Principal _asker name key)) }
-        ensures done { OnOk result (self.new ≡ changed self.old (change.Principal _asker name key)) }
+        ensures done { OnOk result
+            (self.new ≡ changed self.old (change.Principal _asker name key)) }
         ensures err { OnErr result (self.new ≡ self.old) }
     {
         self.principals.insert(name, key)?;
@@ -67,7 +68,8 @@ impl Catalog {
     ) -> Result<(), OutOfMemory>
         requires fits { IsTrue (change_fits self.old (change.Tag asker name kind parents.items)) }
         requires new { IsTrue (is_new self.old (change.Tag asker name kind parents.items)) }
-        ensures done { OnOk result (self.new ≡ changed self.old (change.Tag asker name kind parents.items)) }
+        ensures done { OnOk result
+            (self.new ≡ changed self.old (change.Tag asker name kind parents.items)) }
         ensures err { OnErr result (self.new ≡ self.old) }
     {
         self.tag_names.reserve(1)?;
@@ -147,7 +149,8 @@ impl Catalog {
     fn revoke(&mut self, asker: Principal, tag: Tag, from: Principal) -> Result<(), Fault>
         ensures done { OnOk result (self.new ≡ changed self.old (change.Revoke asker tag from)) }
         ensures accepted { OnOk result (refusal self.old (change.Revoke asker tag from) ≡ None) }
-        ensures refused { IfErr result (λ fault. refusal self.old (change.Revoke asker tag from) ≡ Some fault) }
+        ensures refused { IfErr result
+            (λ fault. refusal self.old (change.Revoke asker tag from) ≡ Some fault) }
         ensures err { OnErr result (self.new ≡ self.old) }
     {
         match self.authority.revoke(asker, tag, from) {

@@ -1,5 +1,4 @@
 //! Rows that count how often they are asked.
-ghost use Rattle.std.specs.Prelude.{◌≡◌};
 
 use ifdb_row::{Edge, ListRows, Row, Rows, Slot};
 use ifdb_value::Shared;

@@ -12,7 +12,7 @@ use Rattle.ifdb_txn.proofs.insert.insert_one.Goals as goal
 pub returns-then-not-is_free_beside-clause-fills : goal.returns-then-not-is_free_beside-clause-fills
 returns-then-not-is_free_beside-clause-fills g c =
     let taken : clash c.args.target.now.from.tags.now (after (g.R.Rows.rows c.args.rows.now) c.args.earlier.now) c.args.target.now.table (values_at c.args.values.now c.args.target.now.schema.now.key) c.args.target.now.from.label.now ≡ true = grind (arith, nat_tests) in
-    inr (key_refused (scene_of c.args.target.now.from (g.R.Rows.rows c.args.rows.now)) c.args.target.now.table c.args.target.now.schema.now c.args.earlier.now c.args.values.now taken)
+    inr (key_refused (scene_of c.args.target.now (g.R.Rows.rows c.args.rows.now)) c.args.target.now.table c.args.target.now.schema.now c.args.earlier.now c.args.values.now taken)
 
 pub put-requires : goal.put-requires
 put-requires g c =

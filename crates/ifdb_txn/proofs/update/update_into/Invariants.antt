@@ -7,4 +7,4 @@ use Rattle.ifdb_txn.specs.Rebinding.{before}
 use Rattle.ifdb_txn.proofs.update.update_into.Given as goal
 
 abbrev pub invariant-loop-row : goal.invariant-loop-row
-invariant-loop-row g l = update_all (scene_of l.target.from (g.R.Rows.rows l.rows)) l.target.schema.now l.assignments (map now_of l.matched) ≡ before l.writes.items (update_all (scene_of l.target.from (g.R.Rows.rows l.rows)) l.target.schema.now l.assignments (map now_of (drop l.row-index l.matched)))
+invariant-loop-row g l = update_all (scene_of l.target (g.R.Rows.rows l.rows)) l.target.schema.now l.assignments (map now_of l.matched) ≡ before l.writes.items (update_all (scene_of l.target (g.R.Rows.rows l.rows)) l.target.schema.now l.assignments (map now_of (drop l.row-index l.matched)))
