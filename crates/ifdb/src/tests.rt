@@ -119,13 +119,13 @@ fn run<R: AllocGlobal + Threads + Wait + Sync>(
     ended(rt, "run", script, (all_of(piece), all_of(piece)))
 }
 
-// Serves the connections of a site.
+// Serves the connections of a site, beside a script that nobody is to run.
 fn served<R: AllocGlobal + Threads + Wait + Sync>(
     rt: &R,
     words: &str,
     site: &mut MemorySite<MemoryLink>,
 ) -> Result<Ran, Fail> {
-    call(rt, words, b"", (all_of(64), all_of(64)), site)
+    call(rt, words, b"OPEN\n", (all_of(64), all_of(64)), site)
 }
 
 // Two texts, one behind the other.
