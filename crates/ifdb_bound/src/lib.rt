@@ -17,7 +17,6 @@ pub use ifdb_value::{Column, Columns, Names};
 pub use request::{Bound, BoundAssignment, BoundAssignments, Change};
 pub use schema::{Foreign, Foreigns, Places, Schema, TagList, ViewDef};
 pub use select::{
-    Aggregate, Aggregates, BoundItem, BoundItems, BoundSelect, BoundSource, BoundSources, OrderKey,
-    OrderKeys, Relation,
+    BoundItem, BoundItems, BoundSelect, BoundSource, BoundSources, OrderKey, OrderKeys, Relation,
 };
 pub use std::alloc::AllocError as OutOfMemory;

@@ -43,19 +43,6 @@ pub enum BoundItem {
     Max(BoundColumn),
 }
 
-/// What a group gives beside its columns.
-#[derive(Clone, Copy, Debug, PartialEq, Eq)]
-pub enum Aggregate {
-    /// How many rows it has.
-    CountAll,
-    /// The sum of a column of numbers.
-    Sum,
-    /// The least value of a column.
-    Min,
-    /// The greatest value of a column.
-    Max,
-}
-
 /// A key of ORDER BY.
 #[derive(Clone, Copy, Debug, PartialEq, Eq)]
 pub struct OrderKey {
@@ -85,9 +72,6 @@ pub type BoundItems = Sequence<BoundItem>;
 
 /// Sources, in order.
 pub type BoundSources = Sequence<BoundSource>;
-
-/// Aggregates, in order.
-pub type Aggregates = Sequence<Aggregate>;
 
 /// Keys of ORDER BY, the first of which counts most.
 pub type OrderKeys = Sequence<OrderKey>;

@@ -65,10 +65,6 @@ is_column_of columns name = is_some (place_named columns name)
 abbrev pub place_at : List Column → List ℕ → ℕ
 place_at columns name = place_or (place_named columns name)
 
--- the kind of a column, or nothing where there is none of the name
-abbrev pub kind_named : List Column → List ℕ → Option ValueKind
-kind_named columns name = slice_get (kinds_of columns) (place_at columns name)
-
 -- ---- INSERT
 
 -- where columns are listed, each one is so exactly once

@@ -18,7 +18,7 @@ mod writes;
 
 pub use doors::{Asked, Door, Site, SiteFault};
 pub use duplex::{Duplex, MemoryLink, SureLink};
-pub use lines::{LONGEST_LINE, Line, LineFault, LineReader};
+pub use lines::{LONGEST_LINE, Line, LineFault, LineReader, lines_are_bounded};
 pub use memory_door::MemoryDoor;
 pub use memory_site::MemorySite;
 pub use outside::{Failed, Link, Sink, Source};

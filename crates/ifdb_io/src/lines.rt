@@ -21,6 +21,12 @@ const LONG: usize = LONGEST_LINE + 1;
 // How many bytes are read at a time.
 const CHUNK: usize = 65_536;
 
+/// A law, and does nothing: how long a line may be, and from where on it is too long.
+pub fn lines_are_bounded()
+    ensures longest { LONGEST_LINE ≡ 65535 }
+    ensures long { LONG ≡ 65536 }
+{}
+
 /// What `LineReader::next` found.
 #[derive(Clone, Copy, Debug, PartialEq, Eq)]
 pub enum Line {
@@ -156,6 +162,8 @@ impl LineReader {
 
         // What is so at every answer.
         ensures later { R.faults source.old ≤ R.faults source.new }
+        ensures unfailed { result ≢ Err LineFault.Read →
+            R.faults source.new ≡ R.faults source.old }
         ensures beside { R.beside source.new ≡ R.beside source.old }
         ensures limit { self.new.limit ≡ self.old.limit }
         ensures within { result ≢ Err LineFault.TooMuch → self.new.taken ≤ self.new.limit }
@@ -223,6 +231,8 @@ impl LineReader {
         ensures limit { self.new.limit ≡ self.old.limit }
         ensures budget { result ≡ Ok true → budget self.new ≡ budget self.old }
         ensures later { R.faults source.old ≤ R.faults source.new }
+        ensures unfailed { result ≢ Err LineFault.Read →
+            R.faults source.new ≡ R.faults source.old }
         ensures beside { R.beside source.new ≡ R.beside source.old }
     {
         if self.from < self.to {
@@ -268,6 +278,8 @@ impl LineReader {
         ensures text { self.new.text ≡ self.old.text }
         ensures limit { self.new.limit ≡ self.old.limit }
         ensures later { R.faults source.old ≤ R.faults source.new }
+        ensures unfailed { result ≢ Err LineFault.Read →
+            R.faults source.new ≡ R.faults source.old }
         ensures beside { R.beside source.new ≡ R.beside source.old }
     {
         self.over = true;

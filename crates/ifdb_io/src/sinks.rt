@@ -20,7 +20,7 @@ pub struct SureSink {
 }
 
 impl Model for SureSink {
-    ghost use Rattle.std.specs.Prelude.{◌<◌, ◌≤◌, vec_len, vec_capacity};
+    ghost use Rattle.std.specs.Prelude.{◌≡◌, ◌<◌, ◌≤◌, vec_len, vec_capacity};
     ghost use Rattle.ifdb_io.specs.Memory.{SureStore};
 
     ghost Value = { SureStore };
@@ -32,7 +32,8 @@ impl Model for SureSink {
       faults = s.faults;
     } };
 
-    ghost invariant = { λ s. (vec_len s.bytes ≤ s.room) × (s.room ≤ vec_capacity s.bytes) × (0 < s.piece) };
+    ghost invariant = { λ s. (vec_len s.bytes ≤ s.room) × (s.room ≤ vec_capacity s.bytes) × (0 < s.piece)
+        × (vec_len s.bytes < s.room → s.faults ≡ 0) };
 }
 
 impl SureSink {

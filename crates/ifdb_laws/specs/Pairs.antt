@@ -33,7 +33,7 @@ pub record AreHeard (xs ys : List Played) (bytes : List ℕ) : Type 0 where
   pub first : texts (heard (both_read xs ys) [] opening (steps_played xs)) ≡ bytes
   pub second : texts (heard (both_read xs ys) [] opening (steps_played ys)) ≡ bytes
 
--- two scripts that have the same low steps, of which one crosses the level, and whose replies are told otherwise
+-- two scripts that have the same low steps, of which the first crosses the level, and each of which is told what it says
 pub record ShowCrossing (xs ys : List Played) : Type 0 where
   pub first_plays : Plays xs
   pub second_plays : Plays ys

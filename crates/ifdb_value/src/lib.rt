@@ -18,7 +18,7 @@ pub use arithmetic::{add, mul, sub};
 pub use boxed::Box;
 pub use column::{Column, Columns, Names};
 pub use ids::{Principal, TableId, ViewId};
-pub use name::{LONGEST_NAME, Name, NameFault};
+pub use name::{LONGEST_NAME, Name, NameFault, names_are_bounded};
 pub use sequence::Sequence;
 pub use shared::Shared;
 pub use std::alloc::AllocError as OutOfMemory;

@@ -20,8 +20,6 @@ impl Catalog {
     ///
     /// `NoAuthority` only where a GRANT or a view needs a tag that its principal doesn't hold; `NotGranted` exactly where the grant
     /// that a REVOKE takes away doesn't stand; `OutOfMemory` where an allocation is refused. Whatever the error, all is as before.
-    ///
-    /// A REVOKE takes no memory.
     pub fn apply(&mut self, change: Change) -> Result<(), Fault>
         requires fits { IsTrue (change_fits self.old change) }
         requires new { IsTrue (is_new self.old change) }
@@ -145,7 +143,7 @@ impl Catalog {
         }
     }
 
-    /// A grant less.
+    /// A grant less. Takes no memory, so each error is the change's own refusal.
     fn revoke(&mut self, asker: Principal, tag: Tag, from: Principal) -> Result<(), Fault>
         ensures done { OnOk result (self.new ≡ changed self.old (change.Revoke asker tag from)) }
         ensures accepted { OnOk result (refusal self.old (change.Revoke asker tag from) ≡ None) }

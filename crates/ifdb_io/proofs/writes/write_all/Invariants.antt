@@ -7,7 +7,7 @@ abbrev pub invariant-loop-done : goal.invariant-loop-done
 invariant-loop-done g l = record {
   in_range : l.done ≤ length l.bytes;
   written : Appends (g.W.Sink.written l.fn.sink) (g.W.Sink.written l.sink) (take l.done l.bytes);
-  later : g.W.Sink.faults l.fn.sink ≤ g.W.Sink.faults l.sink;
+  kept : g.W.Sink.faults l.sink ≡ g.W.Sink.faults l.fn.sink;
   beside : g.W.Sink.beside l.sink ≡ g.W.Sink.beside l.fn.sink;
 }
 

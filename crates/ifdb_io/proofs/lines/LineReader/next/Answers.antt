@@ -1,4 +1,4 @@
-use Rattle.std.proofs.Common.{◌≡◌, arith, rules, refl}
+use Rattle.std.proofs.Common.{◌≡◌, ◌∙◌, arith, rules, refl}
 use Rattle.ifdb_io.specs.declared.lines.LineFault.TheVariants as LineFault
 use Rattle.ifdb_io.proofs.ReaderLemmas.{Comes-more, Comes-on, given, ended, exceeded}
 use Rattle.ifdb_io.proofs.lines.LineReader.next.Goals as goal
@@ -31,7 +31,7 @@ loop-self-preserved g c =
     record {
       came = Comes-on _ _ _ _ _ come (c.in-All.ensures.all refl) c.in-All.ensures.goes_on.taken;
       line = c.in-All.ensures.line (λ e. cc);
-      later = omega (arith, c.in_ok-ready.ensures.later, c.loop-self.invariant.later);
+      kept = c.in_ok-ready.ensures.unfailed (λ e. cc) ∙ c.loop-self.invariant.kept;
       beside = search rules;
       limit = search rules;
       over = search rules;

@@ -8,7 +8,7 @@ abbrev pub invariant-loop-self : goal.invariant-loop-self
 invariant-loop-self g l = record {
   came : Comes l.fn.self l.self (g.R.Source.left l.fn.source) (g.R.Source.left l.source);
   line : IsLine l.self.text;
-  later : g.R.Source.faults l.fn.source ≤ g.R.Source.faults l.source;
+  kept : g.R.Source.faults l.source ≡ g.R.Source.faults l.fn.source;
   beside : g.R.Source.beside l.source ≡ g.R.Source.beside l.fn.source;
   limit : l.self.limit ≡ l.fn.self.limit;
   over : l.self.over ≡ false;
