@@ -1,5 +1,6 @@
 -- What a line of a session can come to: one lemma in place of a walk through all requests for each property.
-use Rattle.std.proofs.Common.{◌≡◌, ℕ, Bool, true, false, List, [], length, refl, ◌∙◌, cond, ◌&&◌, Some, None, Ok, Err, Option, Result}
+use Rattle.std.proofs.Common.{◌≡◌, ◌⊎◌, inl, inr, ℕ, Bool, true, false, List, [], length, refl, sym, ap, ◌∙◌, cond, ◌&&◌, Some, None, Ok, Err, Option, Result}
+use Rattle.std.proofs.lemmas.Bool.{false≢true}
 use Rattle.ifdb_label.specs.Label.{strip}
 use Rattle.ifdb_row.specs.Writes.{merged}
 use Rattle.ifdb_row.specs.Content.{after}
@@ -8,6 +9,7 @@ use Rattle.ifdb_bound.specs.declared.request.Bound.{Bound}
 use Rattle.ifdb_bound.specs.declared.request.Bound.TheVariants as bound
 use Rattle.ifdb_bound.specs.declared.request.Change.{Change}
 use Rattle.ifdb_syntax.specs.declared.request.Request.{Request}
+use Rattle.ifdb_syntax.specs.declared.request.Request.TheVariants as request
 use Rattle.ifdb_wire.specs.declared.fault.Fault.{Fault}
 use Rattle.ifdb_wire.specs.declared.fault.Fault.TheVariants as fault
 use Rattle.ifdb_wire.specs.declared.reply.Reply.{Reply}
@@ -19,6 +21,7 @@ use Rattle.ifdb_model.specs.Log.{Entry, changes, commits, public_of}
 use Rattle.ifdb_model.specs.Session.{Txn, Session, in_txn, seen}
 use Rattle.ifdb_model.specs.Writes.{Written, writes_of, is_delete}
 use Rattle.ifdb_model.specs.Step.{Reader, Outcome, tells, refuses, adds, greeted, relabelled, set_label, publish_it, publish_bound, is_empty, publish, look_reply, land_in, land, write_bound, verdict_fault, committed, judged, commit, Form, greets, publishes, relabels, shows_label, begins, ends, rolls_back, leaves_us, looks, writes, form_of, ask_as, ask_new, ask_by, ask_read, ask}
+use Rattle.ifdb_laws.specs.StepLaws.{ByeAloneCloses}
 
 -- the line asks for a write, and this is what its names stand for
 pub record IsWrite (log : List Entry) (s : Session) (line : Result Request Fault) (asker : ℕ) (r : Request) (b : Bound) : Type 0 where
@@ -38,8 +41,8 @@ pub data Shape (log : List Entry) (s : Session) (line : Result Request Fault) : 
       → Shape log s line (tells (record s { label = label }) reply.Done)
   -- BEGIN
   begun : s.txn ≡ None → Shape log s line (tells (record s { txn = Some (record { begin = length log; own = [] }) }) reply.Done)
-  -- ROLLBACK, BYE, a refused COMMIT
-  ended : (is_open : Bool) (r : Reply) → Shape log s line (tells (record s { is_open = is_open; txn = None }) r)
+  -- ROLLBACK, BYE, a refused COMMIT: BYE alone closes the session
+  ended : (is_open : Bool) (r : Reply) → (is_open ≡ s.is_open) ⊎ (line ≡ Ok request.Bye) → Shape log s line (tells (record s { is_open = is_open; txn = None }) r)
   -- a public change
   published : (asker : ℕ) (r : Request) (c : Change) → s.txn ≡ None → is_empty s.label ≡ true → bound_request (seen log s).public asker r ≡ Ok (bound.Change c)
       → refusal (seen log s).public c ≡ None → Shape log s line (adds s (changes c) reply.Done)
@@ -57,6 +60,25 @@ go_only conflict e = cc
 go_only broken_reference e = cc
 go_only still_referenced e = cc
 go_only go e = refl
+
+bye_only : (r : Request) → form_of r ≡ leaves_us → r ≡ request.Bye
+bye_only (request.Hello name key) e = cc
+bye_only (request.CreatePrincipal name key) e = cc
+bye_only (request.CreateTag name compound parents) e = cc
+bye_only (request.CreateTable name columns key foreign) e = cc
+bye_only (request.CreateView name select tags) e = cc
+bye_only (request.Grant tag to) e = cc
+bye_only (request.Revoke tag from) e = cc
+bye_only (request.SetLabel tags) e = cc
+bye_only request.ShowLabel e = cc
+bye_only request.Begin e = cc
+bye_only request.Commit e = cc
+bye_only request.Rollback e = cc
+bye_only request.Bye e = refl
+bye_only (request.Select select) e = cc
+bye_only (request.Insert table columns rows tags) e = cc
+bye_only (request.Update table assignments cond tags) e = cc
+bye_only (request.Delete table cond) e = cc
 
 module _ (log : List Entry) (s : Session) (line : Result Request Fault) where
   relabelled_shape : (asker : ℕ) (r : Request) (label : List ℕ) → bound_request (seen log s).public asker r ≡ Ok (bound.SetLabel label) → Shape log s line (relabelled (seen log s).public asker s label)
@@ -123,12 +145,12 @@ module _ (log : List Entry) (s : Session) (line : Result Request Fault) where
   begin_shape (Some x) e = stayed (reply.Refused fault.InTransaction)
 
   rollback_shape : (b : Bool) → Shape log s line (cond b (tells (record s { txn = None }) reply.Done) (refuses s fault.NoTransaction))
-  rollback_shape true = ended s.is_open reply.Done
+  rollback_shape true = ended s.is_open reply.Done (inl refl)
   rollback_shape false = stayed (reply.Refused fault.NoTransaction)
 
   committed_shape : (x : Txn) (v : Verdict) → s.txn ≡ Some x → judged log s x ≡ v → (o : Option Fault) → verdict_fault v ≡ o → Shape log s line (committed s x.own o)
   committed_shape x v t j None e = done x t (j ∙ go_only v e)
-  committed_shape x v t j (Some f) e = ended s.is_open (reply.Refused f)
+  committed_shape x v t j (Some f) e = ended s.is_open (reply.Refused f) (inl refl)
 
   commit_shape : (o : Option Txn) → s.txn ≡ o → Shape log s line (commit log s o)
   commit_shape None t = stayed (reply.Refused fault.NoTransaction)
@@ -150,24 +172,24 @@ module _ (log : List Entry) (s : Session) (line : Result Request Fault) where
   as_shape asker r p l begins e = begin_shape s.txn refl
   as_shape asker r p l ends e = commit_shape s.txn refl
   as_shape asker r p l rolls_back e = rollback_shape (in_txn s.txn)
-  as_shape asker r p l leaves_us e = ended false reply.Done
+  as_shape asker r p l leaves_us e = ended false reply.Done (inr (l ∙ ap Ok (bye_only r e)))
   as_shape asker r p l looks e = stayed (look_reply (seen log s).public (seen log s).rows s.label (bound_request (seen log s).public asker r))
   as_shape asker r p l writes e = write_shape asker r p l e (bound_request (seen log s).public asker r) refl
 
-  new_shape : (f : Form) → Shape log s line (ask_new log s f)
-  new_shape (greets name key) = greeted_shape (public_of log) key (principal_named (public_of log) name)
-  new_shape publishes = stayed (reply.Refused fault.NotHello)
-  new_shape relabels = stayed (reply.Refused fault.NotHello)
-  new_shape shows_label = stayed (reply.Refused fault.NotHello)
-  new_shape begins = stayed (reply.Refused fault.NotHello)
-  new_shape ends = stayed (reply.Refused fault.NotHello)
-  new_shape rolls_back = stayed (reply.Refused fault.NotHello)
-  new_shape leaves_us = ended false reply.Done
-  new_shape looks = stayed (reply.Refused fault.NotHello)
-  new_shape writes = stayed (reply.Refused fault.NotHello)
+  new_shape : (r : Request) → line ≡ Ok r → (f : Form) → form_of r ≡ f → Shape log s line (ask_new log s f)
+  new_shape r l (greets name key) e = greeted_shape (public_of log) key (principal_named (public_of log) name)
+  new_shape r l publishes e = stayed (reply.Refused fault.NotHello)
+  new_shape r l relabels e = stayed (reply.Refused fault.NotHello)
+  new_shape r l shows_label e = stayed (reply.Refused fault.NotHello)
+  new_shape r l begins e = stayed (reply.Refused fault.NotHello)
+  new_shape r l ends e = stayed (reply.Refused fault.NotHello)
+  new_shape r l rolls_back e = stayed (reply.Refused fault.NotHello)
+  new_shape r l leaves_us e = ended false reply.Done (inr (l ∙ ap Ok (bye_only r e)))
+  new_shape r l looks e = stayed (reply.Refused fault.NotHello)
+  new_shape r l writes e = stayed (reply.Refused fault.NotHello)
 
   by_shape : (o : Option ℕ) → s.principal ≡ o → (r : Request) → line ≡ Ok r → Shape log s line (ask_by log s o r)
-  by_shape None p r l = new_shape (form_of r)
+  by_shape None p r l = new_shape r l (form_of r) refl
   by_shape (Some asker) p r l = as_shape asker r p l (form_of r) refl
 
   read_shape : (o : Result Request Fault) → line ≡ o → Shape log s line (ask_read log s o)
@@ -185,8 +207,25 @@ refused_adds_nothing log s line o f (stayed r) e = (refl, refl)
 refused_adds_nothing log s line o f (greeted_as n) e = cc
 refused_adds_nothing log s line o f (relabelled_to asker r label x y) e = cc
 refused_adds_nothing log s line o f (begun t) e = cc
-refused_adds_nothing log s line o f (ended b r) e = (refl, refl)
+refused_adds_nothing log s line o f (ended b r why) e = (refl, refl)
 refused_adds_nothing log s line o f (published asker r c t i p q) e = cc
 refused_adds_nothing log s line o f (joined asker r b x w i t h) e = cc
 refused_adds_nothing log s line o f (wrote asker r b w i t h d) e = cc
 refused_adds_nothing log s line o f (done x t j) e = cc
+
+-- an open session that a line leaves closed was asked BYE
+pub closed_by_bye : (log : List Entry) (s : Session) (line : Result Request Fault) (o : Outcome) → Shape log s line o → s.is_open ≡ true → o.session.is_open ≡ false
+    → line ≡ Ok request.Bye
+closed_by_bye log s line o (stayed r) was now = absurd (false≢true (sym now ∙ was))
+closed_by_bye log s line o (greeted_as n) was now = absurd (false≢true (sym now ∙ was))
+closed_by_bye log s line o (relabelled_to asker r label x y) was now = absurd (false≢true (sym now ∙ was))
+closed_by_bye log s line o (begun t) was now = absurd (false≢true (sym now ∙ was))
+closed_by_bye log s line o (ended b r (inl same)) was now = absurd (false≢true (sym now ∙ same ∙ was))
+closed_by_bye log s line o (ended b r (inr bye)) was now = bye
+closed_by_bye log s line o (published asker r c t i p q) was now = absurd (false≢true (sym now ∙ was))
+closed_by_bye log s line o (joined asker r b x w i t h) was now = absurd (false≢true (sym now ∙ was))
+closed_by_bye log s line o (wrote asker r b w i t h d) was now = absurd (false≢true (sym now ∙ was))
+closed_by_bye log s line o (done x t j) was now = absurd (false≢true (sym now ∙ was))
+
+pub bye_alone_lem : ByeAloneCloses
+bye_alone_lem read log s line was now = closed_by_bye log s (read line) (ask read log s line) (shape read log s line) was now

@@ -2,6 +2,7 @@
 use Rattle.std.specs.Prelude.{◌≡◌, ℕ, ◌<◌, Bool, true, false, ◌&&◌, not, List, [], take, Option, Some, None, Result, Ok, Err}
 use Rattle.std.specs.Option.{is_some}
 use Rattle.ifdb_syntax.specs.declared.request.Request.{Request}
+use Rattle.ifdb_syntax.specs.declared.request.Request.TheVariants as request
 use Rattle.ifdb_wire.specs.declared.fault.Fault.{Fault}
 use Rattle.ifdb_wire.specs.declared.fault.Fault.TheVariants as fault
 use Rattle.ifdb_wire.specs.declared.reply.Reply.TheVariants as reply
@@ -35,6 +36,11 @@ TransactionsAreFrozen = (read : Reader) (log other : List Entry) (s : Session) (
 abbrev pub RefusalsChangeNothing : Type 0
 RefusalsChangeNothing = (read : Reader) (log : List Entry) (s : Session) (line : List ℕ) (f : Fault)
     → is_commit (read line) ≡ false → (ask read log s line).reply ≡ reply.Refused f → ask read log s line ≡ refuses s f
+
+-- an open session is closed at a line by BYE alone
+abbrev pub ByeAloneCloses : Type 0
+ByeAloneCloses = (read : Reader) (log : List Entry) (s : Session) (line : List ℕ)
+    → s.is_open ≡ true → (ask read log s line).session.is_open ≡ false → read line ≡ Ok request.Bye
 
 -- a COMMIT of a transaction that is refused ends it, and changes nothing else
 abbrev pub RefusedCommitsEnd : Type 0

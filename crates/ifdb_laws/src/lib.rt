@@ -13,7 +13,8 @@ pub mod worlds;
 
 pub use byte_laws::replies_read_back;
 pub use line_laws::{
-    commits_are_judged, memory_is_never_told, refusals_change_nothing, transactions_are_frozen,
+    bye_alone_closes, commits_are_judged, memory_is_never_told, refusals_change_nothing,
+    transactions_are_frozen,
 };
 pub use row_laws::{keys_apart, parents_live, rows_fit};
 pub use worked::{

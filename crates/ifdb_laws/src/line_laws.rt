@@ -1,5 +1,5 @@
 // Laws of single lines of the whole server: each function's contract is one, and it does nothing.
-ghost use Rattle.ifdb_laws.specs.StepLaws.{CommitsAreJudged, StampsAreAbove, TransactionsAreFrozen, MemoryIsNeverTold, ScriptsAreSpared, RefusalsChangeNothing, RefusedCommitsEnd, RefusedStepsChangeNothing, UnjudgedCommitsChangeNothing};
+ghost use Rattle.ifdb_laws.specs.StepLaws.{CommitsAreJudged, StampsAreAbove, TransactionsAreFrozen, MemoryIsNeverTold, ScriptsAreSpared, ByeAloneCloses, RefusalsChangeNothing, RefusedCommitsEnd, RefusedStepsChangeNothing, UnjudgedCommitsChangeNothing};
 
 /// In a transaction each line but COMMIT is answered by what was before its BEGIN, its own writes and its session alone.
 pub fn transactions_are_frozen()
@@ -25,4 +25,9 @@ pub fn commits_are_judged()
 pub fn memory_is_never_told()
     ensures lines { MemoryIsNeverTold }
     ensures scripts { ScriptsAreSpared }
+{}
+
+/// A session is closed at a line by BYE alone.
+pub fn bye_alone_closes()
+    ensures { ByeAloneCloses }
 {}

@@ -184,7 +184,7 @@ module _ (log : List Entry) (s : Session) (line : Result Request Fault) (k : Fit
         let all = take_all (length log) log (omega arith) in
         ap (λ l. are_made (length (all_tags l)) s.label) all ∙ (ap (λ u. are_made (length (tags_of (seen_in log u).public)) s.label) (sym t) ∙ k.made);
   }
-  session_fits o (ended b r) h = record { own = refl; made = label_later s.label k.made }
+  session_fits o (ended b r why) h = record { own = refl; made = label_later s.label k.made }
   session_fits o (published asker r c t i e p) h = k
   session_fits o (joined asker r b x w i t e) h = record {
     own = ap (λ u. are_fit (seen_in log u).public (Rattle.ifdb_row.specs.Writes.merged x.own w.writes)) (sym t) ∙ own_part o h;

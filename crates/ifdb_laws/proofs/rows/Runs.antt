@@ -41,7 +41,7 @@ own_fits log s line o (stayed r) h = h
 own_fits log s line o (greeted_as n) h = h
 own_fits log s line o (relabelled_to asker r label x y) h = h
 own_fits log s line o (begun t) h = refl
-own_fits log s line o (ended b r) h = refl
+own_fits log s line o (ended b r why) h = refl
 own_fits log s line o (published asker r c t i p z) h = h
 own_fits log s line o (joined asker r b x w a t e) h =
     merged_all (λ (v : Write). is_fitting v.slot v.row) x.own w.writes (ap (txn_all are_fitting) (sym t) ∙ h) (written_fits log s asker b w e)
@@ -54,7 +54,7 @@ added_fits log s line o (stayed r) h = refl
 added_fits log s line o (greeted_as n) h = refl
 added_fits log s line o (relabelled_to asker r label x y) h = refl
 added_fits log s line o (begun t) h = refl
-added_fits log s line o (ended b r) h = refl
+added_fits log s line o (ended b r why) h = refl
 added_fits log s line o (published asker r c t i p z) h = refl
 added_fits log s line o (joined asker r b x w a t e) h = refl
 added_fits log s line o (wrote asker r b w a t e d) h = let one = written_fits log s asker b w e in grind (arith, nat_tests)
@@ -78,7 +78,7 @@ added_rooted log s line o (stayed r) f h = refl
 added_rooted log s line o (greeted_as n) f h = refl
 added_rooted log s line o (relabelled_to asker r label x y) f h = refl
 added_rooted log s line o (begun t) f h = refl
-added_rooted log s line o (ended b r) f h = refl
+added_rooted log s line o (ended b r why) f h = refl
 added_rooted log s line o (published asker r c t i p z) f h = refl
 added_rooted log s line o (joined asker r b x w a t e) f h = refl
 added_rooted log s line o (wrote asker r b w a t e d) f h =

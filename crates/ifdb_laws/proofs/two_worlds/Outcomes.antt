@@ -81,7 +81,7 @@ module _ (q : Write → Bool) (log : List Entry) (s : Session) (line : Result Re
   outcome_writes o (greeted_as n) = grind (arith, nat_tests)
   outcome_writes o (relabelled_to asker r label e h) = grind (arith, nat_tests)
   outcome_writes o (begun t) = refl
-  outcome_writes o (ended b r) = refl
+  outcome_writes o (ended b r why) = refl
   outcome_writes o (published asker r c t i e p) = grind (arith, nat_tests)
   outcome_writes o (joined asker r b x w i t e) =
       let all = merged_all q x.own w.writes (own_writes x t) (new_writes asker r b w i e) in grind (arith, nat_tests)
@@ -144,7 +144,7 @@ module _ (log : List Entry) (s : Session) (line : Result Request Fault) (begins 
         (made_by_binding.label_made (seen log s).public asker r label e);
   }
   outcome_tidy o (begun t) = record { begins = grind (arith, nat_tests); free = refl; entry_made = refl; label_made = made }
-  outcome_tidy o (ended b r) = record { begins = refl; free = refl; entry_made = refl; label_made = made }
+  outcome_tidy o (ended b r why) = record { begins = refl; free = refl; entry_made = refl; label_made = made }
   outcome_tidy o (published asker r c t i e p) = record {
     begins = begins;
     free = ap (λ x. not (in_txn x)) t;
@@ -181,7 +181,7 @@ module _ (level : List ℕ) (log : List Entry) (s : Session) (line : Result Requ
   outcome_hidden o (greeted_as n) = refl
   outcome_hidden o (relabelled_to asker r label e h) = refl
   outcome_hidden o (begun t) = refl
-  outcome_hidden o (ended b r) = refl
+  outcome_hidden o (ended b r why) = refl
   outcome_hidden o (published asker r c t i e p) = absurd (false≢true (sym out ∙ empty_inside s.label i))
   outcome_hidden o (joined asker r b x w i t e) = refl
   outcome_hidden o (wrote asker r b w i t e d) = ap (written_all (λ (v : Write). not (side_by log level v.slot))) (sym e) ∙ new asker r b i
