@@ -6,7 +6,7 @@
 //! joined again, and the one that has all shares closes the turnstile.
 #![tactic(auto)]
 
-mod bells;
+mod gate;
 mod kinds;
 mod object;
 mod turn;

@@ -37,7 +37,7 @@ impl<'a, O: Object> Turn<'a, O> {
     /// Ends the turn with one entry more, `N::entry`, which contracts alone see. The object stands for the history
     /// with that entry behind it; the entry is right there, and its root is its own place or an own place of the pass.
     /// The pass has then seen that longer history, and its last place is its own. Some single steps on words, and no
-    /// memory. All who wait for a turn wake.
+    /// memory. One who sleeps in front of the gate wakes.
     pub fn done<N: NamedEntry<O::Entry>>(self)
         requires turn { IsTurn self }
         requires entry { (e : O.Entry) × (N.entry ≡ Some e) × Adds O.stands O.right O.root self e }
@@ -65,7 +65,7 @@ impl<'a, O: Object> Turn<'a, O> {
     }
 
     /// Ends the turn with no entry. The object has to stand for the history that it stood for, and the pass has then
-    /// seen that history. A few single steps on words, and no memory. All who wait for a turn wake.
+    /// seen that history. A few single steps on words, and no memory. One who sleeps in front of the gate wakes.
     pub fn leave(self)
         requires turn { IsTurn self }
         requires stands { O.stands (object_of self) (history (pass_of self)) }

@@ -1,7 +1,7 @@
 //! The turnstile and its passes.
 ghost use Rattle.std.specs.Prelude.{◌≡◌};
 
-use crate::bells::Bells;
+use crate::gate::Gate;
 use crate::kinds::{
     Append, CopyPass, HandOn, JoinPasses, LoadCount, LookAtServing, MakeSeat, NamedEntry,
     SplitShare, TakeFirstTicket, TakeTicket,
@@ -11,6 +11,7 @@ use crate::turn::Turn;
 use crate::view::{Kept, PassSeat, PassView, TurnRule};
 use atomic_table::Table;
 use std::alloc::Global;
+use std::hint::spin_loop;
 use std::sync::Wait;
 
 // The word with the next ticket.
@@ -26,7 +27,7 @@ const COUNT: usize = 2;
 /// the thread that makes it. It has to be ended by `close`, as it can't be dropped.
 pub struct Turnstile<O: Object> {
     pub(crate) table: Table<Option<Kept<O, O::Entry>>, PassView<O::Entry>, (), TurnRule<O>, Global>,
-    pub(crate) bells: Bells,
+    pub(crate) gate: Gate,
     ghost sized: { (table.shared.table_id.words ≡ 3) × (table.shared.table_id.slots ≡ 1) },
 }
 
@@ -84,7 +85,7 @@ impl<O: Object> Turnstile<O> {
         let Some(kept) = kept else { unreachable!() };
         let turnstile = Turnstile {
             table,
-            bells: Bells::new(),
+            gate: Gate::new(),
         };
         turnstile.hand_on(&mut seat, kept);
         Ok((turnstile, Pass { seat }))
@@ -140,7 +141,7 @@ impl<O: Object> Turnstile<O> {
         ensures order { AllRight O.right (history pass) }
         ensures own { OwnsAll pass }
     {
-        let Turnstile { table, bells: _ } = self;
+        let Turnstile { table, gate: _ } = self;
         let Pass { seat } = pass;
         let mut closed = table.close_with(seat);
         let Some(kept) = closed.take(0) else {
@@ -151,13 +152,13 @@ impl<O: Object> Turnstile<O> {
         object
     }
 
-    /// Takes the next ticket, and waits for its turn. The object then stands for the whole history, which begins with
+    /// Waits in front of the gate, and takes the next ticket, whose turn begins at once. The object then stands for the whole history, which begins with
     /// what the pass had seen and is in order, and no entry of others in it names an own place of the pass as its root.
     ///
     /// No promise says that the turn ever comes: it does not where a turn before it never ends, and whoever would have
-    /// the last ticket, 2^64 - 1, waits for good. Turns come in the order of tickets, but no promise says that either.
-    /// A thread that waits looks for some microseconds and then sleeps, and wakes when its turn comes, or that of a ticket
-    /// a multiple of 64 away.
+    /// the last ticket, 2^64 - 1, waits for good. Whoever runs when the gate opens may pass it, so the order in which
+    /// threads came counts for nothing. A thread that waits looks for some microseconds and then sleeps; the end of a turn
+    /// wakes one that sleeps.
     pub fn enter<'a, R: Wait>(&'a self, rt: &R, pass: &'a mut Pass<O>) -> Turn<'a, O>
         requires pass { BelongsTo self.now pass.old }
         ensures turnstile { IsAt self.now result }
@@ -171,6 +172,7 @@ impl<O: Object> Turnstile<O> {
         ensures places { places (pass_of result) ≡ places pass.old }
         ensures shares { shares (pass_of result) ≡ shares pass.old }
     {
+        self.gate.pass(rt);
         let ticket = self.take_ticket(rt, &mut pass.seat);
         self.await_turn(rt, &mut pass.seat, ticket);
         let kept = self.table.shared.exchange(&mut pass.seat, 0, None);
@@ -201,7 +203,7 @@ impl<O: Object> Turnstile<O> {
         self.table.shared.fetch_add::<Append<N>>(seat, COUNT, 1);
     }
 
-    // Puts the object back, gives the turn to the next ticket, and wakes who waits for it.
+    // Puts the object back, gives the turn to the next ticket, and opens the gate for whoever takes it.
     pub(crate) fn hand_on(&self, seat: &mut PassSeat<O>, kept: Kept<O, O::Entry>)
         requires turn { KnowsAll self.now.table.shared.table_id seat.old }
         requires slot { seat.old.me.1 ≡ (0, None) ∷ [] }
@@ -213,8 +215,8 @@ impl<O: Object> Turnstile<O> {
         let shared = &self.table.shared;
         let old = shared.exchange(seat, 0, Some(kept));
         let None = old else { unreachable!() };
-        let served = shared.fetch_add::<HandOn<O>>(seat, SERVING, 1);
-        self.bells.ring(served.wrapping_add(1));
+        shared.fetch_add::<HandOn<O>>(seat, SERVING, 1);
+        self.gate.open();
     }
 
     // Ticket 2^64 - 1 is never given out: whoever would have it waits for good.
@@ -240,18 +242,18 @@ impl<O: Object> Turnstile<O> {
         unreachable!()
     }
 
-    // Waits until the ticket is served. The turn has then begun.
+    // Waits until the ticket is served, as it is at once: the gate was passed before it was taken, and is opened once the
+    // turn was handed on. The turn has then begun.
     fn await_turn<R: Wait>(&self, rt: &R, seat: &mut PassSeat<O>, ticket: u64)
         requires { IsWaitingSeat self.now.table.shared.table_id ticket seat.old }
         ensures { BeginsTurn O.stands O.right O.root ticket seat.old seat.new }
     {
         for _ in rt.forever() {
-            let rung = self.bells.rung(ticket);
             let serving = self.table.shared.load::<LookAtServing<O>>(seat, SERVING);
             if serving == ticket {
                 return;
             }
-            self.bells.wait(rt, ticket, rung);
+            spin_loop();
         }
         unreachable!()
     }
