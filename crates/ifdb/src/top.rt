@@ -1,7 +1,7 @@
 // The one call that does all that the program does.
 ghost use Rattle.std.specs.Prelude.{◌≡◌, ◌≢◌, ◌+◌, ◌^◌, ◌≤◌, ◌⊎◌, ℕ, List, IfOk};
 ghost use Rattle.ifdb_io.specs.Causes.{Rose};
-ghost use Rattle.ifdb_script.specs.Run.{RanWhole, RanFront, RanCut, CutsDontMatter, KeepsLevels};
+ghost use Rattle.ifdb_script.specs.Run.{RanWhole, RanFront, RanPast, RanCut, CutsDontMatter, KeepsLevels};
 ghost use Rattle.ifdb_service.specs.Site.{GivesNone, IsCut, IsDone, IsUnserved};
 ghost use Rattle.ifdb_words.specs.Ranges.{IsService};
 ghost use Rattle.ifdb_words.specs.Words.{command_of};
@@ -63,14 +63,14 @@ pub fn top<T: AllocGlobal + Threads + Wait + Sync, R: Source, W: Sink, S: Site>(
     // Faults of a script, and what was written before them.
     ensures read { result ≡ Status.ReadFault → Rose (R.faults input.old) (R.faults input.new) }
     ensures read_front { (limit : ℕ) → IsRun limit words.now → result ≡ Status.ReadFault
-        → RanFront (λ n. n ≤ limit)
+        → RanFront limit
         (R.left input.old) (R.left input.new) (W.written output.old) (W.written output.new) }
     ensures write { result ≡ Status.WriteFault → Rose (W.faults output.old) (W.faults output.new) }
     ensures write_front { (limit : ℕ) → IsRun limit words.now → result ≡ Status.WriteFault
         → RanCut limit
         (R.left input.old) (R.left input.new) (W.written output.old) (W.written output.new) }
     ensures too_large { (limit : ℕ) → IsRun limit words.now → result ≡ Status.TooLarge
-        → RanFront (λ n. n ≡ limit + 1)
+        → RanPast limit
         (R.left input.old) (R.left input.new) (W.written output.old) (W.written output.new) }
     ensures memory { NeedsNoSite words.now → result ≡ Status.OutOfMemory
         → (input.new ≡ input.old) × (output.new ≡ output.old) }
@@ -104,6 +104,7 @@ pub fn top<T: AllocGlobal + Threads + Wait + Sync, R: Source, W: Sink, S: Site>(
     ensures other_site { NeedsNoSite words.now → site.new ≡ site.old }
 
     // What is so at every end.
+    ensures unfailed { result ≢ Status.ReadFault → R.faults input.new ≡ R.faults input.old }
     ensures input_later { R.faults input.old ≤ R.faults input.new }
     ensures output_later { W.faults output.old ≤ W.faults output.new }
     ensures site_later { S.faults site.old ≤ S.faults site.new }
@@ -166,17 +167,18 @@ fn run<R: Source, W: Sink>(alloc: Global, input: &mut R, output: &mut W, limit: 
         → RanWhole limit
         (R.left input.old) (R.left input.new) (W.written output.old) (W.written output.new) }
     ensures read { result ≡ Status.ReadFault → Rose (R.faults input.old) (R.faults input.new) }
-    ensures read_front { result ≡ Status.ReadFault → RanFront (λ n. n ≤ limit)
+    ensures read_front { result ≡ Status.ReadFault → RanFront limit
         (R.left input.old) (R.left input.new) (W.written output.old) (W.written output.new) }
     ensures write { result ≡ Status.WriteFault → Rose (W.faults output.old) (W.faults output.new) }
     ensures write_front { result ≡ Status.WriteFault
         → RanCut limit
         (R.left input.old) (R.left input.new) (W.written output.old) (W.written output.new) }
-    ensures too_large { result ≡ Status.TooLarge → RanFront (λ n. n ≡ limit + 1)
+    ensures too_large { result ≡ Status.TooLarge → RanPast limit
         (R.left input.old) (R.left input.new) (W.written output.old) (W.written output.new) }
     ensures memory { result ≡ Status.OutOfMemory
         → (input.new ≡ input.old) × (output.new ≡ output.old) }
     ensures ends { IsRunEnd result }
+    ensures unfailed { result ≢ Status.ReadFault → R.faults input.new ≡ R.faults input.old }
     ensures input_later { R.faults input.old ≤ R.faults input.new }
     ensures output_later { W.faults output.old ≤ W.faults output.new }
 {

@@ -111,6 +111,7 @@ pub sound_begun : (d : Desk) → IsSound d → IsSound (record d { begins = d.be
 sound_begun d s = record {
   order = ordered_push d.begins d.count s.order;
   seen = s.seen;
+  parents = s.parents;
   made = s.made;
   later = ap (λ n. list_all (is_later n) d.commits) (oldest_same d.begins d.count) ∙ s.later;
 }

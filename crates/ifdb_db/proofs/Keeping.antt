@@ -8,6 +8,7 @@ use Rattle.ifdb_label.specs.Tags.{are_made, AreMade}
 use Rattle.ifdb_row.specs.declared.write.Write.{Write}
 use Rattle.ifdb_row.specs.declared.commit.Commit.{Commit}
 use Rattle.ifdb_row.specs.Writes.{are_fitting}
+use Rattle.ifdb_row.specs.Content.{are_rooted}
 use Rattle.ifdb_store.specs.Later.{are_writes_made}
 use Rattle.ifdb_bound.specs.declared.request.Change.{Change}
 use Rattle.ifdb_catalog.specs.Public.{Public, changed}
@@ -20,7 +21,7 @@ use Rattle.ifdb_snapshot.proofs.PublicStates.{all_push, made_more, tags_grow}
 use Rattle.ifdb_snapshot.proofs.Sound.{sound_changed, sound_written, write_changed}
 use Rattle.ifdb_db.specs.Client.{Open, Client}
 use Rattle.ifdb_db.specs.Desk.{Desk, oldest, settled, with_entry, moved}
-use Rattle.ifdb_db.specs.Kept.{IsSound, Outgrows, IsLabelKept, IsKept, AreKept, are_ordered}
+use Rattle.ifdb_db.specs.Kept.{IsSound, Outgrows, IsLabelKept, IsKept, AreKept, are_ordered, keeps_parents}
 use Rattle.ifdb_db.proofs.BeginLaws.{trimmed_later, trimmed_all, ordered_more}
 
 -- ---- public states that grow
@@ -104,26 +105,27 @@ entry_fits d (Some (changes c)) = true
 entry_fits d (Some (commits ws)) = are_fit d.seen.public ws
 
 -- once commits are given up
-pub sound_settled : (d : Desk) → are_ordered d.begins d.count ≡ true → is_sound d.seen ≡ true → list_all (λ c. are_writes_made (length d.seen.public.tags) c.writes) d.commits ≡ true → IsSound (settled d)
-sound_settled d o s m = record {
+pub sound_settled : (d : Desk) → are_ordered d.begins d.count ≡ true → is_sound d.seen ≡ true → are_rooted d.seen.rows d.seen.rows ≡ true → list_all (λ c. are_writes_made (length d.seen.public.tags) c.writes) d.commits ≡ true → IsSound (settled d)
+sound_settled d o s p m = record {
   order = o;
   seen = s;
+  parents = p;
   made = trimmed_all (λ c. are_writes_made (length d.seen.public.tags) c.writes) (oldest d) d.commits m;
   later = trimmed_later (oldest d) d.commits;
 }
 
 -- once it has another entry, and other transactions are open
 pub sound_changes : (d : Desk) (c : Change) → IsSound d → IsSound (settled (with_entry d (Some (changes c))))
-sound_changes d c k = sound_settled (with_entry d (Some (changes c))) (ordered_more d.begins d.count (d.count + 1) (omega arith) k.order) (sound_changed d.seen c k.seen)
+sound_changes d c k = sound_settled (with_entry d (Some (changes c))) (ordered_more d.begins d.count (d.count + 1) (omega arith) k.order) (sound_changed d.seen c k.seen) k.parents
     (commits_made_more (length d.seen.public.tags) (length (changed d.seen.public c).tags) d.commits (tags_grow d.seen.public c) k.made)
 
 pub sound_commits : (d : Desk) (ws : List Write) (begins : List ℕ) → IsSound d → are_ordered begins (d.count + 1) ≡ true → are_fit d.seen.public ws ≡ true → are_fitting ws ≡ true
-    → IsSound (settled (record (with_entry d (Some (commits ws))) { begins = begins }))
-sound_commits d ws begins k o f g = sound_settled (record (with_entry d (Some (commits ws))) { begins = begins }) o (sound_written d.seen ws k.seen f g)
+    → keeps_parents d.seen.rows ws ≡ true → IsSound (settled (record (with_entry d (Some (commits ws))) { begins = begins }))
+sound_commits d ws begins k o f g p = sound_settled (record (with_entry d (Some (commits ws))) { begins = begins }) o (sound_written d.seen ws k.seen f g) p
     (all_push (λ c. are_writes_made (length d.seen.public.tags) c.writes) d.commits (record { stamp = d.count + 1; writes = ws }) (writes_made d.seen.public ws f) k.made)
 
 pub sound_begins : (d : Desk) (begins : List ℕ) → IsSound d → are_ordered begins d.count ≡ true → IsSound (settled (record d { begins = begins }))
-sound_begins d begins k o = sound_settled (record d { begins = begins }) o k.seen k.made
+sound_begins d begins k o = sound_settled (record d { begins = begins }) o k.seen k.parents k.made
 
 -- ---- one client of many
 

@@ -7,14 +7,18 @@ use Rattle.ifdb_row.specs.declared.write.Write.{Write}
 use Rattle.ifdb_row.specs.declared.commit.Commit.{Commit}
 use Rattle.ifdb_row.specs.Content.{after}
 use Rattle.ifdb_row.specs.Writes.{are_fitting}
+use Rattle.ifdb_row.specs.Verdict.{verdict, written_by}
+use Rattle.ifdb_row.proofs.RootedLaws.{go_rooted}
 use Rattle.ifdb_store.specs.Kept.{Kept, trimmed}
 use Rattle.ifdb_store.specs.Later.{are_writes_made}
 use Rattle.ifdb_bound.specs.declared.request.Change.{Change}
 use Rattle.ifdb_catalog.specs.Public.{Public, changed, tags_of}
 use Rattle.ifdb_snapshot.specs.Writing.{are_fit}
+use Rattle.ifdb_laws.proofs.Shapes.{go_only}
+use Rattle.ifdb_db.specs.Answer.{fault_of}
 use Rattle.ifdb_db.specs.Client.{Open}
 use Rattle.ifdb_db.specs.Desk.{Desk, oldest_of, without}
-use Rattle.ifdb_db.specs.Kept.{IsSound, IsLabelKept, are_ordered}
+use Rattle.ifdb_db.specs.Kept.{IsSound, IsLabelKept, are_ordered, keeps_parents}
 use Rattle.ifdb_db.proofs.BeginLaws.{ordered_more, ordered_without}
 use Rattle.ifdb_db.proofs.Keeping.{fit_later, label_of_now, sound_begins, sound_changes, sound_commits, writes_made}
 
@@ -40,22 +44,28 @@ module _ (d : Desk) (k : IsSound d) (rows : List Row) (cs : List Commit) (n : �
 
   -- a commit, by which these transactions are left
   pub landed : (ws : List Write) (bs began : List ℕ) (s : Kept) (r0 : List Row) (c0 : List Commit) → bs ≡ began → are_ordered began (d.count + 1) ≡ true
-      → are_fit d.seen.public ws ≡ true → are_fitting ws ≡ true
+      → are_fit d.seen.public ws ≡ true → are_fitting ws ≡ true → keeps_parents d.seen.rows ws ≡ true
       → r0 ≡ d.seen.rows → c0 ≡ d.commits → s ≡ record { rows = after r0 ws; next = None; commits = c0 ++ record { stamp = d.count + 1; writes = ws } ∷ [] }
       → rows ≡ s.rows → n ≡ oldest_of bs (d.count + 1) → cs ≡ trimmed n s.commits
       → IsSound (record { seen = record d.seen { rows = rows }; commits = cs; count = d.count + 1; begins = bs })
-  landed ws bs began s r0 c0 e o f g r c i h m t =
+  landed ws bs began s r0 c0 e o f g p r c i h m t =
       let same = sym (h ∙ ap (λ (z : Kept). z.rows) i ∙ ap (λ l. after l ws) r) in
       let kept = ap (λ (z : Kept). z.commits) i ∙ ap (λ l. l ++ record { stamp = d.count + 1; writes = ws } ∷ []) c in
       let left = sym (t ∙ ap (trimmed n) kept ∙ ap (λ j. trimmed j (d.commits ++ record { stamp = d.count + 1; writes = ws } ∷ [])) (m ∙ ap (λ l. oldest_of l (d.count + 1)) e)) in
       let begins = sym e in
-      subst IsSound (λ j. record { seen = record d.seen { rows = same j }; commits = left j; count = d.count + 1; begins = begins j }) (sound_commits d ws began k o f g)
+      subst IsSound (λ j. record { seen = record d.seen { rows = same j }; commits = left j; count = d.count + 1; begins = begins j }) (sound_commits d ws began k o f g p)
 
 pub ordered_one_more : (d : Desk) → IsSound d → are_ordered d.begins (d.count + 1) ≡ true
 ordered_one_more d k = ordered_more d.begins d.count (d.count + 1) (omega arith) k.order
 
 pub ordered_one_less : (d : Desk) (b : ℕ) → IsSound d → are_ordered (without b d.begins) (d.count + 1) ≡ true
 ordered_one_less d b k = ordered_more (without b d.begins) d.count (d.count + 1) (omega arith) (ordered_without b d.begins d.count k.order)
+
+-- a COMMIT that isn't refused leaves each row its parents
+pub parents_kept : (d : Desk) (l : List ℕ) (x : Open) → IsSound d → are_fitting x.own ≡ true → fault_of d l (Some x) ≡ None → keeps_parents d.seen.rows x.own ≡ true
+parents_kept d l x k f none =
+    let later = written_by (trimmed x.begin d.commits) in
+    go_rooted (tags_of d.seen.public) d.seen.rows later x.own l f k.parents (go_only (verdict (tags_of d.seen.public) d.seen.rows later x.own l) none)
 
 -- ---- what a transaction's end is judged by
 

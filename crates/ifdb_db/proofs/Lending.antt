@@ -82,7 +82,7 @@ module _ (asker : ℕ) (l : List ℕ) (x : Open) (r : Request) where
     answers_so e m y told k made h = record {
       told = λ log o. asked_so _ log h.goes_on h.told o ∙ ap (λ (z : Client). tells (session_at z) told) (sym same);
       goes_on = subst (λ (z : Client). GoesOn z.txn e.txn) (sym is) (subst (λ (z : Client). GoesOn (Some x) z.txn) (sym same) (h.begin, h.base));
-      lent = subst IsLent (sym same) (record { is_open = refl; label = made });
+      lent = subst IsLent (sym same) (record { is_open = refl; greeted = refl; label = made });
       still = λ u. let q = h.still u in same ∙ (λ i. client_of asker (q.0 i) (Some (q.1 i))) ∙ sym is;
     } where
       same : e ≡ client_of asker m (Some y)
@@ -99,7 +99,7 @@ module _ (asker : ℕ) (l : List ℕ) (x : Open) (r : Request) where
       by (inr h) = inr (record {
         told = λ log o. asked_so _ log d.goes_on h o ∙ ap (λ (z : Client). tells (session_at z) (reply.Refused f)) (sym is);
         goes_on = subst (λ (z : Client). GoesOn z.txn z.txn) (sym is) (refl, refl);
-        lent = subst IsLent (sym is) (record { is_open = refl; label = made });
+        lent = subst IsLent (sym is) (record { is_open = refl; greeted = refl; label = made });
         still = λ u. refl;
       })
 

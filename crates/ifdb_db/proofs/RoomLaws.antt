@@ -132,7 +132,7 @@ follows_shape log s line _ (stayed r) = follows_itself (length log) s.txn
 follows_shape log s line _ (greeted_as n) = follows_itself (length log) s.txn
 follows_shape log s line _ (relabelled_to asker r label e h) = follows_itself (length log) s.txn
 follows_shape log s line _ (begun t) = subst (λ o. Follows (length log) o (Some (record { begin = length log; own = [] }))) (sym t) refl
-follows_shape log s line _ (ended is_open r) = follows_none (length log) s.txn
+follows_shape log s line _ (ended is_open r why) = follows_none (length log) s.txn
 follows_shape log s line _ (published asker r c t e b f) = follows_itself (length log) s.txn
 follows_shape log s line _ (joined asker r b x w i t e) = subst (λ o. Follows (length log) o (Some (record { begin = x.begin; own = merged x.own w.writes }))) (sym t) refl
 follows_shape log s line _ (wrote asker r b w i t e f) = follows_itself (length log) s.txn

@@ -1,7 +1,9 @@
 -- INSERT, UPDATE and DELETE outside a transaction.
 use Rattle.std.proofs.Common.{◌≡◌, ℕ, Bool, true, false, List, ◌∙◌, refl, ap, cond, Some, None, inl, inr}
-use Rattle.std.specs.Prelude.{◌⊎◌, Result, Ok, Err, IfOk}
+use Rattle.std.specs.Prelude.{◌⊎◌, Result, Ok, Err, IfOk, IsTrue}
 use Rattle.ifdb_row.specs.declared.row.Row.{Row}
+use Rattle.ifdb_row.specs.Content.{are_rooted}
+use Rattle.ifdb_row.specs.Writes.{are_fitting}
 use Rattle.ifdb_txn.specs.Answers.{Gives}
 use Rattle.ifdb_bound.specs.declared.request.Bound.{Bound}
 use Rattle.ifdb_syntax.specs.declared.request.Request.{Request}
@@ -16,6 +18,10 @@ use Rattle.ifdb_model.specs.Step.{adds, refuses, form_of, writes, land, write_bo
 use Rattle.ifdb_snapshot.specs.Writing.{orphans}
 use Rattle.ifdb_db.specs.Desk.{Desk, with_entry, settled}
 use Rattle.ifdb_db.specs.Inside.{session_of}
+use Rattle.ifdb_laws.proofs.Statements.{writes_good}
+use Rattle.ifdb_laws.proofs.rows.Rooted.{writes_rooted}
+use Rattle.ifdb_laws.proofs.rows.Runs.{good_fits, written_rooted}
+use Rattle.ifdb_db.specs.Kept.{keeps_parents}
 use Rattle.ifdb_db.specs.Outside.{outside, unless_orphaned, IsAdded, IsNotAdded, Writes}
 
 module _ (x : Desk) (asker : ℕ) (l : List ℕ) (r : Request) where
@@ -60,6 +66,19 @@ module _ (x : Desk) (asker : ℕ) (l : List ℕ) (r : Request) where
         by : (b : Bool) → orphans (is_delete found) x.seen.rows w.writes ≡ b → Writes asker l r x (cond b (Err fault.StillReferenced) (Ok w))
         by true e = orphaned w h e
         by false e = clear w h e
+
+      -- after it each row's parents are there
+      pub rooted_unless : (o : Result Written Fault) → Gives (writes_of x.seen.public asker x.seen.rows l found) o → are_rooted x.seen.rows x.seen.rows ≡ true
+          → IfOk (unless_orphaned (is_delete found) x.seen.rows o) (λ (w : Written). IsTrue (keeps_parents x.seen.rows w.writes))
+      rooted_unless (Err g) h k = tt
+      rooted_unless (Ok w) h k = by (orphans (is_delete found) x.seen.rows w.writes) refl where
+        fits : are_fitting w.writes ≡ true
+        fits = good_fits w (writes_of x.seen.public asker x.seen.rows l found) h (writes_good x.seen.public asker x.seen.rows l (λ t. true) (λ t i. refl) found)
+
+        by : (b : Bool) → orphans (is_delete found) x.seen.rows w.writes ≡ b
+            → IfOk (cond b (Err fault.StillReferenced) (Ok w)) (λ (v : Written). IsTrue (keeps_parents x.seen.rows v.writes))
+        by true e = tt
+        by false e = written_rooted x.seen.rows (is_delete found) w (writes_of x.seen.public asker x.seen.rows l found) h (writes_rooted x.seen.rows k x.seen.public asker l found) fits e
 
 -- what is left of it fits
 pub fits_unless : (deleting : Bool) (rows : List Row) (P : Written → Type 0) (o : Result Written Fault) → IfOk o P → IfOk (unless_orphaned deleting rows o) P

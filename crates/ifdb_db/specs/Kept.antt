@@ -4,7 +4,7 @@ use Rattle.std.specs.List.{list_all}
 use Rattle.ifdb_label.specs.Tags.{AreMade}
 use Rattle.ifdb_row.specs.declared.row.Row.{Row}
 use Rattle.ifdb_row.specs.declared.write.Write.{Write}
-use Rattle.ifdb_row.specs.Content.{after}
+use Rattle.ifdb_row.specs.Content.{after, are_rooted}
 use Rattle.ifdb_row.specs.Writes.{are_rising, are_fitting}
 use Rattle.ifdb_store.specs.Kept.{is_later}
 use Rattle.ifdb_store.specs.Later.{are_commits_made}
@@ -19,11 +19,16 @@ abbrev pub are_ordered : List ℕ → ℕ → Bool
 are_ordered [] count = true
 are_ordered (b ∷ begins) count = nat_le b count && list_all (nat_le b) begins && are_ordered begins count
 
--- The rows fit. The commits that are kept are of made tags, and each is later than the oldest open BEGIN: what no open
--- transaction can meet was given up.
+-- after these writes each row's bound parents are there
+abbrev pub keeps_parents : List Row → List Write → Bool
+keeps_parents rows ws = are_rooted (after rows ws) (after rows ws)
+
+-- The rows fit, and each row's bound parents are there. The commits that are kept are of made tags, and each is later than
+-- the oldest open BEGIN: what no open transaction can meet was given up.
 pub record IsSound (d : Desk) : Type 0 where
   pub order : IsTrue (are_ordered d.begins d.count)
   pub seen : IsTrue (is_sound d.seen)
+  pub parents : IsTrue (are_rooted d.seen.rows d.seen.rows)
   pub made : IsTrue (are_commits_made (length d.seen.public.tags) d.commits)
   pub later : IsTrue (list_all (is_later (oldest d)) d.commits)
 

@@ -1,5 +1,6 @@
 -- A session in a transaction that is lent: whoever has it asks its lines of it alone, and gives it back with what they came to.
 use Rattle.std.specs.Prelude.{◌≡◌, ◌⊎◌, ◌-◌, ℕ, true, List, length, slice_set, Option, Some, None, Result, Ok, Err}
+use Rattle.std.specs.Option.{is_some}
 use Rattle.ifdb_label.specs.Tags.{AreMade}
 use Rattle.ifdb_syntax.specs.declared.request.Request.{Request}
 use Rattle.ifdb_wire.specs.declared.fault.Fault.{Fault}
@@ -19,9 +20,10 @@ abbrev pub IsLabelInside : List ℕ → Option Open → Type 0
 IsLabelInside label None = ⊥
 IsLabelInside label (Some x) = AreMade (length x.base.public.tags) label
 
--- an open session in a transaction
+-- an open session that said HELLO and is in a transaction
 pub record IsLent (c : Client) : Type 0 where
   pub is_open : c.is_open ≡ true
+  pub greeted : is_some c.principal ≡ true
   pub label : IsLabelInside c.label c.txn
 
 -- a transaction goes on, over what it began with
@@ -40,20 +42,16 @@ pub record Answers (line : List ℕ) (c e : Client) (r : Reply) : Type 0 where
 abbrev pub EndsTransaction : List ℕ → Type 0
 EndsTransaction line = (r : Request) × (read_line line ≡ Ok r) × (is_end (form_of r) ≡ true)
 
--- the database has a part in the line: it ends the transaction, or the session has no principal or no transaction
-abbrev pub IsForRoom : List ℕ → Client → Type 0
-IsForRoom line c = (c.principal ≡ None) ⊎ ((c.txn ≡ None) ⊎ EndsTransaction line)
-
--- the line was answered so; or the database has a part in it, or there was no memory, and the session is as before
+-- the line was answered so; or it ends the transaction, or there was no memory, and the session is as before
 abbrev pub IsAnsweredAlone : {X : Type 0} → List ℕ → Client → Client → Result (Option Reply) X → Type 0
 IsAnsweredAlone line c e (Ok (Some r)) = Answers line c e r
-IsAnsweredAlone line c e (Ok None) = (e ≡ c) × IsForRoom line c
+IsAnsweredAlone line c e (Ok None) = (e ≡ c) × EndsTransaction line
 IsAnsweredAlone line c e (Err x) = e ≡ c
 
 -- the same, where a refusal is an error too
 abbrev pub IsFoundAlone : List ℕ → Client → Client → Result (Option Reply) Fault → Type 0
 IsFoundAlone line c e (Ok (Some r)) = Answers line c e r
-IsFoundAlone line c e (Ok None) = (e ≡ c) × IsForRoom line c
+IsFoundAlone line c e (Ok None) = (e ≡ c) × EndsTransaction line
 IsFoundAlone line c e (Err f) = (e ≡ c) × ((f ≡ fault.OutOfMemory) ⊎ Answers line c c (reply.Refused f))
 
 -- ---- in a room

@@ -48,11 +48,16 @@ impl Session {
         }
     }
 
-    /// A copy of a session whose transaction has written nothing; `None` where it has none, or has written, or there is no memory.
+    /// A copy of a session that said HELLO and whose transaction has written nothing; `None` where it didn't, or has no such
+    /// transaction, or there is no memory.
     pub(crate) fn lend(&self) -> Option<Session>
         ensures copy { IfSome result (λ session. session ≡ self.now) }
+        ensures greeted { IfSome result (λ _. is_some self.now.principal ≡ true) }
         ensures inside { IfSome result (λ _. is_some self.now.txn ≡ true) }
     {
+        if self.principal.is_none() {
+            return None;
+        }
         let Some(begun) = &self.txn else {
             return None;
         };

@@ -54,7 +54,7 @@ pub data Shape (log : List Entry) (s : Session) (line : Result Request Fault) : 
   -- COMMIT
   done : (x : Txn) → s.txn ≡ Some x → judged log s x ≡ go → Shape log s line (adds (record s { txn = None }) (commits x.own) reply.Done)
 
-go_only : (v : Verdict) → verdict_fault v ≡ None → v ≡ go
+pub go_only : (v : Verdict) → verdict_fault v ≡ None → v ≡ go
 go_only commit_label e = cc
 go_only conflict e = cc
 go_only broken_reference e = cc

@@ -1,29 +1,35 @@
 -- How a run goes on by one line, and how it ends.
-use Rattle.std.proofs.Common.{◌≡◌, ℕ, ◌+◌, ◌<◌, ◌≤◌, List, [], ◌∷◌, ◌++◌, length, take, Bool, true, false, sym, ap, subst, ◌∙◌, arith, refl}
-use Rattle.std.specs.Prelude.{Option}
+use Rattle.std.proofs.Common.{◌≡◌, ℕ, ◌+◌, ◌<◌, ◌≤◌, List, [], ◌∷◌, ◌++◌, length, take, Bool, true, false, sym, ap, subst, ◌∙◌, arith, refl, inl, inr}
+use Rattle.std.specs.Prelude.{◌⊎◌, Option}
 use Rattle.std.specs.Io.KnownBytes.{Appends, Consumes, IsAtEnd}
 use Rattle.std.proofs.KnownBytes.{Consumes-trans, Appends-trans, Consumes-nil, Appends-nil}
 use Rattle.std.proofs.lemmas.List.{append_assoc, append-nil, length-append}
 use Rattle.std.proofs.lemmas.List.Concat.{flat_map-append}
 use Rattle.ifdb_io.specs.Causes.{WritesShort}
-use Rattle.ifdb_io.specs.Lines.{Reading, unskipped, Gives, Ends, Exceeds, IsLine, IsLong}
+use Rattle.ifdb_io.specs.Lines.{Reading, after_newline, unskipped, Gives, Ends, Exceeds, IsLine, IsLong}
 use Rattle.ifdb_model.specs.Run.{State, Step, long, Told, opening, replies}
 use Rattle.ifdb_model.specs.Script.{line_steps, steps_of}
 use Rattle.ifdb_model.specs.Output.{texts, text_of, told_of, refusals, flag_of, refused_at}
 use Rattle.ifdb_db.specs.Reading.{read_line}
 use Rattle.ifdb_db.specs.Room.{Hall, StandsFor}
-use Rattle.ifdb_script.specs.Run.{IsTold, IsToldFirst, RanWhole, RanFront, RanCut}
-use Rattle.ifdb_script.proofs.ScriptLines.{steps_front, steps_last, steps_long}
+use Rattle.ifdb_script.specs.Run.{piece_behind, AreWholeLines, IsTold, IsToldFirst, IsToldOfLines, RanWhole, RanFront, RanPast, RanCut}
+use Rattle.ifdb_script.proofs.ScriptLines.{steps_front, steps_last, steps_long, piece-append, piece_line, piece_long, skip, skip_all}
 use Rattle.ifdb_script.proofs.Flags.{Tells, IsAtMostOne}
 use Rattle.ifdb_script.proofs.Stepping.{Goes}
 
--- The steps so far were told this, and however the input goes on, the run of the whole tells what the state tells of it.
+-- behind the lines that were done nothing stands, or a line that is too long goes on
+abbrev EndsSo : Bool → List ℕ → Type 0
+EndsSo false lines = piece_behind [] lines ≡ []
+EndsSo true lines = 65535 < length (piece_behind [] lines)
+
+-- The steps of these lines were told this, and whatever follows them, the run of the whole tells what the state tells of it.
 pub record Played (left_old left_new : Option (List ℕ)) (reading : Reading) (st : State) (told : List Told) : Type 0 where
-  pub input : List ℕ
-  pub read : Consumes left_old left_new input
-  pub count : reading.taken ≡ length input
+  pub lines : List ℕ
+  pub read : Consumes left_old left_new (lines ++ reading.held)
+  pub count : reading.taken ≡ length (lines ++ reading.held)
+  pub ends : EndsSo reading.skipping lines
   pub goes_on : (rest : List ℕ) (flags : List Bool)
-      → told ++ replies read_line st (refused_at flags (steps_of (unskipped reading.skipping (reading.held ++ rest)))) ≡ told_of read_line (input ++ rest) (refusals told ++ flags)
+      → told ++ replies read_line st (refused_at flags (steps_of (unskipped reading.skipping rest))) ≡ told_of read_line (lines ++ rest) (refusals told ++ flags)
 
 -- And what they were told was written. The room stands for the state.
 pub record Reached (left_old left_new written_old written_new : Option (List ℕ)) (reading : Reading) (room : Hall) : Type 0 where
@@ -40,68 +46,165 @@ reached_none l w limit over room stands = record {
   state = opening;
   stands = stands;
   told = [];
-  played = record { input = []; read = Consumes-nil l; count = refl; goes_on = λ rest flags. refl };
+  played = record { lines = []; read = Consumes-nil l; count = refl; ends = refl; goes_on = λ rest flags. refl };
   wrote = Appends-nil w;
 }
 
 refusals_more : (told more : List Told) (flags : List Bool) → refusals told ++ (refusals more ++ flags) ≡ refusals (told ++ more) ++ flags
 refusals_more told more flags = sym (append_assoc (refusals told) (refusals more) flags) ∙ ap (λ fs. fs ++ flags) (sym (flat_map-append flag_of told more))
 
+-- of the bytes that a reader holds now a front is this line, with what was skipped before it
+record Cut (skipping : Bool) (bytes line held : List ℕ) : Type 0 where
+  front : List ℕ
+  all : bytes ≡ front ++ held
+  on : (rest : List ℕ) → unskipped skipping (front ++ rest) ≡ line ++ rest
+  piece : (p : List ℕ) → (skipping ≡ false → p ≡ []) → piece_behind p front ≡ piece_behind [] line
+
+cut : (skipping : Bool) (bytes line held : List ℕ) → unskipped skipping bytes ≡ line ++ held → 0 < length line → Cut skipping bytes line held
+cut false bytes line held e some = record { front = line; all = e; on = λ rest. refl; piece = λ p none. ap (λ q. piece_behind q line) (none refl) }
+cut true bytes line held e some =
+    let size = length-append line held in
+    let s = skip bytes (line ++ held) e (omega (arith, some, size)) in
+    record {
+      front = s.front ++ line;
+      all = s.all ∙ sym (append_assoc s.front line held);
+      on = λ rest. ap after_newline (append_assoc s.front line rest) ∙ s.on (line ++ rest);
+      piece = λ p none. s.piece p line;
+    }
+
+-- what a reader takes and holds, of which a line is cut
+cut_of : (mid last : Reading) (l1 l2 : Option (List ℕ)) (line : List ℕ) → (g : Gives mid last l1 l2 line) → 0 < length line → Cut mid.skipping (mid.held ++ g.got) line last.held
+cut_of mid last l1 l2 line g some =
+    cut mid.skipping (mid.held ++ g.got) line last.held
+    (ap (λ l. unskipped mid.skipping (mid.held ++ l)) (sym (append-nil g.got)) ∙ g.same [] ∙ ap (λ l. line ++ l) (append-nil last.held)) some
+
+-- a piece before the line, if it isn't skipped, is empty
+piece_before : (skipping : Bool) (lines : List ℕ) → EndsSo skipping lines → skipping ≡ false → piece_behind [] lines ≡ []
+piece_before false lines ends e = ends
+piece_before true lines ends e = cc
+
 -- one line's steps, whatever follows
-played_on : (l0 l1 l2 : Option (List ℕ)) (mid last : Reading) (old new : State) (told : List Told) (first : List Step) (out got : List ℕ)
-    → Played l0 l1 mid old told → Consumes l1 l2 got → last.taken ≡ mid.taken + length got → (t : Tells read_line old new first out)
-    → ((rest : List ℕ) → steps_of (unskipped mid.skipping (mid.held ++ (got ++ rest))) ≡ first ++ steps_of (unskipped last.skipping (last.held ++ rest)))
+played_on : (l0 l1 l2 : Option (List ℕ)) (mid last : Reading) (old new : State) (told : List Told) (first : List Step) (out line : List ℕ)
+    → (p : Played l0 l1 mid old told) → (g : Gives mid last l1 l2 line) → 0 < length line → (t : Tells read_line old new first out)
+    → ((rest : List ℕ) → steps_of (line ++ rest) ≡ first ++ steps_of (unskipped last.skipping rest))
+    → ((lines : List ℕ) → piece_behind [] lines ≡ piece_behind [] line → EndsSo last.skipping lines)
     → Played l0 l2 last new (told ++ t.all)
-played_on l0 l1 l2 mid last old new told first out got p read count t same = record {
-  input = p.input ++ got;
-  read = Consumes-trans _ _ _ _ _ p.read read;
-  count = omega (arith, count, p.count, length-append p.input got);
+played_on l0 l1 l2 mid last old new told first out line p g some t same ends = record {
+  lines = p.lines ++ k.front;
+  read = subst (Consumes l0 l2) bytes (Consumes-trans _ _ _ _ _ p.read g.consumed);
+  count =
+      let sum = ap length bytes in
+      let all = length-append (p.lines ++ mid.held) g.got in
+      let before = p.count in
+      let now = g.count in
+      omega (arith, sum, all, before, now);
+  ends = ends (p.lines ++ k.front) (piece-append [] p.lines k.front ∙ k.piece (piece_behind [] p.lines) (piece_before mid.skipping p.lines p.ends));
   goes_on = λ rest flags.
-      let later = steps_of (unskipped last.skipping (last.held ++ rest)) in
+      let later = steps_of (unskipped last.skipping rest) in
       append_assoc told t.all (replies read_line new (refused_at flags later))
       ∙ ap (λ ts. told ++ ts) (sym (t.on later flags))
-      ∙ ap (λ ss. told ++ replies read_line old (refused_at (refusals t.all ++ flags) ss)) (sym (same rest))
-      ∙ p.goes_on (got ++ rest) (refusals t.all ++ flags)
-      ∙ ap (λ bytes. told_of read_line bytes (refusals told ++ (refusals t.all ++ flags))) (sym (append_assoc p.input got rest))
-      ∙ ap (told_of read_line ((p.input ++ got) ++ rest)) (refusals_more told t.all flags);
-}
+      ∙ ap (λ ss. told ++ replies read_line old (refused_at (refusals t.all ++ flags) ss)) (sym (ap steps_of (k.on rest) ∙ same rest))
+      ∙ p.goes_on (k.front ++ rest) (refusals t.all ++ flags)
+      ∙ ap (λ bs. told_of read_line bs (refusals told ++ (refusals t.all ++ flags))) (sym (append_assoc p.lines k.front rest))
+      ∙ ap (told_of read_line ((p.lines ++ k.front) ++ rest)) (refusals_more told t.all flags);
+} where
+  k : Cut mid.skipping (mid.held ++ g.got) line last.held
+  k = cut_of mid last l1 l2 line g some
+
+  bytes : (p.lines ++ mid.held) ++ g.got ≡ (p.lines ++ k.front) ++ last.held
+  bytes = append_assoc p.lines mid.held g.got ∙ ap (λ l. p.lines ++ l) k.all ∙ sym (append_assoc p.lines k.front last.held)
 
 -- a line and its newline
 pub played_line : (l0 l1 l2 : Option (List ℕ)) (mid last : Reading) (old new : State) (told : List Told) (text out : List ℕ)
     → Played l0 l1 mid old told → Gives mid last l1 l2 (text ++ 10 ∷ []) → IsLine text → last.skipping ≡ false → (t : Tells read_line old new (line_steps text) out)
     → Played l0 l2 last new (told ++ t.all)
 played_line l0 l1 l2 mid last old new told text out p g line kept t =
-    played_on l0 l1 l2 mid last old new told (line_steps text) out g.got p g.consumed g.count t (λ rest.
-    ap steps_of (g.same rest ∙ append_assoc text (10 ∷ []) (last.held ++ rest)) ∙ steps_front text (last.held ++ rest) line
-    ∙ ap (λ skips. line_steps text ++ steps_of (unskipped skips (last.held ++ rest))) (sym kept))
+    let size = length-append text (10 ∷ []) in
+    played_on l0 l1 l2 mid last old new told (line_steps text) out (text ++ 10 ∷ []) p g (omega (arith, size)) t
+    (λ rest.
+    ap steps_of (append_assoc text (10 ∷ []) rest) ∙ steps_front text rest line
+    ∙ ap (λ skips. line_steps text ++ steps_of (unskipped skips rest)) (sym kept))
+    (λ lines e. subst (λ skips. EndsSo skips lines) (sym kept) (e ∙ piece_line text line))
 
 -- the front of a line that is too long
 pub played_long : (l0 l1 l2 : Option (List ℕ)) (mid last : Reading) (old new : State) (told : List Told) (text out : List ℕ)
     → Played l0 l1 mid old told → Gives mid last l1 l2 text → IsLong text → last.skipping ≡ true → (t : Tells read_line old new (long ∷ []) out)
     → Played l0 l2 last new (told ++ t.all)
 played_long l0 l1 l2 mid last old new told text out p g long_text skips t =
-    played_on l0 l1 l2 mid last old new told (long ∷ []) out g.got p g.consumed g.count t (λ rest.
-    ap steps_of (g.same rest) ∙ steps_long text (last.held ++ rest) long_text
-    ∙ ap (λ skipping. long ∷ steps_of (unskipped skipping (last.held ++ rest))) (sym skips))
+    let size = long_text.long in
+    played_on l0 l1 l2 mid last old new told (long ∷ []) out text p g (omega (arith, size)) t
+    (λ rest. steps_long text rest long_text ∙ ap (λ skipping. long ∷ steps_of (unskipped skipping rest)) (sym skips))
+    (λ lines e. subst (λ skipping. EndsSo skipping lines) (sym skips) (subst (λ l. 65535 < length l) (sym e) (piece_long text long_text)))
 
 -- the last steps
 told_last : (l0 l1 : Option (List ℕ)) (mid : Reading) (old new : State) (told : List Told) (first : List Step) (out got : List ℕ)
     → (p : Played l0 l1 mid old told) → (t : Tells read_line old new first out) → steps_of (unskipped mid.skipping (mid.held ++ got)) ≡ first
-    → IsTold (p.input ++ got) (told ++ t.all)
+    → IsTold ((p.lines ++ mid.held) ++ got) (told ++ t.all)
 told_last l0 l1 mid old new told first out got p t same =
     let none : first ++ [] ≡ first = append-nil first in
     let on = t.on [] [] in
     ap (λ ts. told ++ ts) (sym (on ∙ append-nil t.all) ∙ ap (λ ss. replies read_line old (refused_at (refusals t.all ++ []) ss)) (none ∙ sym same))
-    ∙ p.goes_on got (refusals t.all ++ [])
-    ∙ ap (told_of read_line (p.input ++ got)) (refusals_more told t.all [] ∙ append-nil (refusals (told ++ t.all)))
+    ∙ p.goes_on (mid.held ++ got) (refusals t.all ++ [])
+    ∙ (λ i. told_of read_line (sym (append_assoc p.lines mid.held got) i) ((refusals_more told t.all [] ∙ append-nil (refusals (told ++ t.all))) i))
 
 -- the first replies, at any moment
-told_first : (l0 l1 : Option (List ℕ)) (mid : Reading) (st : State) (told : List Told) (got : List ℕ)
-    → (p : Played l0 l1 mid st told) → IsToldFirst (p.input ++ got) told
-told_first l0 l1 mid st told got p = (
-  replies read_line st (refused_at [] (steps_of (unskipped mid.skipping (mid.held ++ got)))),
-  p.goes_on got [] ∙ ap (told_of read_line (p.input ++ got)) (append-nil (refusals told)),
+told_first : (l0 l1 : Option (List ℕ)) (mid : Reading) (st : State) (told : List Told)
+    → (p : Played l0 l1 mid st told) → IsToldFirst (p.lines ++ mid.held) told
+told_first l0 l1 mid st told p = (
+  replies read_line st (refused_at [] (steps_of (unskipped mid.skipping mid.held))),
+  p.goes_on mid.held [] ∙ ap (told_of read_line (p.lines ++ mid.held)) (append-nil (refusals told)),
 )
+
+-- ---- the whole lines of what was taken, where no line comes any more
+
+-- of the bytes behind the lines that were done a front is skipped, and the rest is a piece of a line
+record Settled (skipping : Bool) (lines bytes text : List ℕ) : Type 0 where
+  front : List ℕ
+  all : bytes ≡ front ++ text
+  none : unskipped skipping front ≡ []
+  whole : AreWholeLines (lines ++ front)
+
+-- what stands behind the last newline ends a whole line
+abbrev IsWholePiece : List ℕ → Type 0
+IsWholePiece piece = (piece ≡ []) ⊎ (65535 < length piece)
+
+settled : (skipping : Bool) (lines bytes text : List ℕ) → EndsSo skipping lines → unskipped skipping bytes ≡ text → Settled skipping lines bytes text
+settled false lines bytes text ends e = record { front = []; all = e; none = refl; whole = inl (ap (piece_behind []) (append-nil lines) ∙ ends) }
+settled true lines bytes [] ends e = record {
+  front = bytes;
+  all = sym (append-nil bytes);
+  none = e;
+  whole = subst IsWholePiece (sym (piece-append [] lines bytes)) (by (skip_all (piece_behind [] lines) bytes e));
+} where
+  by : (piece_behind (piece_behind [] lines) bytes ≡ []) ⊎ (length (piece_behind [] lines) ≤ length (piece_behind (piece_behind [] lines) bytes))
+      → IsWholePiece (piece_behind (piece_behind [] lines) bytes)
+  by (inl none) = inl none
+  by (inr more) = inr (omega (arith, more, ends))
+settled true lines bytes (b ∷ text) ends e =
+    let s = skip bytes (b ∷ text) e (omega arith) in
+    record {
+      front = s.front;
+      all = s.all;
+      none = ap after_newline (sym (append-nil s.front)) ∙ s.on [];
+      whole = inl (piece-append [] lines s.front ∙ ap (piece_behind (piece_behind [] lines)) (sym (append-nil s.front)) ∙ s.piece (piece_behind [] lines) []);
+    }
+
+told_of_lines : (l0 l1 : Option (List ℕ)) (mid : Reading) (st : State) (told : List Told) (got text : List ℕ)
+    → (p : Played l0 l1 mid st told) → unskipped mid.skipping (mid.held ++ got) ≡ text → IsLine text → IsToldOfLines ((p.lines ++ mid.held) ++ got) told
+told_of_lines l0 l1 mid st told got text p e line =
+    let s = settled mid.skipping p.lines (mid.held ++ got) text p.ends e in
+    record {
+      lines = p.lines ++ s.front;
+      piece = text;
+      all = append_assoc p.lines mid.held got ∙ ap (λ l. p.lines ++ l) s.all ∙ sym (append_assoc p.lines s.front text);
+      whole = s.whole;
+      left_off = line;
+      played =
+          sym (append-nil told)
+          ∙ ap (λ ls. told ++ replies read_line st (refused_at [] (steps_of ls))) (sym s.none)
+          ∙ p.goes_on s.front []
+          ∙ ap (told_of read_line (p.lines ++ s.front)) (append-nil (refusals told));
+    }
 
 told_whole : (input : List ℕ) (told : List Told) → IsTold input told → IsToldFirst input told
 told_whole input told e = ([], append-nil told ∙ e)
@@ -114,12 +217,12 @@ ran_end l0 l1 l2 w0 w1 mid last room limit r e none end within =
     let nothing : Tells read_line r.state r.state [] [] = record { all = []; single = tt; text = refl; on = λ more flags. refl } in
     let told = told_last l0 l1 mid r.state r.state r.told [] [] e.got p nothing (ap steps_of (e.all ∙ none)) in
     record {
-      input = p.input ++ e.got;
+      input = (p.lines ++ mid.held) ++ e.got;
       told = r.told;
       read = Consumes-trans _ _ _ _ _ p.read e.consumed;
       ended = end;
-      within = omega (arith, e.count, p.count, length-append p.input e.got, within);
-      played = subst (IsTold (p.input ++ e.got)) (append-nil r.told) told;
+      within = omega (arith, e.count, p.count, length-append (p.lines ++ mid.held) e.got, within);
+      played = subst (IsTold ((p.lines ++ mid.held) ++ e.got)) (append-nil r.told) told;
       wrote = r.wrote;
     }
 
@@ -131,41 +234,41 @@ ran_rest l0 l1 l2 w0 w1 w2 mid last old new out limit r e some end within goes w
     let p = r.played in
     let t = goes.tells in
     record {
-      input = p.input ++ e.got;
+      input = (p.lines ++ mid.held) ++ e.got;
       told = r.told ++ t.all;
       read = Consumes-trans _ _ _ _ _ p.read e.consumed;
       ended = end;
-      within = omega (arith, e.count, p.count, length-append p.input e.got, within);
+      within = omega (arith, e.count, p.count, length-append (p.lines ++ mid.held) e.got, within);
       played = told_last l0 l1 mid r.state goes.state r.told (line_steps last.text) out e.got p t (ap steps_of e.all ∙ steps_last last.text e.line some);
       wrote = subst (Appends w0 w2) (ap (λ b. texts r.told ++ b) t.text ∙ sym (flat_map-append text_of r.told t.all)) (Appends-trans _ _ _ _ _ r.wrote wrote);
     }
 
 -- the source failed
 pub ran_read : (l0 l1 l2 w0 w1 : Option (List ℕ)) (mid last : Reading) (room : Hall) (limit : ℕ)
-    → Reached l0 l1 w0 w1 mid room → Ends mid last l1 l2 → last.taken ≤ limit → RanFront (λ n. n ≤ limit) l0 l2 w0 w1
+    → Reached l0 l1 w0 w1 mid room → Ends mid last l1 l2 → last.taken ≤ limit → RanFront limit l0 l2 w0 w1
 ran_read l0 l1 l2 w0 w1 mid last room limit r e within =
     let p = r.played in
     record {
-      input = p.input ++ e.got;
+      taken = (p.lines ++ mid.held) ++ e.got;
       told = r.told;
       read = Consumes-trans _ _ _ _ _ p.read e.consumed;
-      size = omega (arith, e.count, p.count, length-append p.input e.got, within);
-      played = told_first l0 l1 mid r.state r.told e.got p;
+      within = omega (arith, e.count, p.count, length-append (p.lines ++ mid.held) e.got, within);
+      played = told_of_lines l0 l1 mid r.state r.told e.got last.text p e.all e.line;
       wrote = r.wrote;
     }
 
 -- a byte more than the limit came
 pub ran_over : (l0 l1 l2 w0 w1 : Option (List ℕ)) (mid last : Reading) (room : Hall) (limit : ℕ)
-    → Reached l0 l1 w0 w1 mid room → Exceeds mid last l1 l2 → last.limit ≡ limit → RanFront (λ n. n ≡ limit + 1) l0 l2 w0 w1
+    → Reached l0 l1 w0 w1 mid room → Exceeds mid last l1 l2 → last.limit ≡ limit → RanPast limit l0 l2 w0 w1
 ran_over l0 l1 l2 w0 w1 mid last room limit r e same =
     let p = r.played in
-    let got = e.got ++ e.last ∷ [] in
     record {
-      input = p.input ++ got;
+      taken = (p.lines ++ mid.held) ++ e.got;
+      past = e.last;
       told = r.told;
-      read = Consumes-trans _ _ _ _ _ p.read e.consumed;
-      size = omega (arith, e.count, e.past, p.count, same, length-append p.input got, length-append e.got (e.last ∷ []));
-      played = told_first l0 l1 mid r.state r.told got p;
+      read = subst (Consumes l0 l2) (sym (append_assoc (p.lines ++ mid.held) e.got (e.last ∷ []))) (Consumes-trans _ _ _ _ _ p.read e.consumed);
+      full = omega (arith, e.count, e.past, p.count, same, length-append (p.lines ++ mid.held) e.got);
+      played = told_of_lines l0 l1 mid r.state r.told e.got last.text p e.all e.line;
       wrote = r.wrote;
     }
 
@@ -221,9 +324,8 @@ ran_cut_on : (limit : ℕ) (l0 l2 w0 w1 w2 : Option (List ℕ)) (last : Reading)
     → (t : Tells read_line old new first out) → Played l0 l2 last new (told ++ t.all) → last.taken ≤ limit → Appends w0 w1 (texts told) → WritesShort w1 w2 out
     → RanCut limit l0 l2 w0 w2
 ran_cut_on limit l0 l2 w0 w1 w2 last old new told first out t p within wrote short =
-    let e = append-nil p.input in
-    ran_cut limit l0 l2 w0 w1 w2 p.input out told t.all t.single t.text
-    (subst (λ b. IsToldFirst b (told ++ t.all)) e (told_first l0 l2 last new (told ++ t.all) [] p)) p.read (omega (arith, p.count, within)) wrote short
+    ran_cut limit l0 l2 w0 w1 w2 (p.lines ++ last.held) out told t.all t.single t.text
+    (told_first l0 l2 last new (told ++ t.all) p) p.read (omega (arith, p.count, within)) wrote short
 
 -- that to a line with a newline
 pub ran_cut_line : (limit : ℕ) (l0 l1 l2 w0 w1 w2 : Option (List ℕ)) (mid last : Reading) (old new : Hall) (out : List ℕ)
@@ -249,5 +351,5 @@ ran_cut_rest limit l0 l1 l2 w0 w1 w2 mid last old new out r e some within goes s
     let p = r.played in
     let t = goes.tells in
     let told = told_last l0 l1 mid r.state goes.state r.told (line_steps last.text) out e.got p t (ap steps_of e.all ∙ steps_last last.text e.line some) in
-    ran_cut limit l0 l2 w0 w1 w2 (p.input ++ e.got) out r.told t.all t.single t.text (told_whole (p.input ++ e.got) (r.told ++ t.all) told)
-    (Consumes-trans _ _ _ _ _ p.read e.consumed) (omega (arith, e.count, p.count, length-append p.input e.got, within)) r.wrote short
+    ran_cut limit l0 l2 w0 w1 w2 ((p.lines ++ mid.held) ++ e.got) out r.told t.all t.single t.text (told_whole ((p.lines ++ mid.held) ++ e.got) (r.told ++ t.all) told)
+    (Consumes-trans _ _ _ _ _ p.read e.consumed) (omega (arith, e.count, p.count, length-append (p.lines ++ mid.held) e.got, within)) r.wrote short

@@ -1,14 +1,15 @@
 -- The steps of a script, line by line.
-use Rattle.std.proofs.Common.{◌≡◌, ◌≢◌, ℕ, ◌<◌, List, [], ◌∷◌, ◌++◌, length, ap, ◌∙◌, arith, refl}
-use Rattle.std.specs.Prelude.{if◌then◌else◌, ◌==◌}
+use Rattle.std.proofs.Common.{◌≡◌, ◌≢◌, ℕ, ◌<◌, ◌≤◌, Bool, true, false, List, [], ◌∷◌, ◌++◌, length, sym, ap, ◌∙◌, arith, refl, cond, inl, inr}
+use Rattle.std.specs.Prelude.{◌⊎◌, if◌then◌else◌, ◌==◌}
 use Rattle.std.specs.List.{AllByRecursion, flat_map}
 use Rattle.std.proofs.lemmas.Bool.Decides.{nat_tests}
-use Rattle.std.proofs.lemmas.List.{append-nil, length-append}
+use Rattle.std.proofs.lemmas.List.{append_assoc, append-nil, length-append}
 use Rattle.std.proofs.lemmas.List.Elements.{recursion_from_All}
 use Rattle.ifdb_io.specs.Lines.{after_newline, IsLine, IsLong}
 use Rattle.ifdb_model.specs.Script.{lines_of, on_first}
 use Rattle.ifdb_model.specs.Run.{long}
 use Rattle.ifdb_model.specs.Script.{line_steps, steps_of}
+use Rattle.ifdb_script.specs.Run.{piece_behind}
 
 -- a line and its newline come first
 lines_front : (text rest : List ℕ) → AllByRecursion (λ b. b ≢ 10) text → lines_of (text ++ 10 ∷ rest) ≡ text ∷ lines_of rest
@@ -51,3 +52,72 @@ steps_long (b ∷ text) rest h =
     let lines = lines_long b text rest (recursion_from_All (λ c. c ≢ 10) (b ∷ text) h.plain) in
     let size : 65535 < length ((b ∷ text) ++ before_newline rest) = omega (arith, h.long, length-append (b ∷ text) (before_newline rest)) in
     ap (flat_map line_steps) lines ∙ ap (λ first. first ++ steps_of (after_newline rest)) (long_step ((b ∷ text) ++ before_newline rest) size)
+
+-- ---- the piece behind the last newline
+
+pub piece-append : (p xs ys : List ℕ) → piece_behind p (xs ++ ys) ≡ piece_behind (piece_behind p xs) ys
+piece-append p [] ys = refl
+piece-append p (b ∷ xs) ys = by (b == 10) where
+  by : (k : Bool) → cond k (piece_behind [] (xs ++ ys)) (piece_behind (p ++ b ∷ []) (xs ++ ys)) ≡ piece_behind (cond k (piece_behind [] xs) (piece_behind (p ++ b ∷ []) xs)) ys
+  by true = piece-append [] xs ys
+  by false = piece-append (p ++ b ∷ []) xs ys
+
+piece_plain : (p text : List ℕ) → AllByRecursion (λ b. b ≢ 10) text → piece_behind p text ≡ p ++ text
+piece_plain p [] h = sym (append-nil p)
+piece_plain p (b ∷ text) h =
+    let no : (b == 10) ≡ false = grind (arith, nat_tests, h.0) in
+    ap (λ k. cond k (piece_behind [] text) (piece_behind (p ++ b ∷ []) text)) no
+    ∙ piece_plain (p ++ b ∷ []) text h.1
+    ∙ append_assoc p (b ∷ []) text
+
+-- none stands behind a line with its newline
+pub piece_line : (text : List ℕ) → IsLine text → piece_behind [] (text ++ 10 ∷ []) ≡ []
+piece_line text h = piece-append [] text (10 ∷ [])
+
+-- the front of a line that is too long is too long
+pub piece_long : (text : List ℕ) → IsLong text → 65535 < length (piece_behind [] text)
+piece_long text h =
+    let size = ap length (piece_plain [] text (recursion_from_All (λ b. b ≢ 10) text h.plain)) in
+    let long = h.long in
+    omega (arith, size, long)
+
+-- ---- what is skipped, up to a newline
+
+-- a front of some bytes ends with their first newline, and these stand behind it
+pub record Skip (xs ys : List ℕ) : Type 0 where
+  pub front : List ℕ
+  pub all : xs ≡ front ++ ys
+  pub on : (zs : List ℕ) → after_newline (front ++ zs) ≡ zs
+  pub piece : (p zs : List ℕ) → piece_behind p (front ++ zs) ≡ piece_behind [] zs
+
+pub skip : (xs ys : List ℕ) → after_newline xs ≡ ys → 0 < length ys → Skip xs ys
+skip [] ys e some = let none = ap length e in absurd (omega (arith, none, some))
+skip (b ∷ xs) ys e some = by (b == 10) refl e where
+  by : (k : Bool) → (b == 10) ≡ k → cond k xs (after_newline xs) ≡ ys → Skip (b ∷ xs) ys
+  by true is e = record {
+    front = b ∷ [];
+    all = ap (λ l. b ∷ l) e;
+    on = λ zs. ap (λ k. cond k zs (after_newline zs)) is;
+    piece = λ p zs. ap (λ k. cond k (piece_behind [] zs) (piece_behind (p ++ b ∷ []) zs)) is;
+  }
+  by false is e =
+      let s = skip xs ys e some in
+      record {
+        front = b ∷ s.front;
+        all = ap (λ l. b ∷ l) s.all;
+        on = λ zs. ap (λ k. cond k (s.front ++ zs) (after_newline (s.front ++ zs))) is ∙ s.on zs;
+        piece = λ p zs. ap (λ k. cond k (piece_behind [] (s.front ++ zs)) (piece_behind (p ++ b ∷ []) (s.front ++ zs))) is ∙ s.piece (p ++ b ∷ []) zs;
+      }
+
+-- where all is skipped, the piece is empty or has grown
+pub skip_all : (p xs : List ℕ) → after_newline xs ≡ [] → (piece_behind p xs ≡ []) ⊎ (length p ≤ length (piece_behind p xs))
+skip_all p [] e = inr (omega arith)
+skip_all p (b ∷ xs) e = by (b == 10) e where
+  by : (k : Bool) → cond k xs (after_newline xs) ≡ []
+      → (cond k (piece_behind [] xs) (piece_behind (p ++ b ∷ []) xs) ≡ []) ⊎ (length p ≤ length (cond k (piece_behind [] xs) (piece_behind (p ++ b ∷ []) xs)))
+  by true e = inl (ap (piece_behind []) e)
+  by false e = longer (skip_all (p ++ b ∷ []) xs e) where
+    longer : (piece_behind (p ++ b ∷ []) xs ≡ []) ⊎ (length (p ++ b ∷ []) ≤ length (piece_behind (p ++ b ∷ []) xs))
+        → (piece_behind (p ++ b ∷ []) xs ≡ []) ⊎ (length p ≤ length (piece_behind (p ++ b ∷ []) xs))
+    longer (inl none) = inl none
+    longer (inr more) = let grown = length-append p (b ∷ []) in inr (omega (arith, more, grown))

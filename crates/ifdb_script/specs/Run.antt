@@ -1,6 +1,8 @@
 -- What a run of a script did: what it read, what it was told, and what it wrote of that.
-use Rattle.std.specs.Prelude.{◌≡◌, ℕ, ◌<◌, ◌≤◌, true, List, [], ◌∷◌, ◌++◌, length, take, Option}
+use Rattle.std.specs.Prelude.{◌≡◌, ◌⊎◌, ℕ, ◌==◌, ◌<◌, ◌≤◌, true, List, [], ◌∷◌, ◌++◌, length, take, Option, if◌then◌else◌}
 use Rattle.std.specs.Io.KnownBytes.{Appends, Consumes, IsAtEnd}
+use Rattle.ifdb_io.specs.declared.lines.TheConstants.{LONGEST_LINE}
+use Rattle.ifdb_io.specs.Lines.{IsLine}
 use Rattle.ifdb_model.specs.Run.{Told}
 use Rattle.ifdb_model.specs.Output.{texts, text_of, told_of, refusals}
 use Rattle.ifdb_laws.specs.Scripts.{none_reads_memory, IsHeardAlike}
@@ -14,6 +16,25 @@ IsTold input told = told ≡ told_of read_line input (refusals told)
 abbrev pub IsToldFirst : List ℕ → List Told → Type 0
 IsToldFirst input told = (rest : List Told) × (told ++ rest ≡ told_of read_line input (refusals told))
 
+-- what stands behind the last newline, which is 10, of some bytes behind this piece
+abbrev pub piece_behind : List ℕ → List ℕ → List ℕ
+piece_behind piece [] = piece
+piece_behind piece (b ∷ bytes) = if b == 10 then piece_behind [] bytes else piece_behind (piece ++ b ∷ []) bytes
+
+-- each line is whole: nothing stands behind the last newline, or a line that is too long already
+abbrev pub AreWholeLines : List ℕ → Type 0
+AreWholeLines bytes = (piece_behind [] bytes ≡ []) ⊎ (LONGEST_LINE < length (piece_behind [] bytes))
+
+-- A script was told this of the whole lines among the bytes that were taken. A last piece, which has no newline and isn't
+-- too long for a line, is left off.
+pub record IsToldOfLines (taken : List ℕ) (told : List Told) : Type 0 where
+  pub lines : List ℕ
+  pub piece : List ℕ
+  pub all : taken ≡ lines ++ piece
+  pub whole : AreWholeLines lines
+  pub left_off : IsLine piece
+  pub played : IsTold lines told
+
 -- The input was read to its end, within the limit, and what the script was told was written.
 pub record RanWhole (limit : ℕ) (left_old left_new written_old written_new : Option (List ℕ)) : Type 0 where
   pub input : List ℕ
@@ -24,16 +45,27 @@ pub record RanWhole (limit : ℕ) (left_old left_new written_old written_new : O
   pub played : IsTold input told
   pub wrote : Appends written_old written_new (texts told)
 
--- What was written are the first replies to the bytes that were taken, each in full. The bytes are as many as `Size` says.
-pub record RanFront (Size : ℕ → Type 0) (left_old left_new written_old written_new : Option (List ℕ)) : Type 0 where
-  pub input : List ℕ
+-- Reading failed: what was written is what the script was told of the whole lines that were taken, each reply in full.
+pub record RanFront (limit : ℕ) (left_old left_new written_old written_new : Option (List ℕ)) : Type 0 where
+  pub taken : List ℕ
   pub told : List Told
-  pub read : Consumes left_old left_new input
-  pub size : Size (length input)
-  pub played : IsToldFirst input told
+  pub read : Consumes left_old left_new taken
+  pub within : length taken ≤ limit
+  pub played : IsToldOfLines taken told
   pub wrote : Appends written_old written_new (texts told)
 
--- The same, and then a front of the next reply, which may itself read error 20.
+-- The input has more bytes than the limit: so it is with the bytes within it, and one byte more was taken.
+pub record RanPast (limit : ℕ) (left_old left_new written_old written_new : Option (List ℕ)) : Type 0 where
+  pub taken : List ℕ
+  pub past : ℕ
+  pub told : List Told
+  pub read : Consumes left_old left_new (taken ++ past ∷ [])
+  pub full : length taken ≡ limit
+  pub played : IsToldOfLines taken told
+  pub wrote : Appends written_old written_new (texts told)
+
+-- Writing failed: what was written are the first replies, each in full, and then a front of the next one, which may itself
+-- read error 20.
 pub record RanCut (limit : ℕ) (left_old left_new written_old written_new : Option (List ℕ)) : Type 0 where
   pub input : List ℕ
   pub told : List Told

@@ -1,5 +1,5 @@
 // A script, line by line.
-ghost use Rattle.std.specs.Prelude.{◌≡◌, ◌⊎◌, ◌+◌, ◌≤◌, ◌^◌, [], false, length, Some};
+ghost use Rattle.std.specs.Prelude.{◌≡◌, ◌≢◌, ◌⊎◌, ◌+◌, ◌≤◌, ◌^◌, [], false, length, Some};
 ghost use Rattle.ifdb_io.specs.Causes.{Rose};
 ghost use Rattle.ifdb_wire.specs.Script.{asked_by};
 ghost use Rattle.ifdb_wire.specs.Text.{reply_text};
@@ -7,7 +7,7 @@ ghost use Rattle.ifdb_model.specs.Run.{opening, opens, asks, refused};
 ghost use Rattle.ifdb_model.specs.Script.{line_step, line_steps};
 ghost use Rattle.ifdb_db.specs.Reading.{read_line};
 ghost use Rattle.ifdb_db.specs.Room.{StandsFor};
-ghost use Rattle.ifdb_script.specs.Run.{RanWhole, RanFront, RanCut};
+ghost use Rattle.ifdb_script.specs.Run.{RanWhole, RanFront, RanPast, RanCut};
 ghost use Rattle.ifdb_script.specs.Steps.{Does, Stepped};
 
 use ifdb_db::Room;
@@ -33,6 +33,8 @@ pub enum ScriptEnd {
 /// Runs a script over the opening, which has the principal `admin` with the key `admin` and nothing else: each line's step in turn, and
 /// its reply. At most `limit` bytes of the input are a script. Faults of the input and the output end it, and so does a byte past the
 /// limit; want of memory ends it before the first read alone, and afterwards is the reply to the step that met it.
+///
+/// Where reading fails, and where the input has more bytes than the limit, each whole line that came before was answered in full.
 pub fn run_script<R: Source, W: Sink>(
     alloc: Global,
     input: &mut R,
@@ -46,18 +48,19 @@ pub fn run_script<R: Source, W: Sink>(
 
     // A fault, and what was written before it.
     ensures read { result ≡ ScriptEnd.ReadFault → Rose (R.faults input.old) (R.faults input.new) }
-    ensures read_front { result ≡ ScriptEnd.ReadFault → RanFront (λ n. n ≤ limit)
+    ensures read_front { result ≡ ScriptEnd.ReadFault → RanFront limit
         (R.left input.old) (R.left input.new) (W.written output.old) (W.written output.new) }
     ensures write { result ≡ ScriptEnd.WriteFault
         → Rose (W.faults output.old) (W.faults output.new) }
     ensures write_front { result ≡ ScriptEnd.WriteFault
         → RanCut limit (R.left input.old) (R.left input.new) (W.written output.old)
         (W.written output.new) }
-    ensures too_large { result ≡ ScriptEnd.TooLarge → RanFront (λ n. n ≡ limit + 1)
+    ensures too_large { result ≡ ScriptEnd.TooLarge → RanPast limit
         (R.left input.old) (R.left input.new) (W.written output.old) (W.written output.new) }
 
     ensures memory { result ≡ ScriptEnd.OutOfMemory
         → (input.new ≡ input.old) × (output.new ≡ output.old) }
+    ensures unfailed { result ≢ ScriptEnd.ReadFault → R.faults input.new ≡ R.faults input.old }
     ensures input_later { R.faults input.old ≤ R.faults input.new }
     ensures output_later { W.faults output.old ≤ W.faults output.new }
 {
@@ -92,15 +95,16 @@ fn run_lines<R: Source, W: Sink>(
     ensures done { result ≡ ScriptEnd.Done → RanWhole reader.old.limit
         (R.left input.old) (R.left input.new) (W.written output.old) (W.written output.new) }
     ensures read { result ≡ ScriptEnd.ReadFault → Rose (R.faults input.old) (R.faults input.new) }
-    ensures read_front { result ≡ ScriptEnd.ReadFault → RanFront (λ n. n ≤ reader.old.limit)
+    ensures read_front { result ≡ ScriptEnd.ReadFault → RanFront reader.old.limit
         (R.left input.old) (R.left input.new) (W.written output.old) (W.written output.new) }
     ensures write { result ≡ ScriptEnd.WriteFault
         → Rose (W.faults output.old) (W.faults output.new) }
     ensures write_front { result ≡ ScriptEnd.WriteFault → RanCut reader.old.limit
         (R.left input.old) (R.left input.new) (W.written output.old) (W.written output.new) }
-    ensures too_large { result ≡ ScriptEnd.TooLarge → RanFront (λ n. n ≡ reader.old.limit + 1)
+    ensures too_large { result ≡ ScriptEnd.TooLarge → RanPast reader.old.limit
         (R.left input.old) (R.left input.new) (W.written output.old) (W.written output.new) }
     ensures memory { result ≡ ScriptEnd.OutOfMemory → ⊥ }
+    ensures unfailed { result ≢ ScriptEnd.ReadFault → R.faults input.new ≡ R.faults input.old }
     ensures input_later { R.faults input.old ≤ R.faults input.new }
     ensures output_later { W.faults output.old ≤ W.faults output.new }
 {

@@ -38,10 +38,11 @@ module _ {R K : Type 0} (sources : source.Ghosts K) (sinks : sink.Ghosts K) wher
   pub serves_so : (h : SessionHost R K) (came went : K) (ending : Ending) (pass : Pass SharedRoom Entry) (faults : ℕ) → Sees h.hall.now h.pass pass
       → (ending ≢ ends.OutOfMemory → (n : ℕ) × Served ending h.limit n h.pass pass (span_of sources sinks came went))
       → (ending ≡ ends.OutOfMemory → went ≡ came) → (ending ≡ ends.OutOfMemory → places pass ≡ places h.pass)
-      → (ending ≡ ends.LinkRead → Rose (sources.faults came) (sources.faults went)) → (ending ≡ ends.LinkWrite → Rose (sinks.faults came) (sinks.faults went))
+      → (ending ≡ ends.LinkRead → Rose (sources.faults came) (sources.faults went)) → (ending ≢ ends.LinkRead → sources.faults went ≡ sources.faults came)
+      → (ending ≡ ends.LinkWrite → Rose (sinks.faults came) (sinks.faults went))
       → faults ≡ capped (h.faults + fault_of ending)
       → Serves sources sinks h came (record h { pass = pass; faults = faults }) went
-  serves_so h came went ending pass faults sees served unserved unopened read write counted =
+  serves_so h came went ending pass faults sees served unserved unopened read unfailed write counted =
       let one = number_first (λ n. Served ending h.limit n h.pass pass (span_of sources sinks came went)) ending served in
       record {
         hall = refl;
@@ -51,6 +52,6 @@ module _ {R K : Type 0} (sources : source.Ghosts K) (sinks : sink.Ghosts K) wher
         served = one.1;
         unserved = unserved;
         unopened = unopened;
-        causes = record { read = read; write = write };
+        causes = record { read = read; unfailed = unfailed; write = write };
         faults = counted;
       }

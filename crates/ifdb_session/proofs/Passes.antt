@@ -1,5 +1,5 @@
 -- Passes that go on, and then go on again.
-use Rattle.std.proofs.Common.{◌≡◌, ℕ, Bool, true, false, List, [], ◌++◌, ◌∙◌, refl, sym, ap}
+use Rattle.std.proofs.Common.{◌≡◌, ℕ, Bool, true, false, List, [], ◌∷◌, ◌++◌, ◌∙◌, refl, sym, ap}
 use Rattle.std.proofs.lemmas.List.{append_assoc, append-nil}
 use mathlib.Core.List.{IsPrefix}
 use Rattle.ifdb_turn.specs.declared.turnstile.Turnstile.{Turnstile}
@@ -11,7 +11,8 @@ use Rattle.ifdb_history.proofs.Entries.{entries_later, entries-append}
 use Rattle.ifdb_db.specs.Reading.{read_line}
 use Rattle.ifdb_session.specs.declared.seat.Seat.{Seat}
 use Rattle.ifdb_session.specs.Passes.{Sees, Adds}
-use Rattle.ifdb_session.specs.Seats.{IsSeated, IsGone}
+use Rattle.ifdb_session.specs.Closings.{AsksBye}
+use Rattle.ifdb_session.specs.Seats.{lines_in, IsSeated, IsGone}
 use Rattle.ifdb_session.specs.Talk.{IsLeftSo}
 
 pub prefix_itself : {A : Type 0} (xs : List A) → IsPrefix xs xs
@@ -43,7 +44,9 @@ module _ {X : Type 0} (n : ℕ) where
     of = entries-append n (history last) p.added q.added (entries_later n (history mid) (history last) p.added front p.of) q.of;
   }
 
--- a session that is open or over, by what a turn said
-pub left_so : (h : List Entry) (own : List ℕ) (seat : Seat) (is_open : Bool) → (is_open ≡ true → IsSeated h own seat) → (is_open ≡ false → IsGone h seat) → IsLeftSo h own seat is_open
-left_so h own seat true goes over = goes refl
-left_so h own seat false goes over = over refl
+-- a session that is open, or over by its last line, as a turn said
+pub left_so : (h : List Entry) (own : List ℕ) (seat : Seat) (is_open : Bool) (before : List (List ℕ)) (line : List ℕ)
+    → (is_open ≡ true → IsSeated h own seat) → (is_open ≡ false → IsGone h seat) → (is_open ≡ false → AsksBye seat.number h line)
+    → lines_in h seat ≡ before ++ line ∷ [] → IsLeftSo h own seat is_open
+left_so h own seat true before line goes over bye lines = goes refl
+left_so h own seat false before line goes over bye lines = (over refl, record { front = before; line = line; all = lines; bye = bye refl })

@@ -1,12 +1,14 @@
 -- Lines taken and texts written.
-use Rattle.std.proofs.Common.{◌≡◌, ℕ, suc, ◌+◌, false, List, [], ◌∷◌, ◌++◌, ◌∙◌, length, take, sym, ap, subst, arith, Option}
+use Rattle.std.proofs.Common.{◌≡◌, ℕ, ◌+◌, ◌≤◌, false, List, [], ◌∷◌, ◌++◌, ◌∙◌, length, take, sym, ap, subst, arith, Option, None}
 use Rattle.std.proofs.lemmas.List.{append_assoc, append-nil, length-append}
 use Rattle.std.proofs.lemmas.List.Concat.{flat_map-append}
 use Rattle.std.specs.Io.KnownBytes.{Appends, Consumes}
 use Rattle.std.proofs.KnownBytes.{Appends-trans, Appends-nil, Consumes-trans, Consumes-nil}
 use Rattle.ifdb_io.specs.Causes.{WritesShort}
 use Rattle.ifdb_io.specs.Lines.{Reading, Gives, Ends as Stops, Exceeds, unskipped}
-use Rattle.ifdb_session.specs.Links.{Took, with_newline, bytes_of, long_text}
+use Rattle.ifdb_wire.specs.declared.reply.Reply.{Reply}
+use Rattle.ifdb_wire.specs.Text.{reply_text}
+use Rattle.ifdb_session.specs.Links.{Took, TookWithin, WroteShort, CutsReply, with_newline, bytes_of, long_text}
 use Rattle.ifdb_session.specs.Talk.{Talks}
 
 bytes-snoc : (lines : List (List ℕ)) (line : List ℕ) → bytes_of (lines ++ line ∷ []) ≡ bytes_of lines ++ with_newline line
@@ -34,19 +36,30 @@ consumes_on : (a b c : Option (List ℕ)) (bytes held got rest : List ℕ) → C
 consumes_on a b c bytes held got rest first then is =
     subst (Consumes a c) (append_assoc bytes held got ∙ ap (λ l. bytes ++ l) is) (Consumes-trans a b c (bytes ++ held) got first then)
 
-take-more : (xs ys : List ℕ) (k : ℕ) → xs ++ take k ys ≡ take (length xs + k) (xs ++ ys)
-take-more [] ys k = let same : k ≡ 0 + k = omega arith in ap (λ j. take j ys) same
-take-more (x ∷ xs) ys k =
-    let same : suc (length xs + k) ≡ length (x ∷ xs) + k = omega arith in
-    ap (λ l. x ∷ l) (take-more xs ys k) ∙ ap (λ j. take j (x ∷ (xs ++ ys))) same
+-- no more were taken than the limit that a reader keeps
+pub within_limit : {taken kept limit : ℕ} → taken ≤ kept → kept ≡ limit → taken ≤ limit
+within_limit {taken} {kept} {limit} few is = omega (arith, few, is)
 
--- of two texts the first was written, and a front of the second
-pub short_on : (a b c : Option (List ℕ)) (texts text all : List ℕ) → Appends a b texts → WritesShort b c text → all ≡ texts ++ text → WritesShort a c all
-short_on a b c texts text all first then is = subst (WritesShort a c) (sym is) (record {
-  n = length texts + then.n;
-  short = let few = then.short in let long = length-append texts text in omega (arith, few, long);
-  written = subst (Appends a c) (take-more texts text then.n) (Appends-trans a b c texts (take then.n text) first then.written);
-})
+-- how many bytes were taken, once some more were
+count_on : (bytes held got rest : List ℕ) (before now : ℕ) → before ≡ length (bytes ++ held) → now ≡ before + length got → held ++ got ≡ rest → now ≡ length (bytes ++ rest)
+count_on bytes held got rest before now was is same =
+    let joined = ap length same in
+    let one = length-append bytes held in
+    let two = length-append held got in
+    let three = length-append bytes rest in
+    omega (arith, was, is, joined, one, two, three)
+
+-- of a text that is a reply's a front was written, behind the texts before it
+cuts_reply : (a b c : Option (List ℕ)) (left now : Option (List ℕ)) (texts text all : List ℕ) → Appends a b texts → (r : Reply) → text ≡ reply_text None r → WritesShort b c text
+    → all ≡ texts ++ text → CutsReply all (record { left = left; left_now = now; written = a; written_now = c })
+cuts_reply a b c left now texts text all first r is short told =
+    let there : WritesShort b c (reply_text None r) = subst (WritesShort b c) is short in
+    record {
+      before = texts;
+      last = r;
+      all = told ∙ ap (λ t. texts ++ t) is;
+      wrote = record { n = there.n; short = there.short; wrote = Appends-trans a b c texts (take there.n (reply_text None r)) first there.written };
+    }
 
 module _ (lines : List (List ℕ)) (texts : List ℕ) (old new : Reading) (a b w v : Option (List ℕ))
     (so : Talks lines texts old (record { left = a; left_now = b; written = w; written_now = v })) where
@@ -59,20 +72,17 @@ module _ (lines : List (List ℕ)) (texts : List ℕ) (old new : Reading) (a b w
         sym (append_assoc (bytes_of lines) (new.text ++ 10 ∷ []) new.held)
         ∙ ap (λ l. l ++ new.held) (sym (bytes-snoc lines new.text) ∙ ap bytes_of (sym asked))
 
-    pub line_took : Took more new.held (record { left = a; left_now = c; written = w; written_now = v })
+    line_took : Took more new.held (record { left = a; left_now = c; written = w; written_now = v })
     line_took = subst (Consumes a c) line_bytes
         (consumes_on a b c (bytes_of lines) old.held g.got ((new.text ++ 10 ∷ []) ++ new.held) so.took g.consumed (gives_bytes old new b c _ g so.still))
 
     line_count : new.taken ≡ length (bytes_of more ++ new.held)
     line_count =
-        let bytes = ap length (gives_bytes old new b c _ g so.still) in
-        let joined = ap length line_bytes in
-        let one = length-append (bytes_of lines) old.held in
-        let two = length-append old.held g.got in
-        let three = length-append (bytes_of lines) ((new.text ++ 10 ∷ []) ++ new.held) in
-        let before = so.count in
-        let now = g.count in
-        omega (arith, bytes, joined, one, two, three, before, now)
+        count_on (bytes_of lines) old.held g.got ((new.text ++ 10 ∷ []) ++ new.held) old.taken new.taken so.count g.count (gives_bytes old new b c _ g so.still)
+        ∙ ap length line_bytes
+
+    pub line_within : (limit : ℕ) → new.taken ≤ limit → TookWithin limit more new.held (record { left = a; left_now = c; written = w; written_now = v })
+    line_within limit few = record { took = line_took; within = let count = line_count in omega (arith, few, count) }
 
     pub talks_on : (u : Option (List ℕ)) → Appends v u text → new.over ≡ false → new.skipping ≡ false
         → Talks more all new (record { left = a; left_now = c; written = w; written_now = u })
@@ -84,24 +94,36 @@ module _ (lines : List (List ℕ)) (texts : List ℕ) (old new : Reading) (a b w
       still = still;
     }
 
-    pub wrote_short : (u : Option (List ℕ)) → WritesShort v u text → WritesShort w u all
-    wrote_short u short = short_on w v u texts text all so.wrote short told
+    pub wrote_cut : (u : Option (List ℕ)) → (r : Reply) → text ≡ reply_text None r → WritesShort v u text → CutsReply all (record { left = a; left_now = c; written = w; written_now = u })
+    wrote_cut u r is short = cuts_reply w v u a c texts text all so.wrote r is short told
 
   -- ---- a line that is too long
 
-  pub long_took : (c : Option (List ℕ)) → (g : Gives old new b c new.text) → Took lines (new.text ++ new.held) (record { left = a; left_now = c; written = w; written_now = v })
-  long_took c g = consumes_on a b c (bytes_of lines) old.held g.got (new.text ++ new.held) so.took g.consumed (gives_bytes old new b c _ g so.still)
+  pub long_within : (limit : ℕ) (c : Option (List ℕ)) → (g : Gives old new b c new.text) → new.taken ≤ limit
+      → TookWithin limit lines (new.text ++ new.held) (record { left = a; left_now = c; written = w; written_now = v })
+  long_within limit c g few = record {
+    took = consumes_on a b c (bytes_of lines) old.held g.got (new.text ++ new.held) so.took g.consumed (gives_bytes old new b c _ g so.still);
+    within =
+        let count = count_on (bytes_of lines) old.held g.got (new.text ++ new.held) old.taken new.taken so.count g.count (gives_bytes old new b c _ g so.still) in
+        omega (arith, few, count);
+  }
 
   pub wrote_long : (u : Option (List ℕ)) → Appends v u long_text → Appends w u (texts ++ long_text)
   wrote_long u wrote = Appends-trans w v u texts long_text so.wrote wrote
 
-  pub wrote_front : (u : Option (List ℕ)) → (s : WritesShort v u long_text) → Appends w u (texts ++ take s.n long_text)
-  wrote_front u s = Appends-trans w v u texts (take s.n long_text) so.wrote s.written
+  pub wrote_front : (c u : Option (List ℕ)) → WritesShort v u long_text → WroteShort texts long_text (record { left = a; left_now = c; written = w; written_now = u })
+  wrote_front c u s = record { n = s.n; short = s.short; wrote = Appends-trans w v u texts (take s.n long_text) so.wrote s.written }
 
   -- ---- no line any more
 
-  pub rest_took : (c : Option (List ℕ)) → (g : Stops old new b c) → Took lines new.text (record { left = a; left_now = c; written = w; written_now = v })
-  rest_took c g = consumes_on a b c (bytes_of lines) old.held g.got new.text so.took g.consumed (stops_bytes old new b c g so.still)
+  pub rest_within : (limit : ℕ) (c : Option (List ℕ)) → (g : Stops old new b c) → new.taken ≤ limit
+      → TookWithin limit lines new.text (record { left = a; left_now = c; written = w; written_now = v })
+  rest_within limit c g few = record {
+    took = consumes_on a b c (bytes_of lines) old.held g.got new.text so.took g.consumed (stops_bytes old new b c g so.still);
+    within =
+        let count = count_on (bytes_of lines) old.held g.got new.text old.taken new.taken so.count g.count (stops_bytes old new b c g so.still) in
+        omega (arith, few, count);
+  }
 
   pub past_took : (c : Option (List ℕ)) → (g : Exceeds old new b c) → Took lines (new.text ++ g.last ∷ []) (record { left = a; left_now = c; written = w; written_now = v })
   past_took c g = consumes_on a b c (bytes_of lines) old.held (g.got ++ g.last ∷ []) (new.text ++ g.last ∷ []) so.took g.consumed

@@ -1,5 +1,5 @@
 -- One turn of a session.
-use Rattle.std.proofs.Common.{◌≡◌, ℕ, ◌+◌, ◌<◌, Bool, true, false, List, [], ◌∷◌, ◌++◌, ◌∙◌, length, refl, sym, ap, subst, arith, cond, Option, Some, None, inl, inr}
+use Rattle.std.proofs.Common.{◌≡◌, ℕ, ◌+◌, ◌<◌, Bool, true, false, List, [], ◌∷◌, ◌++◌, ◌∙◌, length, refl, sym, ap, subst, arith, cond, Option, Some, None, Ok, inl, inr}
 use Rattle.std.proofs.lemmas.List.{append-nil}
 use mathlib.Core.List.{IsPrefix}
 use Rattle.ifdb_turn.specs.declared.turnstile.Turnstile.{Turnstile}
@@ -12,7 +12,8 @@ use Rattle.ifdb_turn.specs.Turns.{turnstile_of, pass_of}
 use Rattle.ifdb_turn.specs.declared.turn.Turn.{Turn}
 use Rattle.ifdb_model.specs.Log.{commits_of}
 use Rattle.ifdb_model.specs.Session.{Session}
-use Rattle.ifdb_model.specs.Run.{State, opens, asks, leaves, next, run}
+use Rattle.ifdb_model.specs.Step.{Outcome, ask}
+use Rattle.ifdb_model.specs.Run.{State, session_of, outcome_of, opens, asks, leaves, next, run}
 use Rattle.ifdb_model.proofs.Runs.{run-append}
 use Rattle.ifdb_db.specs.Client.{Client}
 use Rattle.ifdb_db.specs.Looks.{Looking, IsLookOf}
@@ -20,7 +21,12 @@ use Rattle.ifdb_db.specs.Reading.{read_line}
 use Rattle.ifdb_db.specs.Room.{Hall, StandsFor}
 use Rattle.ifdb_db.specs.RoomSteps.{GoesBy}
 use Rattle.ifdb_db.proofs.Looking.{shown_is_told, only_looks}
+use Rattle.ifdb_syntax.specs.declared.request.Request.TheVariants as request
+use Rattle.ifdb_wire.specs.declared.fault.Fault.TheVariants as fault
+use Rattle.ifdb_wire.specs.declared.reply.Reply.{Reply}
+use Rattle.ifdb_wire.specs.declared.reply.Reply.TheVariants as reply
 use Rattle.ifdb_wire.specs.Text.{memory_text, reply_text}
+use Rattle.ifdb_laws.proofs.Shapes.{bye_alone_lem}
 use Rattle.ifdb_history.specs.declared.entry.Entry.{Entry}
 use Rattle.ifdb_history.specs.declared.entry.Kind.TheVariants as kind
 use Rattle.ifdb_history.specs.declared.entry.Note.{Note}
@@ -35,14 +41,15 @@ use Rattle.ifdb_history.proofs.Over.{opened_new}
 use Rattle.ifdb_history.proofs.Entries.{last_entry}
 use Rattle.ifdb_history.proofs.Logs.{log_on}
 use Rattle.ifdb_session.specs.Counts.{commits_at, refuses_at}
+use Rattle.ifdb_session.specs.Closings.{AsksBye, HasLeft}
 use Rattle.ifdb_session.specs.Ends.{EndsBare, EndsWith}
 use Rattle.ifdb_session.specs.Passes.{Sees, Adds, Asks, IsNew, TakesNoTurn}
-use Rattle.ifdb_session.specs.Seats.{work_of, lines_in, IsToldIn, asked_entry, left_entry, Works, WorksIf, IsSeated, IsGone, IsForRoomIf, Notes, IsShownAs}
+use Rattle.ifdb_session.specs.Seats.{work_of, lines_in, IsToldIn, asked_entry, left_entry, Works, WorksIf, IsSeated, IsGone, IsForRoom, IsToldAs, Notes, IsShownAs}
 use Rattle.ifdb_session.specs.declared.seat.Seat.{Seat}
 use Rattle.ifdb_session.specs.declared.shared.SharedRoom.{SharedRoom}
 use Rattle.ifdb_session.specs.Standing.{StandsForHistory}
 use Rattle.ifdb_session.specs.Turns.{with_lent, MayBeBack, IsLentBy, IsNextNumber, IsAnswered, HasCounted, CountsTurn}
-use Rattle.ifdb_session.proofs.Counting.{stands_more, commits_more, line_commits, leaving_commits}
+use Rattle.ifdb_session.proofs.Counting.{stands_more, commits_more, line_commits, leaving_commits, session_after}
 use Rattle.ifdb_session.proofs.Passes.{prefix-trans, sees_itself, adds_none}
 use Rattle.ifdb_session.proofs.Working.{work_here, works_here, if_later, if_told, if_work, if_log, if_stands, if_back, lent_works, works_more, lines_more, texts_more, told_alone, told_of_none}
 
@@ -166,9 +173,40 @@ module _ (log : List Entry) (own : List ℕ) (s : Seat) (seated : IsSeated log o
     room : StandsFor new.room (after read_line (log ++ e ∷ []))
     room = subst (λ (h : Hall). StandsFor h (after read_line (log ++ e ∷ []))) (sym same) (subst (StandsFor old.room) (sym state) stands.room)
 
+-- ---- a text is that of one reply
+
+abbrev pub IsReply : List ℕ → Type 0
+IsReply text = (r : Reply) × (text ≡ reply_text None r)
+
+memory_is_reply : (text : List ℕ) → text ≡ memory_text None → IsReply text
+memory_is_reply text e = (reply.Refused fault.OutOfMemory, e)
+
+told_is_reply : (b : Bool) (line : List ℕ) (c e : Client) (text : List ℕ) → IsToldAs b line c e text → IsReply text
+told_is_reply true line c e text t = memory_is_reply text t.1
+told_is_reply false line c e text t = (t.0, t.2)
+
+shown_is_reply : (x : Looking) (text : List ℕ) → IsShownAs x text → IsReply text
+shown_is_reply x text (inl k) = (k.0, k.2)
+shown_is_reply x text (inr e) = memory_is_reply text e
+
 -- ---- what it says then
 
+-- an open session that a line leaves closed was asked BYE
+bye_closed : (st : State) (n : ℕ) (line : List ℕ) → IsOpen st n → (session_of (next read_line st (asks n line)) n).is_open ≡ false → read_line line ≡ Ok request.Bye
+bye_closed st n line was shut = bye_alone_lem read_line st.log (session_of st n) line was (sym asked ∙ shut) where
+  asked : (session_of (next read_line st (asks n line)) n).is_open ≡ (ask read_line st.log (session_of st n) line).session.is_open
+  asked = ap (λ (z : Session). z.is_open) (session_after read_line st n line) ∙ ap (λ (o : Outcome). o.session.is_open) there where
+    there : outcome_of read_line st n line ≡ ask read_line st.log (session_of st n) line
+    there = rw was refl
+
 module _ (log : List Entry) (own : List ℕ) (s : Seat) (seated : IsSeated log own s) where
+  -- behind its work the session is open
+  open_still : (lent : Option Client) → WorksIf log s.number (work_of s) lent → IsOpen (run read_line (after read_line log) (work_steps s.number (work_of s))) s.number
+  open_still None w = subst (λ ws. IsOpen (run read_line (after read_line log) (work_steps s.number ws)) s.number) (sym w) seated.holds.0
+  open_still (Some c) w =
+      let at = work_here s.number (after read_line log) (work_of s) w.begun c (works_here log s.number (work_of s) c w) w.worked in
+      ap (λ (z : Session). z.is_open) at.session ∙ at.lent.is_open
+
   -- the session is open still
   holds_then : (e : Entry) (later : List Entry) (places : List ℕ) → later ≡ log ++ e ∷ [] → places ≡ own ++ length log ∷ [] → IsOpen (after read_line later) s.number → Holds read_line later places s.number
   holds_then e later places is more o =
@@ -201,6 +239,17 @@ module _ (log : List Entry) (own : List ℕ) (s : Seat) (seated : IsSeated log o
       holds = subst (Holds read_line later places) (sym number) (holds_then _ later places is more (answered.2 (after read_line later) then_stands ∙ o));
       works = subst (λ (z : ℕ × List Note × Option Client). WorksIf later z.0 z.1 z.2) (λ i. (sym number i, sym none i, sym lent i)) (lent_works later s.number next_room now then_stands by_room);
     }
+
+    pub asked_bye : is_open ≡ false → AsksBye s.number later line
+    asked_bye o = record {
+      work = work_of s;
+      turn = record { before = log; root = root_in log s.number; behind = []; is = is };
+      is_bye = bye_closed before s.number line (open_still s.lent seated.works)
+          (ap (λ (st : State). (session_of st s.number).is_open) (sym (ap (after read_line) is ∙ asked_state log s.number (work_of s) line)) ∙ answered.2 (after read_line later) then_stands ∙ o);
+    }
+
+    pub asked_reply : IsReply text
+    asked_reply = ((outcome_of read_line before s.number line).reply, answered.1 before (if_stands log s.number (work_of s) room stands s.lent seated.works))
 
     pub asked_over : is_open ≡ false → IsGone later t
     asked_over o = record { shut = subst (IsShut (after read_line later)) (sym number) (was, answered.2 (after read_line later) then_stands ∙ o); none = none } where
@@ -279,12 +328,10 @@ module _ (log : List Entry) (own : List ℕ) (s : Seat) (seated : IsSeated log o
 
     pub left_over : IsShut (after read_line later) s.number
     left_over = subst (λ (st : State). IsShut st s.number) (sym (ap (after read_line) is ∙ left_state log s.number (work_of s)))
-        (shut_by_leaving read_line (run read_line (after read_line log) (work_steps s.number (work_of s))) s.number (open_still s.lent seated.works)) where
-          open_still : (lent : Option Client) → WorksIf log s.number (work_of s) lent → IsOpen (run read_line (after read_line log) (work_steps s.number (work_of s))) s.number
-          open_still None w = subst (λ ws. IsOpen (run read_line (after read_line log) (work_steps s.number ws)) s.number) (sym w) seated.holds.0
-          open_still (Some c) w =
-              let at = work_here s.number (after read_line log) (work_of s) w.begun c (works_here log s.number (work_of s) c w) w.worked in
-              ap (λ (z : Session). z.is_open) at.session ∙ at.lent.is_open
+        (shut_by_leaving read_line (run read_line (after read_line log) (work_steps s.number (work_of s))) s.number (open_still s.lent seated.works))
+
+    pub left_leaves : HasLeft s.number later
+    left_leaves = record { work = work_of s; turn = record { before = log; root = root_in log s.number; behind = []; is = is } }
 
   -- ---- a line that a lent session answered
 
@@ -391,6 +438,8 @@ module _ {X : Type 0} (hall : Turnstile X Entry) (old : Pass X Entry) (turn : Tu
           number = number;
           seated = λ o. asked_open log_of (places old) s found.0 line (history new) is room next_room text is_open stands answered now t number lent none o (by_room o) (places new) own_more;
           over = λ o. asked_over log_of (places old) s found.0 line (history new) is room next_room text is_open stands answered now t number lent none o;
+          bye = λ o. asked_bye log_of (places old) s found.0 line (history new) is room next_room text is_open stands answered now t number lent none o;
+          reply = asked_reply log_of (places old) s found.0 line (history new) is room next_room text is_open stands answered now t number lent none;
           lines = asked_lines log_of (places old) s found.0 line (history new) is room next_room text is_open stands answered now t number lent none ∙ ap (λ l. l ++ line ∷ []) found.1;
           texts = λ all b. asked_texts log_of (places old) s found.0 line (history new) is room next_room text is_open stands answered now t number lent none all (found.2 all b);
         }
@@ -405,6 +454,8 @@ module _ {X : Type 0} (hall : Turnstile X Entry) (old : Pass X Entry) (turn : Tu
           number = number;
           seated = λ o. refused_open log_of (places old) s found.0 line (history new) is text told in_room t number lent work (places new) own_more;
           over = λ o. cc;
+          bye = λ o. cc;
+          reply = memory_is_reply text told;
           lines = refused_lines log_of (places old) s found.0 line (history new) is text told in_room t number lent work ∙ ap (λ l. l ++ line ∷ []) found.1;
           texts = λ all b. refused_texts log_of (places old) s found.0 line (history new) is text told in_room t number lent work all (found.2 all b);
         }
@@ -419,6 +470,8 @@ module _ {X : Type 0} (hall : Turnstile X Entry) (old : Pass X Entry) (turn : Tu
           number = number;
           seated = λ o. looked_open log_of (places old) s found.0 line (history new) is room stands x look text told in_room t number lent work (places new) own_more;
           over = λ o. cc;
+          bye = λ o. cc;
+          reply = shown_is_reply x text told;
           lines = looked_lines log_of (places old) s found.0 line (history new) is room stands x look text told in_room t number lent work ∙ ap (λ l. l ++ line ∷ []) found.1;
           texts = λ all b. looked_texts log_of (places old) s found.0 line (history new) is room stands x look text told in_room t number lent work all (found.2 all b);
         }
@@ -438,6 +491,9 @@ module _ {X : Type 0} (hall : Turnstile X Entry) (old : Pass X Entry) (turn : Tu
 
       pub ended_left_over : IsShut (after read_line (history new)) s.number
       ended_left_over = left_over log_of (places old) s found.0 (history new) left_is
+
+      pub ended_left_leaves : HasLeft s.number (history new)
+      ended_left_leaves = left_leaves log_of (places old) s found.0 (history new) left_is
 
 -- ---- a turn that added nothing
 
@@ -465,6 +521,8 @@ module _ {X : Type 0} (hall : Turnstile X Entry) (old : Pass X Entry) (turn : Tu
         number = m.number;
         seated = λ o. subst (λ (z : List Entry × List ℕ). IsSeated z.0 z.1 t) (λ i. (sym ended.seen i, sym own i)) (noted_seat (history (pass_of turn)) (places old) s found.0 line text t m);
         over = λ o. cc;
+        bye = λ o. cc;
+        reply = told_is_reply m.is_refused line m.before m.now text m.told;
         lines = ap (λ l. lines_in l t) ended.seen ∙ noted_lines (history (pass_of turn)) (places old) s found.0 line text t m ∙ ap (λ l. l ++ line ∷ []) found.1;
         texts = λ all b. subst (λ l. IsToldIn l t (all ++ text)) (sym ended.seen) (noted_texts (history (pass_of turn)) (places old) s found.0 line text t m all (found.2 all b));
       }
@@ -475,7 +533,7 @@ pub no_turn : {X : Type 0} (line : List ℕ) (lent : Option Client) (pass : Pass
 no_turn line None pass = tt
 no_turn line (Some c) pass = inr refl
 
-pub turn_for_room : {X : Type 0} (line : List ℕ) (lent : Option Client) (old new : Pass X Entry) → IsForRoomIf line lent → TakesNoTurn line lent old new
+pub turn_for_room : {X : Type 0} (line : List ℕ) (lent : Option Client) (old new : Pass X Entry) → IsForRoom line lent → TakesNoTurn line lent old new
 turn_for_room line None old new k = k
 turn_for_room line (Some c) old new k = inl k
 
@@ -487,6 +545,8 @@ alone_asked hall pass s t line text belongs orderly seated m = record {
   number = m.number;
   seated = λ o. noted_seat (history pass) (places pass) s seated line text t m;
   over = λ o. cc;
+  bye = λ o. cc;
+  reply = told_is_reply m.is_refused line m.before m.now text m.told;
   lines = noted_lines (history pass) (places pass) s seated line text t m;
   texts = noted_texts (history pass) (places pass) s seated line text t m;
 }

@@ -34,10 +34,11 @@ module _ {K : Type 0} (sources : source.Ghosts K) (sinks : sink.Ghosts K) where
     written_now = sinks.written went;
   }
 
-  -- a connection that failed has counted so
+  -- a connection that failed has counted so, and one whose input ended has counted no failed read
   pub record HasCauses (ending : Ending) (came went : K) : Type 0 where
     pub read : ending ≡ ends.LinkRead → Rose (sources.faults came) (sources.faults went)
     pub write : ending ≡ ends.LinkWrite → Rose (sinks.faults came) (sinks.faults went)
+    pub unfailed : ending ≢ ends.LinkRead → sources.faults went ≡ sources.faults came
 
   -- the host served one connection, by one session; or there was no memory for it, and it went as it came
   pub record Serves {R : Type 0} (h : SessionHost R K) (came : K) (h' : SessionHost R K) (went : K) : Type 0 where

@@ -3,6 +3,7 @@ pub mod Standing
 pub mod Turns
 pub mod Seats
 pub mod Ends
+pub mod Closings
 pub mod Passes
 pub mod Links
 pub mod Talk

@@ -1,14 +1,15 @@
 -- What a connection gave and got, where its service ended so.
-use Rattle.std.specs.Prelude.{◌≡◌, ◌⊎◌, ℕ, ◌<◌, List, [], ◌∷◌, ◌++◌, length, take, flat_map, Option, None}
+use Rattle.std.specs.Prelude.{◌≡◌, ◌⊎◌, ℕ, ◌<◌, ◌≤◌, List, [], ◌∷◌, ◌++◌, length, take, flat_map, Option, None}
 use Rattle.std.specs.Io.KnownBytes.{Appends, Consumes, IsAtEnd}
-use Rattle.ifdb_io.specs.Causes.{WritesShort}
 use Rattle.ifdb_io.specs.Lines.{IsLine, IsLong}
 use Rattle.ifdb_wire.specs.declared.fault.Fault.TheVariants as fault
+use Rattle.ifdb_wire.specs.declared.reply.Reply.{Reply}
 use Rattle.ifdb_wire.specs.declared.reply.Reply.TheVariants as reply
 use Rattle.ifdb_wire.specs.Text.{reply_text}
 use Rattle.ifdb_turn.specs.declared.turnstile.Pass.{Pass}
 use Rattle.ifdb_turn.specs.Passes.{history, places}
 use Rattle.ifdb_db.specs.Reading.{read_line}
+use Rattle.ifdb_session.specs.Closings.{Closes}
 use Rattle.ifdb_session.specs.Passes.{Adds}
 use Rattle.ifdb_history.specs.declared.entry.Entry.{Entry}
 use Rattle.ifdb_history.specs.History.{after, IsShut, HasRoot}
@@ -39,31 +40,49 @@ pub record Span : Type 0 where
 abbrev pub Took : List (List ℕ) → List ℕ → Span → Type 0
 Took lines tail s = Consumes s.left s.left_now (bytes_of lines ++ tail)
 
+-- so they did, and all of them are within the limit
+pub record TookWithin (limit : ℕ) (lines : List (List ℕ)) (tail : List ℕ) (s : Span) : Type 0 where
+  pub took : Took lines tail s
+  pub within : length (bytes_of lines ++ tail) ≤ limit
+
 -- these bytes were written
 abbrev pub Wrote : List ℕ → Span → Type 0
 Wrote bytes s = Appends s.written s.written_now bytes
 
+-- these texts were written, and of the last one a front that lacks at least its last byte
+pub record WroteShort (texts last : List ℕ) (s : Span) : Type 0 where
+  pub n : ℕ
+  pub short : n < length last
+  pub wrote : Wrote (texts ++ take n last) s
+
+-- the replies before the last one were written, and a front of that
+pub record CutsReply (texts : List ℕ) (s : Span) : Type 0 where
+  pub before : List ℕ
+  pub last : Reply
+  pub all : texts ≡ before ++ reply_text None last
+  pub wrote : WroteShort before (reply_text None last) s
+
 -- The lines and the texts of a session, whose link was to give at most so many bytes and ended so. The tail is what was read
--- behind the last line: after BYE and where writing failed it is anything, else a line without its newline, or the front of
--- a line that is too long.
+-- behind the last line: after BYE and where a reply was cut it is anything, else a line without its newline, or the front
+-- of a line that is too long and what was read behind that.
 abbrev pub Ends : Ending → ℕ → List (List ℕ) → List ℕ → Span → Type 0
-Ends ends.Bye limit lines texts s = ((tail : List ℕ) × Took lines tail s) × Wrote texts s
-Ends ends.End limit lines texts s = ((tail : List ℕ) × Took lines tail s × IsLine tail × IsAtEnd s.left_now) × Wrote texts s
-Ends ends.LinkRead limit lines texts s = ((tail : List ℕ) × Took lines tail s × IsLine tail) × Wrote texts s
+Ends ends.Bye limit lines texts s = ((tail : List ℕ) × TookWithin limit lines tail s) × Wrote texts s
+Ends ends.End limit lines texts s = ((tail : List ℕ) × TookWithin limit lines tail s × IsLine tail × IsAtEnd s.left_now) × Wrote texts s
+Ends ends.LinkRead limit lines texts s = ((tail : List ℕ) × TookWithin limit lines tail s × IsLine tail) × Wrote texts s
 Ends ends.LinkWrite limit lines texts s =
-    (((tail : List ℕ) × Took lines tail s) × WritesShort s.written s.written_now texts)
-    ⊎ (((front : List ℕ) × (rest : List ℕ) × Took lines (front ++ rest) s × IsLong front)
-    × ((k : ℕ) × (k < length long_text) × Wrote (texts ++ take k long_text) s))
+    (((tail : List ℕ) × TookWithin limit lines tail s) × CutsReply texts s)
+    ⊎ (((front : List ℕ) × (rest : List ℕ) × TookWithin limit lines (front ++ rest) s × IsLong front) × WroteShort texts long_text s)
 Ends ends.TooMuch limit lines texts s =
     ((tail : List ℕ) × (last : ℕ) × Took lines (tail ++ last ∷ []) s × IsLine tail × (length (bytes_of lines ++ tail) ≡ limit)) × Wrote texts s
 Ends ends.TooLong limit lines texts s =
-    ((front : List ℕ) × (rest : List ℕ) × Took lines (front ++ rest) s × IsLong front) × Wrote (texts ++ long_text) s
+    ((front : List ℕ) × (rest : List ℕ) × TookWithin limit lines (front ++ rest) s × IsLong front) × Wrote (texts ++ long_text) s
 Ends ends.OutOfMemory limit lines texts s = ⊥
 
 -- a link was served by session n of this history, which is over
 abbrev pub IsServed : Ending → ℕ → ℕ → List Entry → Span → Type 0
 IsServed ending limit n h s =
-    IsShut (after read_line h) n × ((texts : List ℕ) × IsTold read_line n h texts × Ends ending limit (lines_of n h) texts s)
+    IsShut (after read_line h) n × Closes ending n h
+    × ((texts : List ℕ) × IsTold read_line n h texts × Ends ending limit (lines_of n h) texts s)
 
 -- What the service of a link did to the pass, where it opened session n: that was its first turn, and each of its turns was the
 -- session's.

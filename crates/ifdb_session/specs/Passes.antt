@@ -4,12 +4,15 @@ use mathlib.Core.List.{IsPrefix}
 use Rattle.ifdb_turn.specs.declared.turnstile.Turnstile.{Turnstile}
 use Rattle.ifdb_turn.specs.declared.turnstile.Pass.{Pass}
 use Rattle.ifdb_turn.specs.Passes.{history, places, shares, BelongsTo, IsOrderly}
+use Rattle.ifdb_wire.specs.declared.reply.Reply.{Reply}
+use Rattle.ifdb_wire.specs.Text.{reply_text}
 use Rattle.ifdb_db.specs.Client.{Client}
-use Rattle.ifdb_db.specs.Lent.{IsForRoom}
+use Rattle.ifdb_db.specs.Lent.{EndsTransaction}
 use Rattle.ifdb_db.specs.Reading.{read_line}
 use Rattle.ifdb_history.specs.declared.entry.Entry.{Entry}
 use Rattle.ifdb_history.specs.History.{HasRoot, IsRight, Holds, AreEntriesOf}
 use Rattle.ifdb_history.specs.Lines.{lines_of, IsTold}
+use Rattle.ifdb_session.specs.Closings.{AsksBye}
 use Rattle.ifdb_session.specs.declared.seat.Seat.{Seat}
 use Rattle.ifdb_session.specs.Seats.{lines_in, IsToldIn, IsSeated, IsGone}
 
@@ -37,17 +40,19 @@ module _ {X : Type 0} where
     pub lines : lines_of n (history new) ≡ []
     pub texts : IsTold read_line n (history new) []
 
-  -- the session of a seat was asked a line and told a text, and it is open still, or over
+  -- the session of a seat was asked a line and told one reply, and it is open still; or that was BYE, and it is over
   pub record Asks (hall : Turnstile X Entry) (line text : List ℕ) (old new : Pass X Entry) (s t : Seat) (is_open : Bool) : Type 0 where
     pub sees : Sees hall old new
     pub adds : Adds s.number old new
     pub number : t.number ≡ s.number
     pub seated : is_open ≡ true → IsSeated (history new) (places new) t
     pub over : is_open ≡ false → IsGone (history new) t
+    pub bye : is_open ≡ false → AsksBye s.number (history new) line
+    pub reply : (r : Reply) × (text ≡ reply_text None r)
     pub lines : lines_in (history new) t ≡ lines_in (history old) s ++ line ∷ []
     pub texts : (before : List ℕ) → IsToldIn (history old) s before → IsToldIn (history new) t (before ++ text)
 
-  -- a line of a session that is lent took no turn, and so left the pass as it was, unless it is for the room
+  -- a line of a session that is lent took no turn, and so left the pass as it was, unless it ends the transaction
   abbrev pub TakesNoTurn : List ℕ → Option Client → Pass X Entry → Pass X Entry → Type 0
   TakesNoTurn line None old new = Unit {0}
-  TakesNoTurn line (Some c) old new = IsForRoom line c ⊎ (new ≡ old)
+  TakesNoTurn line (Some c) old new = EndsTransaction line ⊎ (new ≡ old)

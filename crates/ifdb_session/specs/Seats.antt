@@ -12,7 +12,7 @@ use Rattle.ifdb_history.specs.declared.entry.Note.{Note}
 use Rattle.ifdb_history.specs.History.{after, entry_of, Holds, IsShut}
 use Rattle.ifdb_history.specs.Lines.{lines_with, IsToldWith}
 use Rattle.ifdb_db.specs.Client.{Client, session_at}
-use Rattle.ifdb_db.specs.Lent.{IsLent, Answers, IsForRoom}
+use Rattle.ifdb_db.specs.Lent.{IsLent, Answers, EndsTransaction}
 use Rattle.ifdb_db.specs.Looks.{Looking, Shows}
 use Rattle.ifdb_db.specs.Reading.{read_line}
 use Rattle.ifdb_db.specs.Room.{IsOver}
@@ -99,7 +99,7 @@ IsLentIf (Some c) = IsLent c
 
 -- it was asked a line so, if it can answer it alone
 abbrev pub IsAskedOf : List ℕ → Client → Client → List ℕ → Option Bool → Type 0
-IsAskedOf line c e text None = (e ≡ c) × IsForRoom line c
+IsAskedOf line c e text None = (e ≡ c) × EndsTransaction line
 IsAskedOf line c e text (Some is_refused) = IsToldAs is_refused line c e text
 
 -- the lent session was asked the line, and was told this
@@ -113,15 +113,15 @@ pub record Notes (line : List ℕ) (old new : Seat) (text : List ℕ) : Type 0 w
   pub number : new.number ≡ old.number
   pub work : work_of new ≡ work_of old ++ record { line = line; is_refused = is_refused } ∷ []
 
--- the line is for the room, where a session is lent too
-abbrev pub IsForRoomIf : List ℕ → Option Client → Type 0
-IsForRoomIf line None = Unit {0}
-IsForRoomIf line (Some c) = IsForRoom line c
+-- a line is for the room: its session isn't lent, or the line ends the transaction
+abbrev pub IsForRoom : List ℕ → Option Client → Type 0
+IsForRoom line None = Unit {0}
+IsForRoom line (Some c) = EndsTransaction line
 
 -- so it was; or it is for the room, and nothing has changed
 abbrev pub IsAskedAlone : List ℕ → Seat → Seat → List ℕ → Bool → Type 0
 IsAskedAlone line old new text true = Notes line old new text
-IsAskedAlone line old new text false = (new ≡ old) × IsForRoomIf line old.lent
+IsAskedAlone line old new text false = (new ≡ old) × IsForRoom line old.lent
 
 -- ---- a look
 

@@ -2,6 +2,7 @@
 use Rattle.std.specs.Prelude.{◌≡◌, ℕ, Bool, true, false, List, ◌++◌, length}
 use Rattle.ifdb_io.specs.Lines.{Reading}
 use Rattle.ifdb_history.specs.declared.entry.Entry.{Entry}
+use Rattle.ifdb_session.specs.Closings.{EndsInBye, MayBeOpen}
 use Rattle.ifdb_session.specs.Links.{Span, Took, Wrote, bytes_of, Ends}
 use Rattle.ifdb_session.specs.Seats.{lines_in, IsToldIn, IsSeated, IsGone}
 use Rattle.ifdb_session.specs.declared.link.Talked.{Talked}
@@ -15,16 +16,16 @@ pub record Talks (lines : List (List ℕ)) (texts : List ℕ) (reader : Reading)
   pub over : reader.over ≡ false
   pub still : reader.skipping ≡ false
 
--- the session of a seat is open still, or it is over
+-- the session of a seat is open still, or it is over by its last line
 abbrev pub IsLeftSo : List Entry → List ℕ → Seat → Bool → Type 0
 IsLeftSo h own seat true = IsSeated h own seat
-IsLeftSo h own seat false = IsGone h seat
+IsLeftSo h own seat false = IsGone h seat × EndsInBye seat.number h (lines_in h seat)
 
 -- the lines of a seat's session ended so
 abbrev pub IsTalked : List Entry → List ℕ → Seat → ℕ → Span → Talked → Type 0
 IsTalked h own seat limit s talked =
     ((texts : List ℕ) × IsToldIn h seat texts × Ends talked.ending limit (lines_in h seat) texts s)
-    × IsLeftSo h own seat talked.is_open
+    × IsLeftSo h own seat talked.is_open × MayBeOpen talked.ending talked.is_open
 
 -- the lines of a seat's session were taken, and what it was told was written
 abbrev pub IsTalking : List Entry → Seat → Reading → Span → Type 0

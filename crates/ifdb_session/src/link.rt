@@ -40,7 +40,8 @@ struct Talked {
 /// and its transaction is dropped. A reader of 128 KiB and a buffer are taken before anything is read, and each line takes what its
 /// request does.
 ///
-/// `LinkRead` and `LinkWrite` come only where the link's own count of such failures rose.
+/// `LinkRead` and `LinkWrite` come only where the link's own count of such failures rose; at every other end but `LinkRead`
+/// no read failed.
 pub fn serve_link<R: Wait, K: Link>(
     rt: &R,
     alloc: Global,
@@ -64,6 +65,8 @@ pub fn serve_link<R: Wait, K: Link>(
     ensures unopened { result ≡ Ending.OutOfMemory → places pass.new ≡ places pass.old }
     ensures read_cause { result ≡ Ending.LinkRead
         → Rose (K.Source.faults link.old) (K.Source.faults link.new) }
+    ensures unfailed { result ≢ Ending.LinkRead
+        → K.Source.faults link.new ≡ K.Source.faults link.old }
     ensures write_cause { result ≡ Ending.LinkWrite
         → Rose (K.Sink.faults link.old) (K.Sink.faults link.new) }
 {
@@ -120,6 +123,8 @@ fn talk<R: Wait, K: Link>(
         }) result }
     ensures read_cause { result.ending ≡ Ending.LinkRead
         → Rose (K.Source.faults link.old) (K.Source.faults link.new) }
+    ensures unfailed { result.ending ≢ Ending.LinkRead
+        → K.Source.faults link.new ≡ K.Source.faults link.old }
     ensures write_cause { result.ending ≡ Ending.LinkWrite
         → Rose (K.Sink.faults link.old) (K.Sink.faults link.new) }
 {

@@ -7,6 +7,7 @@ ghost use Rattle.ifdb_history.specs.History.{after, entry_of, opening_entry, IsR
 ghost use Rattle.ifdb_history.specs.Lines.{lines_of, IsTold};
 ghost use Rattle.ifdb_history.specs.declared.entry.Kind.TheVariants.{Looked as LookedKind, Refused as RefusedKind};
 ghost use Rattle.ifdb_session.specs.Standing.{StandsForHistory, root_of};
+ghost use Rattle.ifdb_session.specs.Closings.{HasLeft};
 ghost use Rattle.ifdb_session.specs.Ends.{EndsBare, EndsOf, EndsWith};
 ghost use Rattle.ifdb_session.specs.Passes.{Sees, Adds, Asks, IsNew};
 ghost use Rattle.ifdb_session.specs.Seats.{asked_entry, asked_kind, left_entry, left_kind};
@@ -100,6 +101,7 @@ pub(crate) fn leave<R: Wait>(
     ensures sees { Sees hall.now pass.old pass.new }
     ensures adds { Adds seat.number pass.old pass.new }
     ensures over { IsShut (after read_line (history pass.new)) seat.number }
+    ensures left { HasLeft seat.number (history pass.new) }
     ensures lines { lines_of seat.number (history pass.new) ≡ lines_in (history pass.old) seat }
     ensures texts { (text : List ℕ) → IsToldIn (history pass.old) seat text
         → IsTold read_line seat.number (history pass.new) text }

@@ -88,6 +88,23 @@ fn shares(rt: &impl Abort, store: &mut Store, writes: Writes) -> Result<(), Fail
     Ok(())
 }
 
+/// A thousand keys that come and go are a commit each, kept until no BEGIN is before it.
+#[test]
+fn commits_are_given_up(rt: HostRuntime) -> Result<(), Fail> {
+    let mut store = Store::new(rt.alloc())?;
+    for key in 1..=1000 {
+        commit_at(&mut store, 2 * key as u64 - 1, one(rt.alloc(), key, 1)?)?;
+        commit_at(&mut store, 2 * key as u64, one(rt.alloc(), key, 0)?)?;
+    }
+    assert_eq!(rt; walk(store.content()).rows, 0);
+    assert_eq!(rt; store.commits().len(), 2000);
+    store.trim(1500);
+    assert_eq!(rt; store.commits().len(), 500);
+    store.trim(2000);
+    assert_eq!(rt; store.commits().len(), 0);
+    Ok(())
+}
+
 /// A store of so many rows of a value.
 fn filled(alloc: Global, count: i64, value: i64) -> Result<Store, OutOfMemory> {
     let mut store = Store::new(alloc)?;
@@ -97,7 +114,12 @@ fn filled(alloc: Global, count: i64, value: i64) -> Result<Store, OutOfMemory> {
 
 /// Commits writes.
 fn commit(store: &mut Store, writes: Writes) -> Result<(), OutOfMemory> {
+    commit_at(store, 1, writes)
+}
+
+/// Commits writes with a stamp.
+fn commit_at(store: &mut Store, stamp: u64, writes: Writes) -> Result<(), OutOfMemory> {
     store.reserve(&writes)?;
-    store.install(1, writes);
+    store.install(stamp, writes);
     Ok(())
 }

@@ -4,7 +4,7 @@ use super::*;
 // Which read and which write fails, how a script ends then, and what is written.
 static FAULTS: [(Option<u64>, Option<u64>, Status, &str); 4] = [
     (Some(0), None, Status::ReadFault, ""),
-    (Some(2), None, Status::ReadFault, "1 OPEN\n"),
+    (Some(1), None, Status::ReadFault, "1 OPEN\n"),
     (None, Some(0), Status::WriteFault, ""),
     (None, Some(1), Status::WriteFault, "1 O"),
 ];

@@ -184,28 +184,42 @@ fn a_long_line_ends_its_connection(rt: HostRuntime) -> Result<(), Fail> {
     Ok(())
 }
 
+// The plainest script, line by line, and what each line is answered.
+static PLAINEST: [(&str, &str); 13] = [
+    ("OPEN\n", "1 OPEN\n"),
+    ("1 HELLO admin KEY 'admin'\n", "1 OK\n"),
+    ("1 CREATE TAG a\n", "1 OK\n"),
+    ("1 CREATE TAG b\n", "1 OK\n"),
+    (
+        "1 CREATE TABLE note (id INT, body TEXT, PRIMARY KEY (id))\n",
+        "1 OK\n",
+    ),
+    ("1 CREATE PRINCIPAL guest KEY 'g'\n", "1 OK\n"),
+    ("OPEN\n", "2 OPEN\n"),
+    ("2 HELLO guest KEY 'g'\n", "2 OK\n"),
+    ("1 SET LABEL (a)\n", "1 OK\n"),
+    ("1 INSERT INTO note VALUES (1, 'x')\n", "1 OK 1\n"),
+    ("2 SELECT id, body FROM note\n", "2 ROWS 0 2\n"),
+    ("2 SET LABEL (a)\n", "2 OK\n"),
+    ("2 SELECT id, body FROM note\n", "2 ROWS 1 2\n2 1\tx\n"),
+];
+
 // A script that ends anywhere is answered up to its last whole line; what stands behind that is answered as a line too.
 #[test]
 fn cut_scripts_are_answered_so_far(rt: HostRuntime) -> Result<(), Fail> {
-    let script =
-        b"OPEN\n1 HELLO admin KEY 'admin'\n1 CREATE TAG a\n1 SET LABEL (a)\n1 SHOW LABEL\n1 BYE\n".as_slice();
-    let replies = [
-        "1 OPEN\n",
-        "1 OK\n",
-        "1 OK\n",
-        "1 OK\n",
-        "1 LABEL (a)\n",
-        "1 OK\n",
-    ];
-    for cut in 0..script.len() {
-        let ran = run(&rt, &script[..cut], 64)?;
-        assert_eq!(rt; ran.status, Status::Done);
-        let mut front = ran.written.as_slice();
-        let whole = script[..cut].iter().filter(|&&byte| byte == b'\n').count();
-        for reply in replies.iter().take(whole) {
-            assert!(rt; front.starts_with(reply.as_bytes()), "cut at {cut}");
-            front = front.get(reply.len()..).unwrap_or(b"");
+    let mut script = Vec::new(rt.alloc());
+    let mut replies = Vec::new(rt.alloc());
+    for (line, reply) in &PLAINEST {
+        for cut in 0..line.len() {
+            let front = both(rt.alloc(), &script, &line.as_bytes()[..cut])?;
+            let ran = run(&rt, &front, 65_536)?;
+            assert_eq!(rt; ran.status, Status::Done);
+            assert!(rt; ran.written.starts_with(&replies), "cut at {cut} of {line}");
         }
+        script.extend_from_slice(line.as_bytes())?;
+        replies.extend_from_slice(reply.as_bytes())?;
     }
+    let ran = run(&rt, &script, 65_536)?;
+    assert_eq!(rt; ran.written.as_slice(), replies.as_slice());
     Ok(())
 }

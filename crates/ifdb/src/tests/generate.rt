@@ -81,14 +81,14 @@ fn count(counts: &mut [u64; 3], line: &[u8]) {
 }
 
 #[test]
-fn a_thousand_inserts_come_out_alike(rt: HostRuntime) -> Result<(), Fail> {
-    let first = written_for(&rt, "generate --run 1000", 64)?;
-    let second = written_for(&rt, "generate --run 1000", 4096)?;
+fn ten_thousand_inserts_come_out_alike(rt: HostRuntime) -> Result<(), Fail> {
+    let first = written_for(&rt, "generate --run 10000", 64)?;
+    let second = written_for(&rt, "generate --run 10000", 4096)?;
     assert_eq!(rt; first.written.as_slice(), second.written.as_slice());
     let [lines, ok, rows, errors, live] = numbers_of(&first.written).unwrap_or([0; 5]);
-    assert_eq!(rt; lines, 2_263);
-    assert_eq!(rt; rows, 250);
-    assert_eq!(rt; ok, live.saturating_add(1_013));
-    assert_eq!(rt; errors, 1_000_u64.saturating_sub(live));
+    assert_eq!(rt; lines, 22_513);
+    assert_eq!(rt; rows, 2_500);
+    assert_eq!(rt; ok, live.saturating_add(10_013));
+    assert_eq!(rt; errors, 10_000_u64.saturating_sub(live));
     Ok(())
 }

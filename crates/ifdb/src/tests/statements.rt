@@ -76,6 +76,24 @@ const ENDS: (&[u8], &[u8]) = (
     1 ERR 15 OutOfRange\n1 ERR 22 Limit\n",
 );
 
+/// Conditions over two tables, and names that more than one of them has.
+const JOINED: (&[u8], &[u8]) = (
+    b"1 CREATE TABLE part (id INT, note_id INT, PRIMARY KEY (id))\n1 INSERT INTO note VALUES (1, 'x'), (2, 'y')\n\
+    1 INSERT INTO part VALUES (5, 2), (6, 1), (7, 2)\n1 SELECT part.id, body FROM part, note WHERE note.id = note_id\n\
+    1 SELECT id FROM part, note\n1 SELECT COUNT(*) FROM part, note\n",
+    b"1 OK\n1 OK 2\n1 OK 3\n1 ROWS 3 2\n1 5\ty\n1 6\tx\n1 7\ty\n1 ERR 6 UnknownName\n1 ERR 11 TypeMismatch\n",
+);
+
+/// Order, whole statements and escapes.
+const ORDERED: (&[u8], &[u8]) = (
+    b"1 INSERT INTO note VALUES (1, 'x'), (2, 'y'), (3, 'x')\n1 SELECT id, body FROM note ORDER BY body DESC\n\
+    1 INSERT INTO note VALUES (4, 'z'), (1, 'q')\n1 SELECT COUNT(*) FROM note\n\
+    1 SELECT body, COUNT(*) FROM note GROUP BY body\n1 INSERT INTO note VALUES (5, 'it''s a\\b')\n\
+    1 SELECT body FROM note WHERE id = 5\n1 DELETE FROM note WHERE id = 9\n",
+    b"1 OK 3\n1 ROWS 3 2\n1 2\ty\n1 1\tx\n1 3\tx\n1 ERR 13 DuplicateKey\n1 ROWS 1 1\n1 3\n1 ROWS 2 2\n1 x\t2\n1 y\t1\n1 OK 1\n\
+    1 ROWS 1 1\n1 it's a\\\\b\n1 OK 0\n",
+);
+
 /// What is written for a script, behind another.
 pub(super) fn written<R: AllocGlobal + Threads + Wait + Sync>(
     rt: &R,
@@ -88,7 +106,7 @@ pub(super) fn written<R: AllocGlobal + Threads + Wait + Sync>(
 }
 
 // Scripts without references, and their replies.
-static WORKED: [(&[u8], &[u8]); 5] = [HIDDEN, COMPOUND, TWO_LABELS, VIEW, ENDS];
+static WORKED: [(&[u8], &[u8]); 7] = [HIDDEN, COMPOUND, TWO_LABELS, VIEW, ENDS, JOINED, ORDERED];
 
 #[test]
 fn statements_have_their_replies(rt: HostRuntime) -> Result<(), Fail> {

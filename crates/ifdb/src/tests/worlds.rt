@@ -21,7 +21,14 @@ fn told_to_the_first(alloc: Global, replies: &[u8]) -> Result<Vec<u8>, Fail> {
 }
 
 // Two scripts that differ above the first session's label alone, and what it is told of each.
-static WORLDS: [(&str, &str, &str); 2] = [
+static WORLDS: [(&str, &str, &str); 3] = [
+    (
+        "1 BEGIN\n2 BEGIN\n2 INSERT INTO note VALUES (1)\n2 COMMIT\n1 INSERT INTO note VALUES (1)\n2 BEGIN\n1 COMMIT\n\
+            1 SELECT id FROM note\n",
+        "2 BEGIN\n1 BEGIN\n2 SELECT id FROM note\n1 INSERT INTO note VALUES (1)\n1 COMMIT\n1 SELECT id FROM note\n\
+            2 SELECT id FROM note\n",
+        "1 OK\n1 OK 1\n1 OK\n1 ROWS 1 1\n1 1\n",
+    ),
     (
         "2 INSERT INTO note VALUES (1)\n1 INSERT INTO note VALUES (1)\n1 SELECT id FROM note\n",
         "1 INSERT INTO note VALUES (1)\n2 SELECT id FROM note\n1 SELECT id FROM note\n",

@@ -1,11 +1,11 @@
 // How transactions begin and end.
-ghost use Rattle.std.specs.Prelude.{◌≡◌, ◌++◌, ◌∷◌, [], None, Some, IfErr, IfOk, OnErr, OnOk};
+ghost use Rattle.std.specs.Prelude.{◌≡◌, ◌++◌, ◌∷◌, [], None, Some, IfErr, IfOk, IsTrue, OnErr, OnOk};
 ghost use Rattle.ifdb_model.specs.Log.{commits};
 ghost use Rattle.ifdb_model.specs.Step.{begin, bye, rollback};
 ghost use Rattle.ifdb_db.specs.Answer.{begun_at, commits_by, fault_at, fault_of, IsAnswered, IsStill};
 ghost use Rattle.ifdb_db.specs.Client.{left_client, session_at, txn_at};
 ghost use Rattle.ifdb_db.specs.Desk.{begins_after, moved, settled, with_entry, without};
-ghost use Rattle.ifdb_db.specs.Kept.{IsKept, IsLabelKept, Outgrows};
+ghost use Rattle.ifdb_db.specs.Kept.{IsKept, IsLabelKept, keeps_parents, Outgrows};
 
 use super::Db;
 use crate::OutOfMemory;
@@ -72,8 +72,11 @@ impl Db {
     /// The refusal of a COMMIT at a label, if it is one. Takes no memory.
     fn refusal(&self, txn: &Txn, label: &Label) -> Option<Fault>
         requires kept { IsLabelKept self.now.seen.public label.now (Some txn.now) }
-        ensures { result ≡ fault_of self.now label.now (Some txn.now) }
+        ensures fault { result ≡ fault_of self.now label.now (Some txn.now) }
+        ensures parents { result ≡ None
+            → IsTrue (keeps_parents self.now.seen.rows txn.now.own) }
     {
+        self.is_sound();
         let tags = self.tags();
         match verdict(&self.store, tags, txn.begin(), txn.own(), label) {
             Judged::Go => None,
@@ -87,6 +90,7 @@ impl Db {
     /// Makes the writes of a transaction that may commit, which is over then. `Err` is want of memory, and gives it back.
     fn install(&mut self, txn: Txn) -> Result<(), Txn>
         requires kept { Outgrows txn.base.public self.old.seen.public }
+        requires rooted { IsTrue (keeps_parents self.old.seen.rows txn.own) }
         ensures done { OnOk result
             (self.new ≡ settled (record (with_entry self.old (Some (commits txn.own))) {
               begins = without txn.begin self.old.begins;

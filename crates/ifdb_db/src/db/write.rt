@@ -7,7 +7,7 @@ ghost use Rattle.ifdb_snapshot.specs.Narrow.{is_narrow};
 ghost use Rattle.ifdb_snapshot.specs.Writing.{are_fit};
 ghost use Rattle.ifdb_db.specs.Answer.{answered_by, IsAnswered, IsStill};
 ghost use Rattle.ifdb_db.specs.Desk.{settled, with_entry};
-ghost use Rattle.ifdb_db.specs.Kept.{IsKept};
+ghost use Rattle.ifdb_db.specs.Kept.{IsKept, keeps_parents};
 ghost use Rattle.ifdb_db.specs.Outside.{IsPublished, unless_orphaned, Writes as FindsWrites};
 ghost use Rattle.ifdb_model.specs.Writes.{is_delete};
 
@@ -75,7 +75,10 @@ impl Db {
         ensures found { FindsWrites asker label.now request self.now result }
         ensures fit { IfOk result
             (λ written. IsTrue (are_fit self.now.seen.public written.writes)) }
+        ensures rooted { IfOk result
+            (λ written. IsTrue (keeps_parents self.now.seen.rows written.writes)) }
     {
+        self.is_sound();
         let seen = self.seen();
         let found = seen.bind(asker, request)?;
         let written = seen.written(asker, label, &found);
@@ -87,6 +90,7 @@ impl Db {
     /// Makes writes, which are one commit.
     fn land(&mut self, writes: Writes) -> Result<(), OutOfMemory>
         requires fit { IsTrue (are_fit self.old.seen.public writes) }
+        requires rooted { IsTrue (keeps_parents self.old.seen.rows writes) }
         ensures done { OnOk result
             (self.new ≡ settled (with_entry self.old (Some (commits writes)))) }
         ensures err { OnErr result (self.new ≡ self.old) }

@@ -27,7 +27,7 @@ use Rattle.ifdb_laws.proofs.Statements.{is_good, writes_good}
 use Rattle.ifdb_laws.proofs.Logs.{all_commits, txn_all}
 use Rattle.ifdb_laws.proofs.rows.Rooted.{keeps, writes_rooted}
 
-good_fits : (w : Written) (o : Result Written Fault) → o ≡ Ok w → is_good (λ s. true) o ≡ true → are_fitting w.writes ≡ true
+pub good_fits : (w : Written) (o : Result Written Fault) → o ≡ Ok w → is_good (λ s. true) o ≡ true → are_fitting w.writes ≡ true
 good_fits w o e g = let h = ap (is_good (λ s. true)) (sym e) ∙ g in grind (arith, nat_tests)
 
 -- what a statement writes has its slots
@@ -69,7 +69,7 @@ adds_rooted before None = true
 adds_rooted before (Some (changes c)) = true
 adds_rooted before (Some (commits ws)) = all_rooted (after before ws)
 
-written_rooted : (rows : List Row) (d : Bool) (w : Written) (o : Result Written Fault) → o ≡ Ok w → keeps rows d o ≡ true → are_fitting w.writes ≡ true → d && leaves (after rows w.writes) w.writes ≡ false
+pub written_rooted : (rows : List Row) (d : Bool) (w : Written) (o : Result Written Fault) → o ≡ Ok w → keeps rows d o ≡ true → are_fitting w.writes ≡ true → d && leaves (after rows w.writes) w.writes ≡ false
     → all_rooted (after rows w.writes) ≡ true
 written_rooted rows d w o e k f l = let h = ap (keeps rows d) (sym e) ∙ k in grind (arith, nat_tests)
 

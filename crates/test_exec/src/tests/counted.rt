@@ -1,10 +1,10 @@
-//! Rows that count how often they are asked.
+//! Rows that count how often they are asked, and give one row at a time: so a walk over many rows is as many questions.
 
 use ifdb_row::{Edge, ListRows, Row, Rows, Slot};
 use ifdb_value::Shared;
 use std::cell::Cell;
 
-/// Rows that count how often they are asked.
+/// Rows that count how often they are asked, and give one row at a time.
 #[derive(Drop)]
 pub(crate) struct CountedRows {
     pub(crate) rows: ListRows,
@@ -16,7 +16,8 @@ impl Rows for CountedRows {
 
     fn run_from(&self, edge: &Edge<'_>) -> &[Shared<Row>] {
         self.asked.set(self.asked.get().saturating_add(1));
-        self.rows.run_from(edge)
+        let run = self.rows.run_from(edge);
+        &run[..run.len().min(1)]
     }
 
     fn bound_to(&self, slot: &Slot, after: Option<&Slot>) -> Option<&Row> {

@@ -15,7 +15,7 @@ lines-init g c =
       reached = subst (λ reader. Reached left left written written reader room) (sym c.requires.fresh) none;
       goes = ap (λ (reader : Reading). reader.over) c.requires.fresh;
       limit = refl;
-      input_later = omega arith;
+      unfailed = refl;
       output_later = omega arith;
     }
 
@@ -82,7 +82,7 @@ lines-preserved-in_default-write_all g c =
           r (e.whole refl) (e.whole_line refl) (e.whole_kept refl) goes wrote;
       goes = e.over;
       limit = e.limit ∙ c.lines.invariant.limit;
-      input_later = omega (arith, e.later, c.lines.invariant.input_later);
+      unfailed = e.unfailed (λ q. cc) ∙ c.lines.invariant.unfailed;
       output_later = omega (arith, c.in_default-write_all.ensures.cause.later, c.lines.invariant.output_later);
     }
 
@@ -107,6 +107,6 @@ lines-preserved g c =
           r (e.long refl) (e.long_line refl) (e.long_skips refl) goes wrote;
       goes = e.over;
       limit = e.limit ∙ c.lines.invariant.limit;
-      input_later = omega (arith, e.later, c.lines.invariant.input_later);
+      unfailed = e.unfailed (λ q. cc) ∙ c.lines.invariant.unfailed;
       output_later = omega (arith, c.in_default-write_all-2.ensures.cause.later, c.lines.invariant.output_later);
     }

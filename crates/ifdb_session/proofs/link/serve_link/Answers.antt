@@ -29,5 +29,5 @@ returns-clause-served g c = λ _.
     let first = subst (λ m. Adds m c.open.new.pass c.talk-talked.new.pass) c.new-seat.ensures.number t.adds in
     let more = subst (λ m. Adds m c.talk-talked.new.pass c.leave.new.pass) here l.adds in
     served_left c.args.hall.now n c.args.limit (record { left = g.K.Source.left c.args.link.now; left_now = g.K.Source.left c.talk-talked.new.link; written = g.K.Sink.written c.args.link.now; written_now = g.K.Sink.written c.talk-talked.new.link })
-    c.args.pass.now c.open.new.pass (search rules) c.talk-talked.new.pass c.leave.new.pass c.talk-talked.new.seat c.talk-talked.result here (search rules)
-    (sees_on c.args.hall.now _ _ _ t.sees l.sees) (adds_on n _ _ _ first more l.sees.begins) l.over l.lines l.texts
+    c.args.pass.now c.open.new.pass (search rules) c.talk-talked.new.pass c.leave.new.pass c.talk-talked.new.seat c.talk-talked.result here (search rules) (search rules)
+    (sees_on c.args.hall.now _ _ _ t.sees l.sees) (adds_on n _ _ _ first more l.sees.begins) l.over l.left l.lines l.texts

@@ -20,7 +20,7 @@ invariant-loop-pass g l = record {
     written = g.K.Sink.written l.fn.link;
     written_now = g.K.Sink.written l.link;
   });
-  reads : g.K.Source.faults l.fn.link ≤ g.K.Source.faults l.link;
+  unfailed : g.K.Source.faults l.link ≡ g.K.Source.faults l.fn.link;
   writes : g.K.Sink.faults l.fn.link ≤ g.K.Sink.faults l.link;
 }
 

@@ -5,7 +5,7 @@ use Rattle.ifdb_turn.specs.Turns.{pass_of}
 use Rattle.ifdb_history.specs.History.{root_in}
 use Rattle.ifdb_session.specs.declared.shared.SharedRoom.{SharedRoom}
 use Rattle.ifdb_session.specs.Standing.{StandsForHistory}
-use Rattle.ifdb_session.proofs.Turned.{seat_found, may_be_back, may_leave, ended_sees, ended_left_adds, ended_left_lines, ended_left_texts, ended_left_over}
+use Rattle.ifdb_session.proofs.Turned.{seat_found, may_be_back, may_leave, ended_sees, ended_left_adds, ended_left_lines, ended_left_texts, ended_left_over, ended_left_leaves}
 use Rattle.ifdb_session.proofs.turns.leave.Goals as goal
 
 pub leave-requires : goal.leave-requires
@@ -49,3 +49,8 @@ pub returns-clause-texts : goal.returns-clause-texts
 returns-clause-texts g c =
     let e = c.enter-turn.ensures in
     let x = ended_left_texts c.args.hall.now c.args.pass.now _ _ _ c.done_left.ensures e.turnstile e.begins e.places e.shares c.args.seat c.requires.seated e.orderly.0 e.own refl in search rules
+
+pub returns-clause-left : goal.returns-clause-left
+returns-clause-left g c =
+    let e = c.enter-turn.ensures in
+    let x = ended_left_leaves c.args.hall.now c.args.pass.now _ _ _ c.done_left.ensures e.turnstile e.begins e.places e.shares c.args.seat c.requires.seated e.orderly.0 e.own refl in search rules

@@ -2,6 +2,7 @@ use Rattle.std.proofs.Common.{◌≡◌, ◌+◌, true, refl, ap, sym, subst, �
 use Rattle.ifdb_row.specs.Writes.{are_fitting}
 use Rattle.ifdb_snapshot.specs.Writing.{are_fit}
 use Rattle.ifdb_db.specs.Desk.{Desk, oldest_of}
+use Rattle.ifdb_db.specs.Kept.{keeps_parents}
 use Rattle.ifdb_db.proofs.Landing.{landed, ordered_one_more}
 use Rattle.ifdb_db.proofs.db.Db.land.Goals as goal
 
@@ -16,6 +17,7 @@ invariant_of-self-2 c =
     let oldest = c.oldest_of.ensures ∙ ap (λ begins. oldest_of begins (d.count + 1)) c.deref-2.ensures.value in
     let fit = subst (λ (x : Desk). are_fit x.seen.public c.args.writes ≡ true) (sym c.self.view_is) c.requires.fit in
     let fitting = subst (λ ws. are_fitting ws ≡ true) c.writes.view_is c.writes.invariant.1 in
+    let parents = subst (λ (x : Desk). keeps_parents x.seen.rows c.args.writes ≡ true) (sym c.self.view_is) c.requires.rooted in
     landed d c.self.invariant c.settle.new.store.rows c.settle.new.store.commits c.oldest_of.result c.args.writes d.begins d.begins c.install.new.self _ _
-    refl (ordered_one_more d c.self.invariant) fit fitting c.in_ok-reserve.ensures.rows c.in_ok-reserve.ensures.commits c.install.ensures
+    refl (ordered_one_more d c.self.invariant) fit fitting parents c.in_ok-reserve.ensures.rows c.in_ok-reserve.ensures.commits c.install.ensures
     c.settle.ensures.rows oldest c.settle.ensures.commits

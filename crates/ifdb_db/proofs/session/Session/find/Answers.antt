@@ -1,4 +1,4 @@
-use Rattle.std.proofs.Common.{◌≡◌, true, refl, sym, ◌∙◌, subst, inr, Ok, Err, Some}
+use Rattle.std.proofs.Common.{◌≡◌, true, refl, sym, ◌∙◌, subst, Ok, Err, Some}
 use Rattle.std.proofs.lemmas.Result.{err_from_is_err_and}
 use Rattle.ifdb_db.specs.declared.told.Told.{Told}
 use Rattle.ifdb_db.specs.declared.told.Told.TheVariants as tells
@@ -39,7 +39,7 @@ returns c =
     elim c.match-branch-3.branch [
       | in-Replies w ↦ rw w.result-is (subst (λ (z : Client). IsFoundAlone c.args.line.now z e (Ok (Some w.in-Replies.reply))) c.self.view_is
           (answered w.in-Replies.reply refl c.ask.ensures.made (told (tells.Replies w.in-Replies.reply) w.in-Replies.is)))
-      | in-Commits w ↦ rw w.result-is (left ends refl (told tells.Commits w.in-Commits.is) ∙ c.self.view_is, inr (inr (for_room ends refl (told tells.Commits w.in-Commits.is))))
-      | in-RollsBack w ↦ rw w.result-is (left rolls_back refl (told tells.RollsBack w.in-RollsBack.is) ∙ c.self.view_is, inr (inr (for_room rolls_back refl (told tells.RollsBack w.in-RollsBack.is))))
-      | in-Leaves w ↦ rw w.result-is (left leaves_us refl (told tells.Leaves w.in-Leaves.is) ∙ c.self.view_is, inr (inr (for_room leaves_us refl (told tells.Leaves w.in-Leaves.is))))
+      | in-Commits w ↦ rw w.result-is (left ends refl (told tells.Commits w.in-Commits.is) ∙ c.self.view_is, for_room ends refl (told tells.Commits w.in-Commits.is))
+      | in-RollsBack w ↦ rw w.result-is (left rolls_back refl (told tells.RollsBack w.in-RollsBack.is) ∙ c.self.view_is, for_room rolls_back refl (told tells.RollsBack w.in-RollsBack.is))
+      | in-Leaves w ↦ rw w.result-is (left leaves_us refl (told tells.Leaves w.in-Leaves.is) ∙ c.self.view_is, for_room leaves_us refl (told tells.Leaves w.in-Leaves.is))
     ]

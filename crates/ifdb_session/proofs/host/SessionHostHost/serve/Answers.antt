@@ -6,12 +6,12 @@ pub returns-then-not-is_orderly-clause-served : goal.returns-then-not-is_orderly
 returns-then-not-is_orderly-clause-served g c =
     let e = c.serve_link-ending.ensures in
     serves_so g.K.Source g.K.Sink c.args.self.now c.args.link.now c.serve_link-ending.new.link c.serve_link-ending.result c.serve_link-ending.new.pass
-    c.saturating_add-self.result e.sees e.served e.unserved e.unopened e.read_cause e.write_cause
+    c.saturating_add-self.result e.sees e.served e.unserved e.unopened e.read_cause e.unfailed e.write_cause
     (one_more_fault c.args.self.now.faults c.saturating_add-self.result c.serve_link-ending.result c.saturating_add-self.ensures (search rules))
 
 pub returns-else-not-is_orderly-clause-served : goal.returns-else-not-is_orderly-clause-served
 returns-else-not-is_orderly-clause-served g c =
     let e = c.serve_link-ending.ensures in
     serves_so g.K.Source g.K.Sink c.args.self.now c.args.link.now c.serve_link-ending.new.link c.serve_link-ending.result c.serve_link-ending.new.pass
-    c.args.self.now.faults e.sees e.served e.unserved e.unopened e.read_cause e.write_cause
+    c.args.self.now.faults e.sees e.served e.unserved e.unopened e.read_cause e.unfailed e.write_cause
     (no_more_faults c.args.self.now.faults c.serve_link-ending.result (search rules) (search rules))
