@@ -1,0 +1,120 @@
+#!/usr/bin/env python3
+"""Checks the pages against the repository: examples, links, files, crates, and the lines that PROVED counts.
+
+Prints a line for each that is wrong, and at the end how many of the pages passed. Needs python3 alone.
+"""
+
+import re
+import sys
+from pathlib import Path
+
+TOP = Path(__file__).resolve().parent.parent
+CRATES = TOP / "crates"
+PAGES = [TOP / "README.md", *sorted((TOP / "docs").glob("*.md")), *sorted(CRATES.glob("*/README.md"))]
+REPLY = re.compile(r"\d+ (?:OK|OPEN|ERR|ROWS|LABEL)\b")
+
+
+def played(script: Path) -> set[tuple[str, str]]:
+    """The requests of an example script, each with the first line of its reply."""
+    replies = iter(script.with_suffix(".replies").read_text().split("\n"))
+    pairs = set()
+    for line in script.read_text().split("\n"):
+        if not line or line.startswith("#"):
+            continue
+        reply = next(replies)
+        rows = re.match(r"\d+ ROWS (\d+) ", reply)
+        for _ in range(int(rows[1]) if rows else 0):
+            next(replies)
+        pairs.add((line, reply))
+    return pairs
+
+
+def wrong_examples(text: str, known: set[tuple[str, str]]) -> list[str]:
+    """The lines of two columns, a request and its reply, that stand in no example script."""
+    wrong = []
+    for line in text.split("\n"):
+        parts = re.split(r" {2,}", line.strip())
+        is_example = len(parts) > 1 and re.match(r"(OPEN$|\d+ )", parts[0]) and REPLY.match(parts[1])
+        if is_example and (parts[0], parts[1]) not in known:
+            wrong.append(f"no example script has: {parts[0]} -> {parts[1]}")
+    return wrong
+
+
+def anchors(page: Path) -> set[str]:
+    heads = re.findall(r"^#+ (.*)$", page.read_text(), re.M)
+    return {re.sub(r"[^\w -]", "", head.lower()).replace(" ", "-") for head in heads}
+
+
+def wrong_links(page: Path, text: str) -> list[str]:
+    wrong = []
+    for target in re.findall(r"\]\(([^)]+)\)", text):
+        name, _, anchor = target.partition("#")
+        file = (page.parent / name).resolve() if name else page
+        if not file.exists():
+            wrong.append(f"no such file: {target}")
+        elif anchor and file.suffix == ".md" and anchor not in anchors(file):
+            wrong.append(f"no such heading: {target}")
+    return wrong
+
+
+def wrong_names(text: str, names: set[str]) -> list[str]:
+    """The files and crates in backquotes that aren't there. A file may be named by the end of its path."""
+    wrong = []
+    for word in set(re.findall(r"`([\w./-]+)`", text)):
+        if "NAME" in word or word == "START-HERE.md":  # (a form, and a page of the kit's)
+            continue
+        is_file = re.search(r"\.(rt|antt|md|sh|py|edit|script|replies|dialogue)$", word)
+        if is_file and not any(name == word or name.endswith("/" + word) for name in names):
+            wrong.append(f"no such file: {word}")
+        if re.fullmatch(r"(ifdb|test|bench)_[a-z]+", word) and not (CRATES / word).is_dir() and word not in names:
+            wrong.append(f"no such crate: {word}")
+    return wrong
+
+
+def wrong_counts(text: str) -> list[str]:
+    """Whether the files that are to be read have as many lines as the tables say, one by one and in all."""
+    wrong, sums = [], []
+    for section in text.split("| step | read | lines |")[1:]:
+        files, lines = 0, 0
+        for read, said in re.findall(r"^\| \d+\. [^|]*\| ([^|]*) \| (\d+) \|$", section.split("\n\n")[0], re.M):
+            found = 0
+            for part in read.split("; "):
+                crate, _, rest = part.partition(": ")
+                for name in re.findall(r"`([^`]+)`", rest):
+                    file = CRATES / crate.strip("`") / ("" if "/" in name else "specs") / name
+                    found += len(file.read_text().splitlines())
+                    files += 1
+            if found != int(said):
+                wrong.append(f"{said} lines are {found}: {read}")
+            lines += found
+        sums.append((files, lines))
+    for (files, lines), (said, told) in zip(sums, re.findall(r"(\d+) files of ([\d,]+) lines", text)):
+        if (files, lines) != (int(said), int(told.replace(",", ""))):
+            wrong.append(f"{said} files of {told} lines are {files} of {lines:,}")
+    return wrong
+
+
+def main() -> int:
+    known: set[tuple[str, str]] = set()
+    for script in (TOP / "examples").glob("*.script"):
+        known |= played(script)
+    names = {
+        str(file.relative_to(TOP))
+        for file in TOP.rglob("*")
+        if not {".git", "out", "wip"} & set(file.relative_to(TOP).parts)
+    }
+    failed = 0
+    for page in PAGES:
+        text = page.read_text()
+        wrong = wrong_examples(text, known) + wrong_links(page, text) + wrong_names(text, names)
+        if page.name == "PROVED.md":
+            wrong += wrong_counts(text)
+        failed += bool(wrong)
+        for line in wrong:
+            print(f"{page.relative_to(TOP)}: {line}")
+    print(f"pages: {len(PAGES) - failed} passed, {failed} failed")
+    return 1 if failed else 0
+
+
+if __name__ == "__main__":
+    sys.exit(main())
