@@ -1,0 +1,325 @@
+"""Tests of the shell: what it shows, and the shell itself over the built program, with files, pipes and a terminal of its own."""
+
+from __future__ import annotations
+
+import os
+import pathlib
+import pty
+import re
+import select
+import subprocess
+import sys
+import tempfile
+import time
+import unittest
+from typing import Dict, List, Optional, Tuple
+from unittest import mock
+
+import ifdb_shell
+import served
+
+SHELL = str(pathlib.Path(ifdb_shell.__file__).resolve())
+
+
+class Showing(unittest.TestCase):
+    """What is shown of replies and refusals."""
+
+    def test_a_table(self) -> None:
+        lines = list(ifdb_shell.table(["id", "name", "n"], [("7", "\u6f22\u5b57", "-1"), ("-12", "e\u0301 \x1b[2J", "x")]))
+        self.assertEqual(
+            lines,
+            [
+                "  id | name      | n",
+                "-----+-----------+----",
+                "   7 | \u6f22\u5b57      | -1",
+                " -12 | e\u0301 \\x1b[2J | x",
+            ],
+        )
+
+    def test_a_table_without_rows_or_values(self) -> None:
+        self.assertEqual(list(ifdb_shell.table(["id", "b"], [])), [" id | b", "----+---"])
+        self.assertEqual(list(ifdb_shell.table(["b"], [("",), ("x",)])), [" b", "---", "", " x"])
+
+    def test_a_terminal_obeys_nothing_that_is_shown(self) -> None:
+        for text, told in (("a\tb\r", r"a\tb\r"), ("\x1b\x07", r"\x1b\x07"), ("\u202e\0", r"\u202e\x00"), ("a \\ b", r"a \ b")):
+            self.assertEqual(ifdb_shell.shown(text), told)
+
+    def test_a_caret_stands_under_its_byte(self) -> None:
+        self.assertEqual(ifdb_shell.pointed("SHOW", 4), "  SHOW\n      ^")
+        self.assertEqual(ifdb_shell.pointed("SELECT '\u6f22\u00e9', #", 16), "  SELECT '\u6f22\u00e9', #\n                ^")
+        self.assertEqual(ifdb_shell.pointed("a\t#", 2), "  a\\t#\n     ^")
+
+
+class OverAServer(unittest.TestCase):
+    """A server with some rows, and the shell's ways to run."""
+
+    server: served.Server
+
+    @classmethod
+    def setUpClass(cls) -> None:
+        cls.server = served.Server()
+        cls.addClassCleanup(cls.server.stop)
+        status, _, told = cls.shell(SETTING)
+        assert status == 0, told
+
+    def setUp(self) -> None:
+        folder = tempfile.TemporaryDirectory()
+        self.addCleanup(folder.cleanup)
+        self.folder = pathlib.Path(folder.name)
+
+    @classmethod
+    def shell(cls, text: str, *words: str, user: str = "admin", key: Optional[str] = "admin") -> Tuple[int, str, str]:
+        """Runs the shell with this input, and returns its status, its output and what it said of failures."""
+        ran = subprocess.run(
+            [sys.executable, SHELL, *words, str(cls.server.port), user],
+            input=text.encode(errors="surrogateescape"),
+            capture_output=True,
+            timeout=served.PATIENCE,
+            env=environment(key),
+        )
+        return ran.returncode, ran.stdout.decode(), ran.stderr.decode()
+
+
+SETTING = """\
+CREATE COMPOUND TAG ward
+CREATE TAG ann IN (ward)
+CREATE PRINCIPAL ann KEY 'a'
+GRANT ann TO ann
+CREATE TABLE note (id INT, body TEXT, PRIMARY KEY (id))
+INSERT INTO note VALUES (1, 'cough'), (20, 'flu')
+"""
+
+
+def environment(key: Optional[str], **more: str) -> Dict[str, str]:
+    """An environment in which the shell finds this key."""
+    kept = {name: value for name, value in os.environ.items() if name != "IFDB_KEY"}
+    return {**kept, **({} if key is None else {"IFDB_KEY": key}), **more}
+
+
+class Piped(OverAServer):
+    """Files and pipes: rows on standard output, refusals on standard error, and a status."""
+
+    def test_replies(self) -> None:
+        text = "# a comment\n\nSELECT id, body FROM note\nSHOW LABEL\nDELETE FROM note WHERE id = 9\n.help\nBEGIN\nBYE\nSHOW LABEL\n"
+        told = " id | body\n----+-------\n  1 | cough\n 20 | flu\n(2 rows)\n\n{}\nOK, 0 rows\n" + ifdb_shell.HELP + "\nOK\nOK\n"
+        self.assertEqual(self.shell(text), (0, told, ""))
+
+    def test_a_refusal_is_told_with_its_line_and_the_rest_goes_on(self) -> None:
+        told = "stdin:1: ERR 1 Syntax 7: the line is no request\n  SELECT # FROM note\n         ^\n"
+        self.assertEqual(self.shell("SELECT # FROM note\nSHOW LABEL\n"), (1, "{}\n", told))
+        told = "stdin:1: ERR 6 UnknownName: a name stands for nothing of the kind wanted there\n"
+        self.assertEqual(self.shell("SELECT id FROM nothing\nSHOW LABEL\n", "--bail"), (1, "", told))
+
+    def test_the_last_line_needs_no_newline(self) -> None:
+        self.assertEqual(self.shell("SHOW LABEL"), (0, "{}\n", ""))
+        self.assertEqual(self.shell("SHOW LABEL\r\n"), (0, "{}\n", ""))
+        self.assertEqual(self.shell(""), (0, "", ""))
+
+    def test_bytes_that_are_no_text(self) -> None:
+        status, out, err = self.shell("SHOW LABEL\nSELECT '\udcff' FROM note\nSHOW LABEL\n")
+        self.assertEqual((status, out), (1, "{}\n{}\n"))
+        self.assertIn("stdin:2: a request can't hold", err)
+
+    def test_labels_and_times(self) -> None:
+        text = ".label\n.label ann, ward\n.label\n.label ()\n.label\n.timing on\nSHOW LABEL\nROLLBACK\n.timing\n.timing x\n.label none\n"
+        status, out, err = self.shell(text)
+        self.assertEqual((status, out), (1, "{}\nOK\n{ward}\nOK\n{}\ntimes are shown\n{}\ntimes are not shown\n"))
+        self.assertEqual(
+            err.splitlines(),
+            [
+                "stdin:8: ERR 10 NoTransaction: no transaction is open",
+                "stdin:10: .timing is on or off",
+                "stdin:11: ERR 6 UnknownName: a name stands for nothing of the kind wanted there",
+            ],
+        )
+
+    def test_times(self) -> None:
+        _, out, _ = self.shell(".timing\nSELECT id FROM note WHERE id = 1\nBEGIN\n")
+        self.assertRegex(out, r"^times are shown\n id\n----\n  1\n\(1 row, [0-9.]+ ms\)\n\nOK, [0-9.]+ ms\n$")
+
+    def test_files(self) -> None:
+        inner, outer = self.folder / "inner", self.folder / "outer"
+        inner.write_text(f"SHOW LABEL\nX\n.read {outer}\n")
+        outer.write_text(f".read {inner}\n.label ann\nSHOW LABEL\n.read {self.folder}/none\n.nothing\n.read\n")
+        status, out, err = self.shell(f".read {outer}\nSHOW LABEL\n")
+        self.assertEqual((status, out), (1, "{}\nOK\n{ann}\n{ann}\n"))
+        self.assertEqual(
+            err.splitlines(),
+            [
+                f"{inner}:2: ERR 1 Syntax 0: the line is no request",
+                "  X",
+                "  ^",
+                f"{inner}:3: {outer} is being read already",
+                f"{outer}:4: can't read {self.folder}/none: No such file or directory",
+                f"{outer}:5: there is no command .nothing; .help lists them",
+                f"{outer}:6: can't read nothing: Is a directory",
+            ],
+        )
+        words = [sys.executable, SHELL, str(self.server.port), "admin", str(inner)]
+        ran = subprocess.run(words, capture_output=True, text=True, timeout=served.PATIENCE, env=environment("admin"))
+        self.assertEqual((ran.returncode, ran.stdout), (1, "{}\n{}\nOK\n{ann}\n"))
+
+    def test_all_columns_go_by_their_places(self) -> None:
+        _, out, _ = self.shell("SELECT * FROM note WHERE id = 1\n")
+        self.assertEqual(out, " 1 | 2\n---+-------\n 1 | cough\n(1 row)\n\n")
+
+    def test_keys_and_words(self) -> None:
+        self.assertEqual(self.shell("SHOW LABEL\n", "--key", "a", user="ann", key=None), (0, "{}\n", ""))
+        status, out, err = self.shell("SHOW LABEL\n", user="ann", key="b")
+        self.assertEqual((status, out), (3, ""))
+        self.assertIn("ERR 4 BadKey", err)
+        status, _, err = self.shell("SHOW LABEL\n", key=None)
+        self.assertEqual(status, 2)
+        self.assertIn("no key", err)
+        self.assertEqual(self.shell("", "--nonsense")[0], 2)
+        status, _, err = self.shell("", user="ann KEY 'a'")
+        self.assertEqual(status, 3)
+        self.assertIn("is no name", err)
+
+    def test_the_server_ends(self) -> None:
+        server = served.Server()
+        words = [sys.executable, SHELL, str(server.port), "admin"]
+        pipes = {"stdin": subprocess.PIPE, "stdout": subprocess.PIPE, "stderr": subprocess.PIPE}
+        with subprocess.Popen(words, env=environment("admin"), **pipes) as shell:  # type: ignore[call-overload]
+            shell.stdin.write(b".help\n.label\n")
+            shell.stdin.flush()
+            while shell.stdout.readline() != b"{}\n":
+                pass
+            server.stop()
+            out, err = shell.communicate(b"SHOW LABEL\nSHOW LABEL\n", timeout=served.PATIENCE)
+        self.assertEqual((shell.returncode, out), (3, b""))
+        self.assertRegex(err.decode(), r"^stdin:3: the (server ended the )?connection.*\n$")
+
+    def test_a_reader_that_leaves_early(self) -> None:
+        line = f"{sys.executable} {SHELL} {self.server.port} admin | head -n 1"
+        asked = b"SELECT a.id FROM note a, note b, note c, note d\n" * 2000
+        ran = subprocess.run(
+            ["sh", "-c", line], input=asked, capture_output=True, timeout=served.PATIENCE, env=environment("admin")
+        )
+        self.assertEqual((ran.stdout, ran.stderr), (b" id\n", b""))
+
+
+class Terminal:
+    """The shell at a terminal of its own. It is typed to, and shows what a person would see."""
+
+    def __init__(self, words: List[str], env: Dict[str, str]) -> None:
+        self._process, self._link = pty.fork()
+        if self._process == 0:
+            os.execve(sys.executable, [sys.executable, SHELL, *words], env)
+        self.seen = ""
+
+    def expect(self, text: str) -> str:
+        """Waits until this is shown, and returns what was shown before it."""
+        until = time.monotonic() + served.PATIENCE
+        while text not in self.seen:
+            if not select.select([self._link], [], [], max(0.0, until - time.monotonic()))[0]:
+                raise AssertionError(f"{text!r} isn't shown, but {self.seen!r}")
+            self.seen += os.read(self._link, 65_536).decode().replace("\r\n", "\n")
+        before, _, self.seen = self.seen.partition(text)
+        return before
+
+    def type(self, keys: str) -> None:
+        os.write(self._link, keys.encode())
+
+    def status(self) -> int:
+        """The status with which the shell ends."""
+        try:
+            while os.read(self._link, 65_536):
+                pass
+        except OSError:
+            pass  # so a terminal tells that nobody is at its other side
+        os.close(self._link)
+        return os.waitstatus_to_exitcode(os.waitpid(self._process, 0)[1])
+
+
+class AtATerminal(OverAServer):
+    """The prompt, editing, history, and the keys that a terminal has."""
+
+    def terminal(self, *, user: str = "ann", key: Optional[str] = "a") -> Terminal:
+        more = {"TERM": "dumb", "IFDB_HISTORY": str(self.folder / "history")}
+        return Terminal([str(self.server.port), user], environment(key, **more))
+
+    def test_the_prompt_has_principal_label_and_transaction(self) -> None:
+        shell = self.terminal()
+        for keys, prompt in [
+            ("", "ann {}> "),
+            ("SET LABEL (ann)\n", "ann {ann}> "),
+            (".label ann ward\n", "ann {ward}> "),
+            ("BEGIN\n", "ann {ward}*> "),
+            ("SET LABEL ()\n", "ann {ward}*> "),
+            ("COMMIT\n", "ann {ward}> "),
+        ]:
+            shell.type(keys)
+            shell.expect(prompt)
+        shell.type("BYE\n")
+        self.assertEqual(shell.status(), 0)
+
+    def test_rows_have_a_count_and_a_time(self) -> None:
+        shell = self.terminal()
+        shell.expect("> ")
+        shell.type("SELECT body FROM note\n")
+        self.assertRegex(shell.expect("ann {}> "), r"body\n-------\n cough\n flu\n\(2 rows, [0-9.]+ ms\)\n\n$")
+        shell.type(".timing off\nBEGIN\n")
+        shell.expect("OK\nann {}*> ")
+        shell.type("\x04")
+        self.assertEqual(shell.status(), 0)
+
+    def test_a_refusal_has_a_caret_and_is_no_failure(self) -> None:
+        shell = self.terminal()
+        shell.expect("> ")
+        shell.type("SELECT # FROM note\n")
+        self.assertIn("ERR 1 Syntax 7: the line is no request\n  SELECT # FROM note\n         ^\n", shell.expect("ann {}> "))
+        shell.type(".quit\n")
+        self.assertEqual(shell.status(), 0)
+
+    def test_editing_and_interrupts(self) -> None:
+        shell = self.terminal()
+        shell.expect("> ")
+        shell.type("HOW LABEL\x01S\n")  # to the beginning of the line, and an S there
+        shell.expect("{}\nann {}> ")
+        shell.type("\x1b[A\n")  # the line before
+        shell.expect("{}\nann {}> ")
+        shell.type("SELECT nothing\x03")
+        shell.expect("ann {}> ")
+        shell.type("SHOW LABEL\n")
+        shell.expect("{}\nann {}> ")
+        shell.type("\x04")
+        self.assertEqual(shell.status(), 0)
+
+    def test_a_history_without_keys(self) -> None:
+        shell = self.terminal(user="admin", key="admin")
+        shell.expect("> ")
+        for line in ("CREATE PRINCIPAL cy KEY 'c'", "SHOW LABEL", "CREATE TABLE t (a INT, PRIMARY KEY (a))"):
+            shell.type(line + "\n")
+            shell.expect("admin {}> ")
+        shell.type("\x04")
+        self.assertEqual(shell.status(), 0)
+        history = self.folder / "history"
+        self.assertEqual(history.read_text(), "SHOW LABEL\nCREATE TABLE t (a INT, PRIMARY KEY (a))\n")
+        self.assertEqual(history.stat().st_mode & 0o777, 0o600)
+        shell = self.terminal()
+        shell.expect("> ")
+        shell.type("\x1b[A\x1b[A\n")
+        shell.expect("{}\nann {}> ")
+        shell.type("\x04")
+        self.assertEqual(shell.status(), 0)
+
+    def test_a_key_is_asked_for_and_not_shown(self) -> None:
+        shell = self.terminal(key=None)
+        shell.expect("key of ann: ")
+        shell.type("a\n")
+        self.assertEqual(shell.expect("ann {}> ").strip(), "")
+        shell.type("\x04")
+        self.assertEqual(shell.status(), 0)
+
+    def test_the_server_ends(self) -> None:
+        with mock.patch.object(self, "server", served.Server()) as server:
+            shell = self.terminal(user="admin", key="admin")
+            shell.expect("> ")
+            server.stop()
+        shell.type("SHOW LABEL\n")
+        self.assertEqual(shell.status(), 3)
+
+
+if __name__ == "__main__":
+    unittest.main()
