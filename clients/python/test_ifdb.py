@@ -202,8 +202,13 @@ class Errors(unittest.TestCase):
 
     def test_the_tree(self) -> None:
         below_database = [
-            ifdb.DataError, ifdb.OperationalError, ifdb.IntegrityError, ifdb.InternalError, ifdb.ProgrammingError, ifdb.NotSupportedError
-        ]  # fmt: skip
+            ifdb.DataError,
+            ifdb.OperationalError,
+            ifdb.IntegrityError,
+            ifdb.InternalError,
+            ifdb.ProgrammingError,
+            ifdb.NotSupportedError,
+        ]
         for below in below_database:
             self.assertEqual(below.__bases__, (ifdb.DatabaseError,))
         self.assertEqual(ifdb.DatabaseError.__bases__ + ifdb.InterfaceError.__bases__, (ifdb.Error, ifdb.Error))
@@ -421,7 +426,10 @@ class Served(unittest.TestCase):
         cases: List[Tuple[str, List[Tuple[str, ifdb.Kind]]]] = [
             ("SELECT id, body FROM note", [("id", int), ("body", str)]),
             ("select ID, (Body) as B From Note;", [("id", int), ("b", str)]),
-            ("SELECT n.id, v.reason, pence, body FROM note n, visit AS v", [("id", int), ("reason", str), ("pence", int), ("body", str)]),
+            (
+                "SELECT n.id, v.reason, pence, body FROM note n, visit AS v",
+                [("id", int), ("reason", str), ("pence", int), ("body", str)],
+            ),
             ("SELECT a.id, b.body FROM note a, note b WHERE a.id = b.id", [("id", int), ("body", str)]),
             (
                 "SELECT id + 1, -7, 'it''s, (x', (id - (2)) * 3 AS n FROM note",
@@ -485,7 +493,8 @@ class Served(unittest.TestCase):
             self.assertEqual([list(it) for it in connection.columns.values()], [["body", "n"], ["a", "b"], ["a", "b"]])
 
     def test_kinds_are_asked_once(self) -> None:
-        with self.connect() as connection, mock.patch.object(ifdb.Session, "ask", autospec=True, side_effect=ifdb.Session.ask) as ask:
+        listening = mock.patch.object(ifdb.Session, "ask", autospec=True, side_effect=ifdb.Session.ask)
+        with self.connect() as connection, listening as ask:
             cursor = connection.cursor()
             for _ in range(3):
                 cursor.execute("SELECT id, body, id AS i, n.id FROM note n")

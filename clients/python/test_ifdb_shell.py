@@ -100,7 +100,7 @@ class Piped(OverAServer):
     """Files and pipes: rows on standard output, refusals on standard error, and a status."""
 
     def test_replies(self) -> None:
-        text = "# a comment\n\nSELECT id, body FROM note\nSHOW LABEL\nDELETE FROM note WHERE id = 9\n.help\nBEGIN\nBYE\nSHOW LABEL\n"
+        text = "# a comment\n\nSELECT id, body FROM note\nSHOW LABEL\nDELETE FROM note WHERE id = 9\n.help\nBEGIN\nBYE\nBEGIN\n"
         told = " id | body\n----+-------\n  1 | cough\n 20 | flu\n(2 rows)\n\n{}\nOK, 0 rows\n" + ifdb_shell.HELP + "\nOK\nOK\n"
         self.assertEqual(self.shell(text), (0, told, ""))
 
@@ -121,8 +121,8 @@ class Piped(OverAServer):
         self.assertIn("stdin:2: a request can't hold", err)
 
     def test_labels_and_times(self) -> None:
-        text = ".label\n.label ann, ward\n.label\n.label ()\n.label\n.timing on\nSHOW LABEL\nROLLBACK\n.timing\n.timing x\n.label none\n"
-        status, out, err = self.shell(text)
+        labels = ".label\n.label ann, ward\n.label\n.label ()\n.label\n"
+        status, out, err = self.shell(labels + ".timing on\nSHOW LABEL\nROLLBACK\n.timing\n.timing x\n.label none\n")
         self.assertEqual((status, out), (1, "{}\nOK\n{ward}\nOK\n{}\ntimes are shown\n{}\ntimes are not shown\n"))
         self.assertEqual(
             err.splitlines(),

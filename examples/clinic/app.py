@@ -1,0 +1,235 @@
+#!/usr/bin/env python3
+"""A clinic's web application over ifdb, with two planted bugs that leak nothing.
+
+    examples/clinic/app.py IFDB_PORT WEB_PORT
+
+Behind `examples/clinic/start.py IFDB_PORT`, a browser at http://127.0.0.1:WEB_PORT/ asks for a name and a key: ann and ann-key, bob
+and bob-key, grey and grey-key, clerk and clerk-key.
+
+Each request has a connection of its own, which says HELLO as who asks, so the application keeps no key and has no authority. A page
+leaves only where the session could come back to the empty label, by the authority of who reads it. `Application.page` sees to that
+for every handler, and is the one place of this file that has to be right.
+"""
+
+from __future__ import annotations
+
+import base64
+import binascii
+import html
+import http.server
+import pathlib
+import sys
+import urllib.parse
+from http import HTTPStatus
+from typing import Callable, Dict, FrozenSet, Iterable, List, NamedTuple, Optional, Sequence, Tuple
+
+sys.path.insert(0, str(pathlib.Path(__file__).resolve().parents[2] / "clients/python"))
+import ifdb  # noqa: E402
+
+PATIENCE = 10.0
+"""Seconds that the database has for an answer."""
+
+
+class Request(NamedTuple):
+    """Who asks for a page, at which label the page is read, and the words of the address."""
+
+    role: str
+    label: FrozenSet[str]
+    words: Dict[str, str]
+
+
+class Reply(NamedTuple):
+    """What goes back to the browser."""
+
+    status: HTTPStatus
+    body: str
+
+
+# ---- Pages. Each gets a connection at the label of who asks.
+
+
+def table(names: Sequence[str], rows: Iterable[ifdb.Row]) -> str:
+    """Rows as a table of a page."""
+    cells = ["".join(f"<td>{html.escape(str(value))}</td>" for value in line) for line in (names, *rows)]
+    return "<table>" + "".join(f"<tr>{line}</tr>" for line in cells) + "</table>"
+
+
+class Part(NamedTuple):
+    """What a home page has in it: a title, and what is asked for it."""
+
+    title: str
+    names: Sequence[str]
+    request: str
+
+
+VISITS = Part("Visits", ("number", "doctor", "reason"), "SELECT id, doctor, reason FROM visit")
+MAIL = Part("Mail", ("number", "text"), "SELECT id, body FROM mail")
+PATIENTS = Part("Patients", ("whose", "number", "reason"), "SELECT LABEL OF visit, id, reason FROM visit")
+DOCTORS = Part(
+    "Doctors",
+    ("doctor", "visits", "pence"),
+    "SELECT doctor, COUNT(*), SUM(pence) FROM visit GROUP BY doctor ORDER BY doctor",
+)
+BILLS = Part("Bills", ("visit", "pence"), "SELECT id, pence FROM bill")
+HOME = {"patient": (VISITS, MAIL), "doctor": (PATIENTS, DOCTORS), "clerk": (BILLS, VISITS)}
+
+
+def home(connection: ifdb.Connection, request: Request) -> str:
+    """What somebody begins with. That a clerk's has visits in it shows nothing either: a clerk sees none."""
+    cursor = connection.cursor()
+    return "".join(
+        f"<h2>{part.title}</h2>{table(part.names, cursor.execute(part.request).fetchall())}" for part in HOME[request.role]
+    )
+
+
+def visit(connection: ifdb.Connection, request: Request) -> str:
+    """A visit of the reader's, of which a copy goes to the reader's mail.
+
+    The first planted bug: whose visit it is comes from the address, and not from who asks. So bob may have ann's read."""
+    cursor = connection.cursor()
+    with connection.at(request.words["of"]):
+        found = cursor.execute("SELECT id, doctor, reason FROM visit WHERE id = ?", (int(request.words["id"]),)).fetchone()
+    if found is None:
+        raise LookupError("no visit")
+    send_mail(cursor, f"You looked at visit {found[0]}: {found[2]}")
+    return table(VISITS.names, [found])
+
+
+def remind(connection: ifdb.Connection, request: Request) -> str:
+    """A mail to the reader that a visit is near, if there is such a visit.
+
+    The second planted bug: the mail is written first, and kept only where the visit is found, which is looked for as above. So that
+    the mail stands would tell bob of ann's visit."""
+    cursor = connection.cursor()
+    number = int(request.words["id"])
+    send_mail(cursor, f"Don't forget visit {number}")
+    connection.label = request.label | {request.words["of"]}
+    if cursor.execute("SELECT id FROM visit WHERE id = ?", (number,)).fetchone():
+        connection.commit()
+    return "<p>You will be reminded, if there is such a visit.</p>"
+
+
+PAGES: Dict[str, Callable[[ifdb.Connection, Request], str]] = {"/": home, "/visit": visit, "/remind": remind}
+
+
+def send_mail(cursor: ifdb.Cursor, body: str) -> None:
+    """Puts a mail into the mailbox at the session's label."""
+    [(mails,)] = cursor.execute("SELECT COUNT(*) FROM mail").fetchall()
+    cursor.execute("INSERT INTO mail VALUES (?, ?)", (mails, body))
+
+
+# ---- The application around them
+
+
+def document(title: str, body: str) -> str:
+    return (
+        f"<!doctype html><html lang=en><meta charset=utf-8><title>{html.escape(title)}</title><link rel=icon href=data:,>"
+        "<style>body{font:16px sans-serif;margin:1.5em}h1{font-size:1.4em}h2{font-size:1.1em}td{padding:.2em 1em .2em 0}"
+        "tr:first-child td{color:#666}</style>"
+        f"<h1>{html.escape(title)}</h1>{body}</html>\n"
+    )
+
+
+NOBODY = Reply(HTTPStatus.UNAUTHORIZED, document("Who are you?", ""))
+
+
+class Application:
+    """Answers requests for pages over connections to one server."""
+
+    def __init__(self, port: int, log: Callable[[str], None]) -> None:
+        self._port = port
+        self._log = log
+
+    def answer(self, user: str, key: str, target: str) -> Reply:
+        """The reply to somebody's request. What the database refuses is a line of the log, and a page that says nothing of it."""
+        path, _, query = target.partition("?")
+        try:
+            return Reply(HTTPStatus.OK, document(f"The clinic of {user}", self.page(user, key, path, query)))
+        except (LookupError, ValueError) as fault:
+            self._log(f"{user} {target!a}: {fault!r}")
+            return Reply(HTTPStatus.NOT_FOUND, document("There is no such page", ""))
+        except ifdb.Error as error:
+            self._log(f"{user} {target!a}: {'; then '.join(refusals(error))}")
+            if error.name == "BadKey":
+                return NOBODY
+            return Reply(HTTPStatus.INTERNAL_SERVER_ERROR, document("Something went wrong", "<p>Nothing was shown or sent.</p>"))
+
+    def page(self, user: str, key: str, path: str, query: str) -> str:
+        """What a handler writes, where it may leave the database.
+
+        Handlers begin at the label of who reads: a patient's own, the doctor's that of all patients, the clerk's the empty one.
+        Whatever came of a handler, the label then goes down to the empty one, by the authority of who reads alone. Where the
+        database refuses that, somebody else's secret was read, and there is no page."""
+        handler = PAGES[path]
+        with ifdb.connect(self._port, user, key, timeout=PATIENCE) as connection:
+            role = role_of(connection)
+            label = {"patient": frozenset({connection.user}), "doctor": frozenset({"patients"})}.get(role, frozenset())
+            try:
+                connection.label = label
+                return handler(connection, Request(role, label, dict(urllib.parse.parse_qsl(query))))
+            finally:
+                connection.label = frozenset()
+
+
+def refusals(error: Optional[BaseException]) -> List[str]:
+    """What was refused, the first one first."""
+    return [] if error is None else [*refusals(error.__context__), str(error)]
+
+
+def role_of(connection: ifdb.Connection) -> str:
+    """What somebody is in the clinic. Everybody may know it."""
+    found = connection.cursor().execute("SELECT role FROM person WHERE name = ?", (connection.user,)).fetchone()
+    return "nobody" if found is None else str(found[0])
+
+
+class Handler(http.server.BaseHTTPRequestHandler):
+    """HTTP's side: who asks is told by Basic authentication."""
+
+    application: Application
+
+    def do_GET(self) -> None:
+        asker = self._asker()
+        reply = NOBODY if asker is None else self.application.answer(*asker, self.path)
+        body = reply.body.encode()
+        self.send_response(reply.status)
+        if reply.status == HTTPStatus.UNAUTHORIZED:
+            self.send_header("WWW-Authenticate", 'Basic realm="clinic", charset="UTF-8"')
+        self.send_header("Content-Type", "text/html; charset=utf-8")
+        self.send_header("Content-Length", str(len(body)))
+        self.send_header("Cache-Control", "no-store")
+        self.end_headers()
+        self.wfile.write(body)
+
+    def _asker(self) -> Optional[Tuple[str, str]]:
+        """The name and the key that the browser sends, if it does."""
+        kind, _, words = self.headers.get("Authorization", "").partition(" ")
+        try:
+            user, colon, key = base64.b64decode(words, validate=True).decode().partition(":")
+            return (ifdb.name(user), key) if kind == "Basic" and colon else None
+        except (binascii.Error, UnicodeDecodeError, ifdb.ProgrammingError):
+            return None
+
+    def log_message(self, format: str, *args: object) -> None:
+        """Nothing: the application has a log of its own, in which no key stands."""
+
+
+def serve(port: int, web_port: int, log: Callable[[str], None]) -> http.server.ThreadingHTTPServer:
+    """A web server of the application at this port of this machine, to be run by `serve_forever`."""
+    handler = type("Handler", (Handler,), {"application": Application(port, log)})
+    return http.server.ThreadingHTTPServer(("127.0.0.1", web_port), handler)
+
+
+def main(words: Sequence[str]) -> int:
+    if len(words) != 2:
+        print(__doc__, file=sys.stderr)
+        return 2
+    with serve(int(words[0]), int(words[1]), lambda line: print(line, file=sys.stderr, flush=True)) as server:
+        try:
+            server.serve_forever()
+        except KeyboardInterrupt:
+            pass
+    return 0
+
+
+if __name__ == "__main__":
+    sys.exit(main(sys.argv[1:]))
