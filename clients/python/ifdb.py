@@ -762,7 +762,7 @@ class Cursor:
         self.description = None
         self.rowcount = -1
         self.request = None
-        self._rows: Optional[Sequence[Row]] = None
+        self._rows: Optional[list[Row]] = None
         self._next = 0
         self._is_open = True
 
@@ -861,4 +861,4 @@ class Cursor:
             raise ProgrammingError("there are no rows: the last request was no SELECT")
         begin = self._next
         self._next = min(begin + count, len(self._rows))
-        return list(self._rows[begin : self._next])
+        return self._rows[begin : self._next]
