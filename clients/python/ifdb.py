@@ -860,5 +860,5 @@ class Cursor:
         if self._rows is None:
             raise ProgrammingError("there are no rows: the last request was no SELECT")
         begin = self._next
-        self._next = min(begin + count, len(self._rows))
+        self._next += count
         return self._rows[begin : self._next]
