@@ -800,7 +800,7 @@ class Cursor:
 
     def fetchmany(self, size: Optional[int] = None) -> list[Row]:
         """The next rows, as many as `size` or `arraysize` says while there are some."""
-        return self._fetch(self.arraysize if size is None else size)
+        return self._fetch(max(0, self.arraysize if size is None else size))
 
     def fetchall(self) -> list[Row]:
         """All rows that are left."""

@@ -513,7 +513,7 @@ class Served(unittest.TestCase):
             self.assertEqual((cursor.fetchone(), cursor.fetchmany(), cursor.fetchmany(2)), ((0,), [(1,)], [(2,), (3,)]))
             cursor.arraysize = 5
             self.assertEqual((next(cursor), cursor.fetchmany(), cursor.fetchmany()), ((4,), [(5,)], []))
-            self.assertEqual((cursor.fetchone(), cursor.fetchall(), list(cursor)), (None, [], []))
+            self.assertEqual((cursor.fetchone(), cursor.fetchall(), cursor.fetchmany(-1), list(cursor)), (None, [], [], []))
             cursor.execute("UPDATE note SET body = 'x' WHERE id >= ?", (4,))
             self.assertEqual((cursor.rowcount, cursor.description), (2, None))
             cursor.execute("DELETE FROM note WHERE id = 9")
