@@ -7,8 +7,8 @@ Behind `examples/clinic/start.py IFDB_PORT`, a browser at http://127.0.0.1:WEB_P
 and bob-key, grey and grey-key, clerk and clerk-key.
 
 Each request has a connection of its own, which says HELLO as who asks, so the application keeps no key and has no authority. A page
-leaves only where the session could come back to the empty label, by the authority of who reads it. `Application.page` sees to that
-for every handler, and is the one place of this file that has to be right.
+leaves only where the session could come back to the empty label, by the authority of who reads it. `Application.page_once` sees to
+that for every handler, and is the one place of this file that has to be right.
 """
 
 from __future__ import annotations
@@ -28,6 +28,8 @@ import ifdb  # noqa: E402
 
 PATIENCE = 10.0
 """Seconds that the database has for an answer."""
+TRIES = 20
+"""How often a request is begun at most, where its transaction meets others."""
 
 
 class Request(NamedTuple):
@@ -109,7 +111,8 @@ def remind(connection: ifdb.Connection, request: Request) -> str:
     return "<p>You will be reminded, if there is such a visit.</p>"
 
 
-PAGES: Dict[str, Callable[[ifdb.Connection, Request], str]] = {"/": home, "/visit": visit, "/remind": remind}
+Page = Callable[[ifdb.Connection, Request], str]
+PAGES: Dict[str, Page] = {"/": home, "/visit": visit, "/remind": remind}
 
 
 def send_mail(cursor: ifdb.Cursor, body: str) -> None:
@@ -155,18 +158,28 @@ class Application:
             return Reply(HTTPStatus.INTERNAL_SERVER_ERROR, document("Something went wrong", "<p>Nothing was shown or sent.</p>"))
 
     def page(self, user: str, key: str, path: str, query: str) -> str:
+        """What a handler writes. A request whose transaction meets another is done once more from its beginning."""
+        handler, words = PAGES[path], dict(urllib.parse.parse_qsl(query))
+        for _ in range(TRIES - 1):
+            try:
+                return self.page_once(user, key, handler, words)
+            except ifdb.OperationalError as error:
+                if error.name != "Conflict":
+                    raise
+        return self.page_once(user, key, handler, words)
+
+    def page_once(self, user: str, key: str, handler: Page, words: Dict[str, str]) -> str:
         """What a handler writes, where it may leave the database.
 
         Handlers begin at the label of who reads: a patient's own, the doctor's that of all patients, the clerk's the empty one.
         Whatever came of a handler, the label then goes down to the empty one, by the authority of who reads alone. Where the
         database refuses that, somebody else's secret was read, and there is no page."""
-        handler = PAGES[path]
         with ifdb.connect(self._port, user, key, timeout=PATIENCE) as connection:
             role = role_of(connection)
             label = {"patient": frozenset({connection.user}), "doctor": frozenset({"patients"})}.get(role, frozenset())
             try:
                 connection.label = label
-                return handler(connection, Request(role, label, dict(urllib.parse.parse_qsl(query))))
+                return handler(connection, Request(role, label, words))
             finally:
                 connection.label = frozenset()
 

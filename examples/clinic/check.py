@@ -1,6 +1,6 @@
 #!/usr/bin/env python3
 """Plays the browsers of `web.dialogue` against the clinic's web application over the built program, and compares what they are
-told, and what the log tells, with what stands there.
+told, and what the log tells, with what stands there. Then has a crowd of browsers ask side by side, none of whom may be refused.
 
     examples/clinic/check.py [--update]      stores what was told
 """
@@ -8,6 +8,7 @@ told, and what the log tells, with what stands there.
 from __future__ import annotations
 
 import base64
+import concurrent.futures
 import html.parser
 import pathlib
 import sys
@@ -68,6 +69,14 @@ class Browsers:
         return [str(status), *(f"  {it}" for it in text.lines), *(f"  log: {it}" for it in logged)]
 
 
+def refused_in_a_crowd(browsers: Browsers) -> int:
+    """How many of twenty requests fail that ann's browsers make side by side. Each puts a mail into her mailbox under the next
+    number, so their transactions meet, and have to be done again."""
+    with concurrent.futures.ThreadPoolExecutor(4) as crowd:
+        replies = list(crowd.map(lambda _: browsers.ask("ann", "GET /visit?of=ann&id=10")[0], range(20)))
+    return sum(status != "200" for status in replies)
+
+
 def let_eve_in(port: int) -> None:
     """What anybody may do who reaches the port: makes a principal, and calls it a doctor."""
     with ifdb.connect(port, "admin", "admin", timeout=served.PATIENCE) as admin:
@@ -88,9 +97,10 @@ def main(words: Sequence[str]) -> int:
             threading.Thread(target=web.serve_forever).start()
             browsers = Browsers(web.server_port, log)
             differing = dialogue.differs(HERE / "web.dialogue", browsers.ask, update=bool(words))
+            refused = refused_in_a_crowd(browsers)
             web.shutdown()
-    print("the clinic's web dialogue played, and " + ("differs" if differing else "is as stored"))
-    return 1 if differing else 0
+    print(f"the clinic's web dialogue {'differs' if differing else 'is as stored'}; {refused} of 20 requests in a crowd failed")
+    return 1 if differing or refused else 0
 
 
 if __name__ == "__main__":
