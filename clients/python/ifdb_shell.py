@@ -236,7 +236,7 @@ def talk(shell: Shell) -> None:
 
 
 class History:
-    """The lines of earlier sessions, for the length of a `with` block."""
+    """The lines of earlier sessions, for the length of a `with` block. readline lets nobody else read the file that it makes."""
 
     def __init__(self) -> None:
         self._path = pathlib.Path(os.environ.get("IFDB_HISTORY") or "~/.ifdb_history").expanduser()
@@ -253,7 +253,6 @@ class History:
     def __exit__(self, *_: object) -> None:
         if readline:
             try:
-                os.close(os.open(self._path, os.O_WRONLY | os.O_CREAT, 0o600))
                 readline.write_history_file(self._path)
             except OSError as fault:
                 print(f"the history isn't kept: {fault}", file=sys.stderr)
