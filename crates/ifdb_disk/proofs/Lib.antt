@@ -1,0 +1,4 @@
+mod Calls
+mod Fill
+pub mod Store
+pub mod Moments

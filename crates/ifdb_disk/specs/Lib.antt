@@ -1,0 +1,5 @@
+pub mod Images
+pub mod Clock
+pub mod Shelf
+pub mod Memory
+pub mod Present
