@@ -1,0 +1,5 @@
+pub mod Kinds
+pub mod Records
+pub mod Reading
+pub mod Found
+pub mod Causes

@@ -1,0 +1,4 @@
+// What no clause says: that the calls succeed, worked rows, and a crash at each call.
+mod crashes;
+mod rows;
+mod support;
