@@ -1,0 +1,6 @@
+mod Keeps
+mod Grammar
+mod Words
+mod Quiet
+mod Landed
+mod Blanks

@@ -1,0 +1,3 @@
+pub mod Replay
+pub mod FirstWord
+pub mod Rows
