@@ -92,9 +92,10 @@ fn shares(rt: &impl Abort, store: &mut Store, writes: Writes) -> Result<(), Fail
 #[test]
 fn commits_are_given_up(rt: HostRuntime) -> Result<(), Fail> {
     let mut store = Store::new(rt.alloc())?;
-    for key in 1..=1000 {
-        commit_at(&mut store, 2 * key as u64 - 1, one(rt.alloc(), key, 1)?)?;
-        commit_at(&mut store, 2 * key as u64, one(rt.alloc(), key, 0)?)?;
+    for key in 0..1000_u16 {
+        let stamp = 2 * u64::from(key) + 1;
+        commit_at(&mut store, stamp, one(rt.alloc(), i64::from(key), 1)?)?;
+        commit_at(&mut store, stamp + 1, one(rt.alloc(), i64::from(key), 0)?)?;
     }
     assert_eq!(rt; walk(store.content()).rows, 0);
     assert_eq!(rt; store.commits().len(), 2000);
