@@ -57,10 +57,11 @@ steps_long (b ∷ text) rest h =
 
 pub piece-append : (p xs ys : List ℕ) → piece_behind p (xs ++ ys) ≡ piece_behind (piece_behind p xs) ys
 piece-append p [] ys = refl
-piece-append p (b ∷ xs) ys = by (b == 10) where
-  by : (k : Bool) → cond k (piece_behind [] (xs ++ ys)) (piece_behind (p ++ b ∷ []) (xs ++ ys)) ≡ piece_behind (cond k (piece_behind [] xs) (piece_behind (p ++ b ∷ []) xs)) ys
-  by true = piece-append [] xs ys
-  by false = piece-append (p ++ b ∷ []) xs ys
+piece-append p (b ∷ xs) ys = by (b == 10) (piece-append [] xs ys) (piece-append (p ++ b ∷ []) xs ys) where
+  by : (k : Bool) → piece_behind [] (xs ++ ys) ≡ piece_behind (piece_behind [] xs) ys → piece_behind (p ++ b ∷ []) (xs ++ ys) ≡ piece_behind (piece_behind (p ++ b ∷ []) xs) ys
+      → cond k (piece_behind [] (xs ++ ys)) (piece_behind (p ++ b ∷ []) (xs ++ ys)) ≡ piece_behind (cond k (piece_behind [] xs) (piece_behind (p ++ b ∷ []) xs)) ys
+  by true anew on = anew
+  by false anew on = on
 
 piece_plain : (p text : List ℕ) → AllByRecursion (λ b. b ≢ 10) text → piece_behind p text ≡ p ++ text
 piece_plain p [] h = sym (append-nil p)
@@ -92,16 +93,16 @@ pub record Skip (xs ys : List ℕ) : Type 0 where
 
 pub skip : (xs ys : List ℕ) → after_newline xs ≡ ys → 0 < length ys → Skip xs ys
 skip [] ys e some = let none = ap length e in absurd (omega (arith, none, some))
-skip (b ∷ xs) ys e some = by (b == 10) refl e where
-  by : (k : Bool) → (b == 10) ≡ k → cond k xs (after_newline xs) ≡ ys → Skip (b ∷ xs) ys
-  by true is e = record {
+skip (b ∷ xs) ys e some = by (b == 10) refl e (λ at. skip xs ys at some) where
+  by : (k : Bool) → (b == 10) ≡ k → cond k xs (after_newline xs) ≡ ys → (after_newline xs ≡ ys → Skip xs ys) → Skip (b ∷ xs) ys
+  by true is e next = record {
     front = b ∷ [];
     all = ap (λ l. b ∷ l) e;
     on = λ zs. ap (λ k. cond k zs (after_newline zs)) is;
     piece = λ p zs. ap (λ k. cond k (piece_behind [] zs) (piece_behind (p ++ b ∷ []) zs)) is;
   }
-  by false is e =
-      let s = skip xs ys e some in
+  by false is e next =
+      let s = next e in
       record {
         front = b ∷ s.front;
         all = ap (λ l. b ∷ l) s.all;
@@ -112,11 +113,12 @@ skip (b ∷ xs) ys e some = by (b == 10) refl e where
 -- where all is skipped, the piece is empty or has grown
 pub skip_all : (p xs : List ℕ) → after_newline xs ≡ [] → (piece_behind p xs ≡ []) ⊎ (length p ≤ length (piece_behind p xs))
 skip_all p [] e = inr (omega arith)
-skip_all p (b ∷ xs) e = by (b == 10) e where
+skip_all p (b ∷ xs) e = by (b == 10) e (skip_all (p ++ b ∷ []) xs) where
   by : (k : Bool) → cond k xs (after_newline xs) ≡ []
+      → (after_newline xs ≡ [] → (piece_behind (p ++ b ∷ []) xs ≡ []) ⊎ (length (p ++ b ∷ []) ≤ length (piece_behind (p ++ b ∷ []) xs)))
       → (cond k (piece_behind [] xs) (piece_behind (p ++ b ∷ []) xs) ≡ []) ⊎ (length p ≤ length (cond k (piece_behind [] xs) (piece_behind (p ++ b ∷ []) xs)))
-  by true e = inl (ap (piece_behind []) e)
-  by false e = longer (skip_all (p ++ b ∷ []) xs e) where
+  by true e next = inl (ap (piece_behind []) e)
+  by false e next = longer (next e) where
     longer : (piece_behind (p ++ b ∷ []) xs ≡ []) ⊎ (length (p ++ b ∷ []) ≤ length (piece_behind (p ++ b ∷ []) xs))
         → (piece_behind (p ++ b ∷ []) xs ≡ []) ⊎ (length p ≤ length (piece_behind (p ++ b ∷ []) xs))
     longer (inl none) = inl none
