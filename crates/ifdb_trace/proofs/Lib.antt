@@ -1,0 +1,10 @@
+mod Members
+mod Exact
+mod Lines
+mod Telling
+mod Ways
+mod Standing
+mod Judging
+mod Projecting
+mod Showing
+mod Examples
