@@ -1,0 +1,20 @@
+-- The first row of a run is a run.
+use Rattle.std.proofs.Common.{◌≡◌, ◌∙◌, ℕ, zero, suc, List, [], ◌∷◌, ◌++◌, length, take, drop, min, refl, sym, ap, arith, append_assoc, take-append-drop}
+use Rattle.ifdb_row.specs.declared.row.Row.{Row}
+use Rattle.ifdb_row.specs.Questions.{IsRun}
+use Rattle.test_exec.proofs.tests.counted.CountedRowsRows.run_from.Goals as goal
+
+none_by : (n : ℕ) (run : List Row) → n ≡ min (length run) 1 → take n run ≡ [] → run ≡ []
+none_by n [] e none = refl
+none_by zero (x ∷ run) e none = absurd (omega (arith, e))
+none_by (suc n) (x ∷ run) e none = let some = ap length none in absurd (omega (arith, some))
+
+cut_run : (n : ℕ) (run rows : List Row) → n ≡ min (length run) 1 → IsRun run rows → IsRun (take n run) rows
+cut_run n run rows e is = record {
+  rest = drop n run ++ is.rest;
+  front = is.front ∙ ap (λ l. l ++ is.rest) (sym (take-append-drop n run)) ∙ append_assoc (take n run) (drop n run) is.rest;
+  some = λ none. is.some (none_by n run e none);
+}
+
+pub returns-clause-run : goal.returns-clause-run
+returns-clause-run c = cut_run c.min.result c.run_from-run.result.now _ c.min.ensures c.run_from-run.ensures.run
