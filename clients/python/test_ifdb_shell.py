@@ -7,6 +7,7 @@ import pathlib
 import pty
 import re
 import select
+import signal
 import subprocess
 import sys
 import tempfile
@@ -205,6 +206,7 @@ class Terminal:
     def __init__(self, words: List[str], env: Dict[str, str]) -> None:
         self._process, self._link = pty.fork()
         if self._process == 0:
+            signal.signal(signal.SIGINT, signal.SIG_DFL)  # whoever runs the tests in the background may ignore it
             os.execve(sys.executable, [sys.executable, SHELL, *words], env)
         self.seen = ""
 
