@@ -1,7 +1,9 @@
 // The one call that does all that the program does.
 ghost use Rattle.std.specs.Prelude.{◌≡◌, ◌≢◌, ◌+◌, ◌^◌, ◌≤◌, ◌⊎◌, ℕ, List, IfOk};
 ghost use Rattle.ifdb_io.specs.Causes.{Rose};
-ghost use Rattle.ifdb_script.specs.Run.{RanWhole, RanFront, RanPast, RanCut, CutsDontMatter, KeepsLevels};
+ghost use Rattle.ifdb_generate.specs.Script.{script};
+ghost use Rattle.ifdb_script.specs.Rehearsal.{rehearsed, rehearsed_text};
+ghost use Rattle.ifdb_script.specs.Run.{RanWhole, RanFront, RanPast, RanCut, CutsDontMatter, IsToldByBytes, KeepsLevels};
 ghost use Rattle.ifdb_service.specs.Site.{GivesNone, IsCut, IsDone, IsUnserved};
 ghost use Rattle.ifdb_words.specs.Ranges.{IsService};
 ghost use Rattle.ifdb_words.specs.Words.{command_of};
@@ -10,7 +12,7 @@ ghost use Rattle.ifdb.specs.Status.{EndsWell, IsMade, IsRunEnd, IsServeEnd, IsUs
 ghost use Rattle.ifdb.specs.Texts.{IsWritten, text_for, text_of};
 ghost use Rattle.ifdb.specs.Words.{IsRefused, IsRun, IsServe, IsText, NeedsNoInput, NeedsNoSite, usage_line};
 
-use ifdb_generate::{OutOfMemory, generated};
+use ifdb_generate::{OutOfMemory, Size, generate};
 use ifdb_io::{Failed, Sink, Site, Source, write_all};
 use ifdb_script::{ScriptEnd, rehearse, run_script};
 use ifdb_service::{ServiceEnd, serve as serve_site};
@@ -54,6 +56,9 @@ pub fn top<T: AllocGlobal + Threads + Wait + Sync, R: Source, W: Sink, S: Site>(
 ) -> Status
     // The script's output.
     ensures done { (limit : ℕ) → IsRun limit words.now → result ≡ Status.Done → RanWhole limit
+        (R.left input.old) (R.left input.new) (W.written output.old) (W.written output.new) }
+    ensures told_by_bytes { (limit : ℕ) → IsRun limit words.now → result ≡ Status.Done
+        → IsToldByBytes limit
         (R.left input.old) (R.left input.new) (W.written output.old) (W.written output.new) }
     ensures cuts { CutsDontMatter }
     ensures two_worlds { (limit : ℕ) → IsRun limit words.now → result ≡ Status.Done
@@ -112,7 +117,7 @@ pub fn top<T: AllocGlobal + Threads + Wait + Sync, R: Source, W: Sink, S: Site>(
     match command_of(rt.alloc(), words) {
         Ok(Some(Command::Run { limit })) => run(rt.alloc(), input, output, limit),
         Ok(Some(Command::Serve(service))) => serve(rt, output, site, service),
-        Ok(Some(Command::Write(text))) => write_made(output, made(rt.alloc(), text)),
+        Ok(Some(Command::Write(text))) => write_text(rt.alloc(), output, text),
         Ok(None) => write_usage(output),
         Err(_) => Status::OutOfMemory,
     }
@@ -132,16 +137,44 @@ fn write_usage<W: Sink>(output: &mut W) -> Status
     }
 }
 
-/// Writes a text, unless there was no memory to make it.
-fn write_made<W: Sink>(output: &mut W, made: Result<Vec<u8>, OutOfMemory>) -> Status
+/// Writes a text of the generator.
+fn write_text<W: Sink>(alloc: Global, output: &mut W, text: Text) -> Status
     ensures ends { IsMade result }
-    ensures text { (text : List ℕ) → IfOk made (λ made. made.items ≡ text)
-        → IsWritten text result (W.written output.old) (W.written output.new) }
+    ensures text { IsWritten (text_of text) result (W.written output.old) (W.written output.new) }
     ensures write { result ≡ Status.WriteFault → Rose (W.faults output.old) (W.faults output.new) }
     ensures memory { result ≡ Status.OutOfMemory → output.new ≡ output.old }
     ensures later { W.faults output.old ≤ W.faults output.new }
 {
-    let Ok(text) = made else {
+    match text {
+        Text::Script(size) => write_script(output, size),
+        Text::Counts(size) => write_counts(alloc, output, size),
+    }
+}
+
+/// Writes the generator's script, round by round.
+fn write_script<W: Sink>(output: &mut W, size: Size) -> Status
+    ensures ends { IsMade result }
+    ensures text { IsWritten (script size) result (W.written output.old) (W.written output.new) }
+    ensures write { result ≡ Status.WriteFault → Rose (W.faults output.old) (W.faults output.new) }
+    ensures memory { result ≢ Status.OutOfMemory }
+    ensures later { W.faults output.old ≤ W.faults output.new }
+{
+    match generate(size, output) {
+        Ok(()) => Status::Done,
+        Err(Failed) => Status::WriteFault,
+    }
+}
+
+/// Writes what the run of the generator's script counts, unless there was no memory to run it.
+fn write_counts<W: Sink>(alloc: Global, output: &mut W, size: Size) -> Status
+    ensures ends { IsMade result }
+    ensures text { IsWritten (rehearsed_text (rehearsed (script size))) result
+        (W.written output.old) (W.written output.new) }
+    ensures write { result ≡ Status.WriteFault → Rose (W.faults output.old) (W.faults output.new) }
+    ensures memory { result ≡ Status.OutOfMemory → output.new ≡ output.old }
+    ensures later { W.faults output.old ≤ W.faults output.new }
+{
+    let Ok(text) = counts(alloc, size) else {
         return Status::OutOfMemory;
     };
     match write_all(output, &text) {
@@ -150,14 +183,11 @@ fn write_made<W: Sink>(output: &mut W, made: Result<Vec<u8>, OutOfMemory>) -> St
     }
 }
 
-/// Makes a text of the generator.
-fn made(alloc: Global, text: Text) -> Result<Vec<u8>, OutOfMemory>
-    ensures { IfOk result (λ made. made.items ≡ text_of text) }
+/// What the run of the generator's script counts, as a text.
+fn counts(alloc: Global, size: Size) -> Result<Vec<u8>, OutOfMemory>
+    ensures { IfOk result (λ text. text.items ≡ rehearsed_text (rehearsed (script size))) }
 {
-    match text {
-        Text::Script(size) => generated(alloc, size),
-        Text::Counts(size) => rehearse(alloc, size)?.text(alloc),
-    }
+    rehearse(alloc, size)?.text(alloc)
 }
 
 /// Runs a script of at most so many bytes.

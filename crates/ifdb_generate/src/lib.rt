@@ -1,11 +1,12 @@
 //! The generator's script: four sessions that raise and lower their labels, insert rows and count them.
 #![tactic(auto)]
 
+mod round;
 mod script;
 mod size;
 #[cfg(test)]
 mod tests;
 
-pub use script::generated;
+pub use script::{generate, generated};
 pub use size::Size;
 pub use std::alloc::AllocError as OutOfMemory;

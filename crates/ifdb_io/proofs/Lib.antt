@@ -1,4 +1,5 @@
 mod Ranges
 mod Written
+pub mod Behind
 mod ReaderLemmas
 mod FeedLemmas

@@ -13,4 +13,5 @@ pub mod PairExamples
 pub mod two_worlds
 pub mod Bridge
 pub mod ReadBack
+pub mod ToldBack
 pub mod Stamps

@@ -1,13 +1,13 @@
 -- Replies are read back from their bytes.
-use Rattle.std.proofs.Common.{◌≡◌, ℕ, ◌+◌, ◌%◌, ◌^◌, ◌<◌, Bool, true, false, List, [], ◌∷◌, ◌++◌, length, refl, sym, ap, ◌∙◌, arith, cond, eqb, ltb, Some}
-use Rattle.std.specs.Fmt.{digits}
+use Rattle.std.proofs.Common.{◌≡◌, ℕ, zero, suc, ◌+◌, ◌%◌, ◌/◌, ◌^◌, ◌<◌, Bool, true, false, List, [], ◌∷◌, ◌++◌, length, refl, sym, ap, ◌∙◌, arith, cond, eqb, ltb, Some}
+use Rattle.std.specs.Fmt.{digit_glyph, digits_onto, digits}
 use Rattle.std.specs.Prelude.{codes, decimal, map, flat_map, not, slice_index_or}
 use Rattle.std.specs.List.{list_all}
 use Rattle.std.specs.Char.{is_ascii_digit}
 use Rattle.std.specs.Str.{bytes_eq}
 use Rattle.std.proofs.lemmas.Bool.{false≢true, ltb-true}
 use Rattle.std.proofs.lemmas.Bool.Decides.{nat_tests}
-use Rattle.std.proofs.lemmas.Fmt.{decimal_injective, decimal_by_steps}
+use Rattle.std.proofs.lemmas.Fmt.{decimal_injective}
 use Rattle.std.proofs.lemmas.List.{append_assoc, append_cancel_left, length-map}
 use Rattle.std.proofs.lemmas.List.Folds.{list_all-append}
 use Rattle.ifdb_wire.specs.declared.fault.Fault.{Fault}
@@ -23,27 +23,34 @@ use Rattle.ifdb_laws.specs.Bytes.{is_line, row_count, is_readable, Shown, shown,
 
 -- ---- digits
 
-abbrev are_digits : List ℕ → Bool
+abbrev pub are_digits : List ℕ → Bool
 are_digits text = list_all is_ascii_digit text
 
-last_digit : (d : ℕ) → d < 10 → are_digits ((48 + d) ∷ []) ≡ true
-last_digit d lt = grind (arith, nat_tests)
+-- a number of any size is written in digits
+pick_digits : (b : Bool) (xs ys : List ℕ) → are_digits xs ≡ true → are_digits ys ≡ true → are_digits (cond b xs ys) ≡ true
+pick_digits true xs ys h k = h
+pick_digits false xs ys h k = k
 
-mod_lt : (n : ℕ) → n % 10 < 10
-mod_lt n = grind (arith, nat_tests)
+-- the digit of a number below 10
+glyph : (n : ℕ) (acc : List ℕ) → are_digits acc ≡ true → are_digits (digit_glyph false (n % 10) ∷ acc) ≡ true
+glyph n acc h = grind (arith, nat_tests)
 
-digits_push : (ds : List ℕ) (n : ℕ) → are_digits ds ≡ true → are_digits (ds ++ (48 + n % 10) ∷ []) ≡ true
-digits_push ds n h = let one = last_digit (n % 10) (mod_lt n) in grind (arith, nat_tests, list_all-append is_ascii_digit ds ((48 + n % 10) ∷ []))
+onto_digits : (k n : ℕ) (acc : List ℕ) → are_digits acc ≡ true → are_digits (digits_onto k 10 false n acc) ≡ true
+onto_digits zero n acc h = h
+onto_digits (suc k) n acc h =
+    let more = digit_glyph false (n % 10) ∷ acc in
+    pick_digits (eqb (n / 10) 0) more (digits_onto k 10 false (n / 10) more) (glyph n acc h) (onto_digits k (n / 10) more (glyph n acc h))
 
-decimal_digits : (n : ℕ) → n < 2 ^ 64 → are_digits (decimal n) ≡ true
-decimal_digits n lt = decimal_by_steps (λ n ds. are_digits ds ≡ true) (λ n lt. last_digit n lt) (λ n ds le h. digits_push ds n h) n lt
+pub decimal_digits : (n : ℕ) → are_digits (decimal n) ≡ true
+unfolding digits
+decimal_digits n = onto_digits 64 n [] refl
 
 digits_line : (ds : List ℕ) → are_digits ds ≡ true → is_line ds ≡ true
 digits_line [] h = refl
 digits_line (d ∷ ds) h = grind (arith, nat_tests, digits_line ds)
 
 -- two texts that begin with digits and a space
-abbrev Split : List ℕ → List ℕ → List ℕ → List ℕ → Type 0
+abbrev pub Split : List ℕ → List ℕ → List ℕ → List ℕ → Type 0
 Split ds es x y = (ds ≡ es) × (x ≡ y)
 
 first_of : List ℕ → ℕ
@@ -56,7 +63,7 @@ rest_of (x ∷ xs) = xs
 no_digit : (d : ℕ) → is_ascii_digit d ≡ true → 32 ≡ d → ⊥
 no_digit d h e = grind (arith, nat_tests)
 
-split_space : (ds es x y : List ℕ) → are_digits ds ≡ true → are_digits es ≡ true → ds ++ 32 ∷ x ≡ es ++ 32 ∷ y → Split ds es x y
+pub split_space : (ds es x y : List ℕ) → are_digits ds ≡ true → are_digits es ≡ true → ds ++ 32 ∷ x ≡ es ++ 32 ∷ y → Split ds es x y
 unfolding first_of rest_of
 split_space [] [] x y h k e = (refl, ap rest_of e)
 split_space [] (b ∷ es) x y h k e = absurd (no_digit b (grind (arith, nat_tests)) (ap first_of e))
@@ -76,28 +83,28 @@ lines_line (b ∷ l) more h =
     (λ i. cond (no i) ([] ∷ lines_of (l ++ 10 ∷ more)) (on_first b (ih i)))
 
 -- a line with its session's number
-abbrev full : ℕ → List ℕ → List ℕ
+abbrev pub full : ℕ → List ℕ → List ℕ
 full n l = decimal n ++ 32 ∷ l
 
-full_is : (n : ℕ) (l more : List ℕ) → line (Some n) l ++ more ≡ full n l ++ 10 ∷ more
+pub full_is : (n : ℕ) (l more : List ℕ) → line (Some n) l ++ more ≡ full n l ++ 10 ∷ more
 full_is n l more =
     append_assoc (decimal n ++ 32 ∷ []) (l ++ 10 ∷ []) more
     ∙ ap (λ x. (decimal n ++ 32 ∷ []) ++ x) (append_assoc l (10 ∷ []) more)
     ∙ append_assoc (decimal n) (32 ∷ []) (l ++ 10 ∷ more)
     ∙ sym (append_assoc (decimal n) (32 ∷ l) (10 ∷ more))
 
-full_line : (n : ℕ) (l : List ℕ) → n < 2 ^ 64 → is_line l ≡ true → is_line (full n l) ≡ true
-full_line n l lt h =
-    let one = digits_line (decimal n) (decimal_digits n lt) in
+full_line : (n : ℕ) (l : List ℕ) → is_line l ≡ true → is_line (full n l) ≡ true
+full_line n l h =
+    let one = digits_line (decimal n) (decimal_digits n) in
     grind (arith, nat_tests, list_all-append (λ b. not (eqb b 10)) (decimal n) (32 ∷ l))
 
-lines_reply : (n : ℕ) (ls : List (List ℕ)) (more : List ℕ) → n < 2 ^ 64 → list_all is_line ls ≡ true → lines_of (flat_map (line (Some n)) ls ++ more) ≡ map (full n) ls ++ lines_of more
-lines_reply n [] more lt h = refl
-lines_reply n (l ∷ ls) more lt h =
+lines_reply : (n : ℕ) (ls : List (List ℕ)) (more : List ℕ) → list_all is_line ls ≡ true → lines_of (flat_map (line (Some n)) ls ++ more) ≡ map (full n) ls ++ lines_of more
+lines_reply n [] more h = refl
+lines_reply n (l ∷ ls) more h =
     let parts : (is_line l ≡ true) × (list_all is_line ls ≡ true) = grind (arith, nat_tests) in
     ap lines_of (append_assoc (line (Some n) l) (flat_map (line (Some n)) ls) more ∙ full_is n l (flat_map (line (Some n)) ls ++ more))
-    ∙ lines_line (full n l) (flat_map (line (Some n)) ls ++ more) (full_line n l lt parts.0)
-    ∙ ap (λ x. full n l ∷ x) (lines_reply n ls more lt parts.1)
+    ∙ lines_line (full n l) (flat_map (line (Some n)) ls ++ more) (full_line n l parts.0)
+    ∙ ap (λ x. full n l ∷ x) (lines_reply n ls more parts.1)
 
 abbrev lines_told : Told → List (List ℕ)
 lines_told t = map (full t.number) (reply_lines t.reply)
@@ -105,12 +112,12 @@ lines_told t = map (full t.number) (reply_lines t.reply)
 lines_texts : (xs : List Told) → list_all is_readable xs ≡ true → lines_of (texts xs) ≡ flat_map lines_told xs
 lines_texts [] h = refl
 lines_texts (t ∷ xs) h =
-    let parts : (ltb t.number (2 ^ 64) ≡ true) × (list_all is_line (reply_lines t.reply) ≡ true) × (list_all is_readable xs ≡ true) = grind (arith, nat_tests) in
-    lines_reply t.number (reply_lines t.reply) (texts xs) (ltb-true t.number (2 ^ 64) parts.0) parts.1 ∙ ap (λ x. lines_told t ++ x) (lines_texts xs parts.2)
+    let parts : (list_all is_line (reply_lines t.reply) ≡ true) × (list_all is_readable xs ≡ true) = grind (arith, nat_tests) in
+    lines_reply t.number (reply_lines t.reply) (texts xs) parts.0 ∙ ap (λ x. lines_told t ++ x) (lines_texts xs parts.1)
 
 -- ---- the first line of a reply says how many follow
 
-first_line : Reply → List ℕ
+unfoldable pub first_line : Reply → List ℕ
 first_line reply.Done = codes "OK"
 first_line (reply.Count n) = codes "OK " ++ decimal n
 first_line reply.Opened = codes "OPEN"
@@ -118,11 +125,11 @@ first_line (reply.Label names) = codes "LABEL (" ++ (names ++ codes ")")
 first_line (reply.Rows table) = rows_head table
 first_line (reply.Refused f) = fault_text f
 
-more_lines : Reply → List (List ℕ)
+pub more_lines : Reply → List (List ℕ)
 more_lines (reply.Rows table) = map row_text table.rows
 more_lines _ = []
 
-lines_are : (r : Reply) → reply_lines r ≡ first_line r ∷ more_lines r
+pub lines_are : (r : Reply) → reply_lines r ≡ first_line r ∷ more_lines r
 unfolding first_line more_lines
 lines_are reply.Done = refl
 lines_are (reply.Count n) = refl
@@ -217,7 +224,7 @@ same_count r q lr lq e = by (is_rows r) refl where
       let a = rows_first r h in
       let b = rows_first q (sym same ∙ h) in
       let inner = append_cancel_left (codes "ROWS ") (decimal (row_count r) ++ 32 ∷ decimal a.0) (decimal (row_count q) ++ 32 ∷ decimal b.0) (sym a.1 ∙ e ∙ b.1) in
-      let parts = split_space (decimal (row_count r)) (decimal (row_count q)) (decimal a.0) (decimal b.0) (decimal_digits (row_count r) lr) (decimal_digits (row_count q) lq) inner in
+      let parts = split_space (decimal (row_count r)) (decimal (row_count q)) (decimal a.0) (decimal b.0) (decimal_digits (row_count r)) (decimal_digits (row_count q)) inner in
       decimal_injective (row_count r) (row_count q) lr lq parts.0
 
 -- ---- one reply, and the others
@@ -272,7 +279,7 @@ same_first t u xs ys h k e =
     let whole : map (full t.number) (first_line t.reply ∷ more_lines t.reply) ++ xs ≡ map (full u.number) (first_line u.reply ∷ more_lines u.reply) ++ ys =
     ap (λ l. map (full t.number) l ++ xs) (sym tl) ∙ e ∙ ap (λ l. map (full u.number) l ++ ys) ul in
     let heads : full t.number (first_line t.reply) ≡ full u.number (first_line u.reply) = ap head_of whole in
-    let parts = split_space (decimal t.number) (decimal u.number) (first_line t.reply) (first_line u.reply) (decimal_digits t.number tn) (decimal_digits u.number un) heads in
+    let parts = split_space (decimal t.number) (decimal u.number) (first_line t.reply) (first_line u.reply) (decimal_digits t.number) (decimal_digits u.number) heads in
     let number = decimal_injective t.number u.number tn un parts.0 in
     let count = same_count t.reply u.reply (ltb-true (row_count t.reply) (2 ^ 64) a.1) (ltb-true (row_count u.reply) (2 ^ 64) b.1) parts.1 in
     let lengths : length (map (full t.number) (more_lines t.reply)) ≡ length (map (full u.number) (more_lines u.reply)) =

@@ -4,8 +4,9 @@ use Rattle.std.specs.List.{list_all}
 use Rattle.ifdb_wire.specs.declared.reply.Reply.{Reply}
 use Rattle.ifdb_wire.specs.declared.reply.Reply.TheVariants as reply
 use Rattle.ifdb_wire.specs.Text.{reply_lines}
+use Rattle.ifdb_model.specs.Step.{Reader}
 use Rattle.ifdb_model.specs.Run.{Told}
-use Rattle.ifdb_model.specs.Output.{refusals, texts}
+use Rattle.ifdb_model.specs.Output.{refusals, texts, told_of, output}
 
 -- there is no newline in it, which is 10
 abbrev pub is_line : List ℕ → Bool
@@ -36,3 +37,8 @@ RepliesReadBack = (xs ys : List Told) → list_all is_readable xs ≡ true → l
 -- and say alike at which steps memory was refused
 abbrev pub RefusalsReadBack : Type 0
 RefusalsReadBack = (xs ys : List Told) → list_all is_readable xs ≡ true → list_all is_readable ys ≡ true → texts xs ≡ texts ys → refusals xs ≡ refusals ys
+
+-- One script's runs that write equal bytes are told the same, whatever steps were refused: so the bytes alone say which were.
+abbrev pub BytesTellWhatIsTold : Type 0
+BytesTellWhatIsTold = (read : Reader) (input : List ℕ) (flags others : List Bool)
+    → output read input flags ≡ output read input others → told_of read input flags ≡ told_of read input others

@@ -11,7 +11,7 @@ mod row_laws;
 mod worked;
 pub mod worlds;
 
-pub use byte_laws::replies_read_back;
+pub use byte_laws::{bytes_tell_what_is_told, replies_read_back};
 pub use line_laws::{
     bye_alone_closes, commits_are_judged, memory_is_never_told, refusals_change_nothing,
     transactions_are_frozen,

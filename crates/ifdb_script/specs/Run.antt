@@ -1,10 +1,10 @@
 -- What a run of a script did: what it read, what it was told, and what it wrote of that.
-use Rattle.std.specs.Prelude.{◌≡◌, ◌⊎◌, ℕ, ◌==◌, ◌<◌, ◌≤◌, true, List, [], ◌∷◌, ◌++◌, length, take, Option, if◌then◌else◌}
+use Rattle.std.specs.Prelude.{◌≡◌, ◌⊎◌, ℕ, ◌==◌, ◌<◌, ◌≤◌, Bool, true, List, [], ◌∷◌, ◌++◌, length, take, Option, if◌then◌else◌}
 use Rattle.std.specs.Io.KnownBytes.{Appends, Consumes, IsAtEnd}
 use Rattle.ifdb_io.specs.declared.lines.TheConstants.{LONGEST_LINE}
 use Rattle.ifdb_io.specs.Lines.{IsLine}
 use Rattle.ifdb_model.specs.Run.{Told}
-use Rattle.ifdb_model.specs.Output.{texts, text_of, told_of, refusals}
+use Rattle.ifdb_model.specs.Output.{output, texts, text_of, told_of, refusals}
 use Rattle.ifdb_laws.specs.Scripts.{none_reads_memory, IsHeardAlike}
 use Rattle.ifdb_db.specs.Reading.{read_line}
 
@@ -82,6 +82,13 @@ pub record RanCut (limit : ℕ) (left_old left_new written_old written_new : Opt
 abbrev pub CutsDontMatter : Type 0
 CutsDontMatter = (limit limit' : ℕ) (l0 l1 w0 w1 l0' l1' w0' w1' : Option (List ℕ)) (first : RanWhole limit l0 l1 w0 w1) (second : RanWhole limit' l0' l1' w0' w1')
     → first.input ≡ second.input → refusals first.told ≡ refusals second.told → texts first.told ≡ texts second.told
+
+-- The input was run whole, and the bytes alone say what was told: where other steps are refused and yet the same bytes written,
+-- the same is told. So the list of the replies that read error 20 is a function of what was read and written.
+abbrev pub IsToldByBytes : ℕ → Option (List ℕ) → Option (List ℕ) → Option (List ℕ) → Option (List ℕ) → Type 0
+IsToldByBytes limit left_old left_new written_old written_new =
+    (ran : RanWhole limit left_old left_new written_old written_new)
+    × ((flags : List Bool) → output read_line ran.input flags ≡ texts ran.told → told_of read_line ran.input flags ≡ ran.told)
 
 -- Two worlds: the input was run whole, and what was told is what was written. Where none of it reads error 20, each other
 -- script that agrees with this one below a level, neither with a step that crosses it, gives those inside it the bytes that

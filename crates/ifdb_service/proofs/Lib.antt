@@ -1,6 +1,5 @@
 mod Links
 mod Crew
 mod AtSite
-mod Written
 mod Rooms
 mod Hosts

@@ -212,14 +212,6 @@ lacks_by limit level l0 l2 w0 w1 input done more read within wrote same = record
   wrote = subst (Appends w0 w1) (sym (ap (take (length done)) (sym same) ∙ take-append_seam done more)) wrote;
 }
 
--- of two pieces, the second was cut
-pub short_behind : (w0 w1 w2 : Option (List ℕ)) (first last : List ℕ) → Appends w0 w1 first → WritesShort w1 w2 last → WritesShort w0 w2 (first ++ last)
-short_behind w0 w1 w2 first last wrote cut = record {
-  n = length first + cut.n;
-  short = omega (arith, cut.short, length-append first last);
-  written = subst (Appends w0 w2) (sym (take-append-add first last cut.n)) (Appends-trans _ _ _ _ _ wrote cut.written);
-}
-
 pub on_err : {T E : Type 0} {P Q : Type 0} (r : Result T E) → (P → Q) → OnErr r P → OnErr r Q
 on_err (Ok x) f p = tt
 on_err (Err e) f p = f p

@@ -1,6 +1,6 @@
 use Rattle.std.proofs.Common.{rules, ◌++◌, codes, decimal}
 use Rattle.std.proofs.lemmas.Result.{on_err_weaker}
-use Rattle.ifdb_service.proofs.Written.{short_first, short_then}
+use Rattle.ifdb_io.proofs.Behind.{short_first, short_then}
 use Rattle.ifdb_service.proofs.numbered_line.write_numbered.Goals as goal
 
 pub returns-in_err-write_all-2-clause-err : goal.returns-in_err-write_all-2-clause-err

@@ -4,7 +4,7 @@ use Rattle.std.specs.Io.KnownBytes.{Appends}
 use Rattle.ifdb_service.specs.Site.{Exchanges}
 use Rattle.ifdb_service.specs.Summary.{listening_line, summary_text}
 use Rattle.ifdb_service.proofs.AtSite.{exchanged, is_served}
-use Rattle.ifdb_service.proofs.Written.{all_then, short_then}
+use Rattle.ifdb_io.proofs.Behind.{all_then, short_then}
 use Rattle.ifdb_service.proofs.service.serve.Goals as goal
 
 pub returns-in-Err-clause-cut : goal.returns-in-Err-clause-cut

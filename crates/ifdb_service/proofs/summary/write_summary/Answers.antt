@@ -1,7 +1,7 @@
 use Rattle.std.proofs.Common.{rules, ◌++◌, codes}
 use Rattle.std.proofs.lemmas.Result.{on_err_weaker}
 use Rattle.ifdb_service.specs.Summary.{numbered_line}
-use Rattle.ifdb_service.proofs.Written.{short_first, short_then}
+use Rattle.ifdb_io.proofs.Behind.{short_first, short_then}
 use Rattle.ifdb_service.proofs.summary.write_summary.Goals as goal
 
 pub returns-in_err-write_numbered-clause-err : goal.returns-in_err-write_numbered-clause-err

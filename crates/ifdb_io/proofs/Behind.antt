@@ -1,10 +1,10 @@
 -- Texts that are written one behind the other.
-use Rattle.std.proofs.Common.{◌≡◌, ℕ, ◌+◌, ◌<◌, ◌≤◌, List, ◌++◌, length, take, sym, subst, arith, Option}
+use Rattle.std.proofs.Common.{◌≡◌, ℕ, ◌+◌, ◌<◌, List, ◌++◌, length, take, sym, subst, arith, Option}
 use Rattle.std.proofs.lemmas.List.{length-append, take-append-le}
 use Rattle.std.proofs.Math.Seq.{take-append-add}
 use Rattle.std.specs.Io.KnownBytes.{Appends}
 use Rattle.std.proofs.KnownBytes.{Appends-trans}
-use Rattle.ifdb_io.specs.Causes.{Rose, WritesShort}
+use Rattle.ifdb_io.specs.Causes.{WritesShort}
 
 take_front : (xs ys : List ℕ) (k : ℕ) → k < length xs → take k xs ≡ take k (xs ++ ys)
 take_front xs ys k few = sym (take-append-le k xs ys (omega (arith, few)))
@@ -28,11 +28,3 @@ short_then a b c text rest first then = record {
 -- both were written
 pub all_then : (a b c : Option (List ℕ)) (text rest : List ℕ) → Appends a b text → Appends b c rest → Appends a c (text ++ rest)
 all_then a b c text rest first then = Appends-trans a b c text rest first then
-
--- a count that rose in the second of two calls
-pub rose_then : (a b c : ℕ) → a ≤ b → Rose b c → Rose a c
-rose_then a b c le rose = omega (arith, le, rose)
-
--- a count that rose in the first
-pub rose_first : (a b c : ℕ) → Rose a b → b ≤ c → Rose a c
-rose_first a b c rose le = omega (arith, rose, le)
