@@ -1,283 +1,192 @@
 #!/usr/bin/env python3
-"""Statements a second over loopback, by 1, 4 and 16 clients, each a process with a raw socket.
+"""Statements a second over loopback, and what they cost a server's processors, by clients in C.
 
-    bench/served.py HOST PORT [--key KEY] [--seconds S] [--clients 1,4,16] [--rows N]
+    bench/served.py [--program PATH] [--clients 1,4,16,32] [--seconds S] [--runs R] [--rows N]
                     [--postgres PORT] [--user USER] [--database DATABASE]
 
-HOST and PORT are those of a running ifdb that serves at least as many links at once as there are clients. Each client does, for
-some seconds, a SELECT of a row by its key and then BEGIN, an UPDATE of such a row, and COMMIT: four statements, the keys at
-random. The rows have a label of one tag, which each client raises its own to. Refusals are counted apart: Conflict, and any other.
+Serves by PATH, which is the built program of this clone if none is said, and loads it by bench/load.c: each client is a thread
+with a raw socket that does, for some seconds, a SELECT of a row by its key and then BEGIN, an UPDATE of such a row, and COMMIT:
+four statements, the keys at random. The rows have a label of one tag, which each client raises its own to. Of R runs the one in
+the middle is told: statements a second, microseconds of the server's processors for each, and refusals, Conflict and any other.
 
-Beside it the same lines go to an echo server in C with a thread for each connection, as the limit of these clients and this
-machine (where gcc is there), and with --postgres to a running PostgreSQL at that port of 127.0.0.1, with `trust` for USER, a
+Beside it the same load goes to bench/echo.c, a server that sends each line back, as the limit of these clients and this machine;
+and with --postgres to a running PostgreSQL at that port of 127.0.0.1 by pgbench with prepared statements, with `trust` for USER, a
 superuser: a role without rights of its own, row-level security by a tag that the session sets, REPEATABLE READ, which is its
-snapshot isolation, and no wait for the disk at COMMIT (synchronous_commit = off), since ifdb keeps no file.
+snapshot isolation, and no wait for the disk at COMMIT (synchronous_commit = off), since the served ifdb keeps no file.
 """
 import argparse
-import multiprocessing
+import contextlib
+import os
 import pathlib
-import random
+import re
 import socket
-import struct
 import subprocess
+import sys
 import tempfile
-import time
+import typing
 
-ECHO = r"""
-#include <arpa/inet.h>
-#include <netinet/tcp.h>
-#include <pthread.h>
-#include <stdio.h>
-#include <sys/socket.h>
-#include <unistd.h>
+HERE = pathlib.Path(__file__).resolve().parent
+TAG, TABLE, ROLE = "served_bench_tag", "served_bench", "served_bench_role"
+TICKS = os.sysconf("SC_CLK_TCK")
 
-static void *echo(void *link) {
-  int fd = (int)(long)link, one = 1;
-  char bytes[65536];
-  ssize_t count;
-  setsockopt(fd, IPPROTO_TCP, TCP_NODELAY, &one, sizeof one);
-  while ((count = recv(fd, bytes, sizeof bytes, 0)) > 0)
-    if (send(fd, bytes, count, MSG_NOSIGNAL) != count) break;
-  close(fd);
-  return 0;
-}
-
-int main(void) {
-  struct sockaddr_in at = {.sin_family = AF_INET, .sin_addr.s_addr = htonl(INADDR_LOOPBACK)};
-  socklen_t size = sizeof at;
-  int listener = socket(AF_INET, SOCK_STREAM, 0);
-  if (bind(listener, (struct sockaddr *)&at, size) || listen(listener, 128)) return 1;
-  getsockname(listener, (struct sockaddr *)&at, &size);
-  printf("%d\n", ntohs(at.sin_port));
-  fflush(stdout);
-  for (;;) {
-    pthread_t thread;
-    int fd = accept(listener, 0, 0);
-    if (fd >= 0 && !pthread_create(&thread, 0, echo, (void *)(long)fd)) pthread_detach(thread);
-  }
-}
+PGBENCH = f"""\\set id random(0, :rows - 1)
+\\set other random(0, :rows - 1)
+\\set v random(0, 999)
+SELECT v FROM {TABLE} WHERE id = :id;
+BEGIN ISOLATION LEVEL REPEATABLE READ;
+UPDATE {TABLE} SET v = :v WHERE id = :other;
+COMMIT;
 """
 
-TAG = "served_bench_tag"
-TABLE = "served_bench"
-BEGIN = "BEGIN"
+
+class Run(typing.NamedTuple):
+    """What a load came to."""
+
+    rate: float
+    statements: int
+    conflicts: int
+    others: int
 
 
-class Link:
-    """A raw socket. `ask` sends a statement, reads the whole answer, and gives the name of a refusal, or None."""
-
-    def __init__(self, host, port):
-        self.socket = socket.create_connection((host, port))
-        self.socket.setsockopt(socket.IPPROTO_TCP, socket.TCP_NODELAY, 1)
-        self.answers = self.socket.makefile("rb")
-
-    def asked(self, statements):
-        """Asks each of these, and says what was refused."""
-        return [refusal for refusal in map(self.ask, statements) if refusal]
+def compiled(folder: pathlib.Path, name: str) -> pathlib.Path:
+    subprocess.run(["gcc", "-O2", "-pthread", "-o", folder / name, HERE / f"{name}.c"], check=True)
+    return folder / name
 
 
-class Ifdb(Link):
-    begin = BEGIN
-
-    def __init__(self, host, port, key):
-        super().__init__(host, port)
-        refused = self.asked([f"HELLO admin KEY '{key}'"])
-        if refused:
-            raise SystemExit(f"ifdb refuses HELLO: {refused[0]}")
-
-    def begin_work(self):
-        self.asked([f"SET LABEL ({TAG})"])
-
-    def make(self, rows):
-        self.asked([f"CREATE TABLE {TABLE} (id INT, v INT, PRIMARY KEY (id))", f"CREATE TAG {TAG}"])
-        self.begin_work()
-        for low in range(0, rows, 200):
-            values = ", ".join(f"({key}, 0)" for key in range(low, min(low + 200, rows)))
-            self.asked([f"INSERT INTO {TABLE} VALUES {values}"])
-
-    def ask(self, statement):
-        self.socket.sendall(statement.encode() + b"\n")
-        words = self.line().split()
-        if words[0] == b"ERR":
-            return words[2].decode()
-        if words[0] == b"ROWS":
-            for _ in range(int(words[1])):
-                self.line()
-        return None
-
-    def line(self):
-        line = self.answers.readline()
-        if not line:
-            raise ConnectionError("the server ended a connection")
-        return line
+def seconds_of(pids: typing.Iterable[int]) -> float:
+    """The processor time of these processes so far, and of their children that have ended."""
+    total = 0
+    for pid in pids:
+        with contextlib.suppress(OSError):
+            fields = pathlib.Path(f"/proc/{pid}/stat").read_text().rpartition(")")[2].split()
+            total += sum(map(int, fields[11:15]))
+    return total / TICKS
 
 
-class Echo(Link):
-    begin = BEGIN
-
-    def begin_work(self):
-        pass
-
-    def ask(self, statement):
-        self.socket.sendall(statement.encode() + b"\n")
-        self.answers.readline()
-
-
-class Postgres(Link):
-    """PostgreSQL's simple query protocol, version 3, without a password."""
-
-    begin = "BEGIN ISOLATION LEVEL REPEATABLE READ"
-
-    def __init__(self, port, user, database):
-        super().__init__("127.0.0.1", port)
-        settings = b"".join(it.encode() + b"\0" for it in ("user", user, "database", database)) + b"\0"
-        self.socket.sendall(struct.pack("!ii", 8 + len(settings), 196608) + settings)
-        refused = self.answer()
-        if refused:
-            raise SystemExit(f"PostgreSQL refuses {user}: {refused}")
-
-    def begin_work(self):
-        self.asked([f"SET served.tags = '{TAG}'", "SET synchronous_commit = off"])
-
-    def make(self, rows, role):
-        self.asked([f"DROP TABLE IF EXISTS {TABLE}", f"CREATE ROLE {role} LOGIN"])
-        refused = self.asked([
-            f"CREATE TABLE {TABLE} (id INT PRIMARY KEY, v INT, tags TEXT[])",
-            f"INSERT INTO {TABLE} SELECT id, 0, ARRAY['{TAG}'] FROM generate_series(0, {rows} - 1) AS id",
-            f"ALTER TABLE {TABLE} ENABLE ROW LEVEL SECURITY",
-            f"CREATE POLICY flows ON {TABLE} USING (tags <@ string_to_array(current_setting('served.tags', true), ','))",
-            f"GRANT SELECT, INSERT, UPDATE, DELETE ON {TABLE} TO {role}",
-            f"ANALYZE {TABLE}",
-        ])
-        if refused:
-            raise SystemExit(f"PostgreSQL refuses to make the table: {refused[0]}")
-
-    def ask(self, statement):
-        text = statement.encode() + b"\0"
-        self.socket.sendall(b"Q" + struct.pack("!i", 4 + len(text)) + text)
-        return self.answer()
-
-    def answer(self):
-        refusal = None
-        while True:
-            head = self.answers.read(5)
-            if len(head) < 5:
-                raise ConnectionError("PostgreSQL ended a connection")
-            body = self.answers.read(struct.unpack("!i", head[1:])[0] - 4)
-            kind = head[:1]
-            if kind == b"E":
-                code = next(field[1:] for field in body.split(b"\0") if field[:1] == b"C")
-                refusal = "Conflict" if code in (b"40001", b"40P01") else code.decode()
-            elif kind == b"R" and struct.unpack("!i", body[:4])[0] != 0:
-                raise SystemExit("PostgreSQL asks for a password: let the user in by `trust`")
-            elif kind == b"Z":
-                return refusal
-            if kind == b"E" and body.startswith(b"SFATAL"):
-                return refusal
-
-
-def work(connect, rows, seconds, start, results):
-    """A client: four statements at a time until the time is over. Gives its counts: statements, conflicts, other refusals."""
-    counts = {"statements": 0, "Conflict": 0, "other": 0, "names": set()}
-    try:
-        link = connect()
-        link.begin_work()
-    except (OSError, SystemExit) as fault:
-        start.abort()
-        results.put(str(fault))
-        return
-
-    def ask(statement):
-        refusal = link.ask(statement)
-        counts["statements"] += 1
-        if refusal == "Conflict":
-            counts["Conflict"] += 1
-        elif refusal:
-            counts["other"] += 1
-            counts["names"].add(refusal)
-        return refusal
-
-    chosen = random.Random(id(link)).randrange
-    try:
-        start.wait(30)
-        begun = time.monotonic()
-        while time.monotonic() - begun < seconds:
-            ask(f"SELECT v FROM {TABLE} WHERE id = {chosen(rows)}")
-            if not ask(link.begin):
-                refused = ask(f"UPDATE {TABLE} SET v = {chosen(1000)} WHERE id = {chosen(rows)}")
-                ask("ROLLBACK" if refused else "COMMIT")
-        counts["took"] = time.monotonic() - begun
-        results.put(counts)
-    except (OSError, multiprocessing.context.TimeoutError, RuntimeError) as fault:
-        results.put(f"{type(fault).__name__} {fault}")
-
-
-def measure(name, connect, options):
+def told(name: str, options: argparse.Namespace, load: typing.Callable[[int], Run], pids: typing.Callable[[], list[int]]) -> None:
     for clients in options.clients:
-        start, results = multiprocessing.Barrier(clients), multiprocessing.Queue()
-        arguments = (connect, options.rows, options.seconds, start, results)
-        processes = [multiprocessing.Process(target=work, args=arguments) for _ in range(clients)]
-        for process in processes:
-            process.start()
-        all_counts = [results.get() for _ in processes]
-        for process in processes:
-            process.join()
-        faults = [it for it in all_counts if isinstance(it, str)]
-        if faults:
-            print(f"{name:10} {clients:7}   {faults[0]}", flush=True)
-            continue
-        rate = sum(it["statements"] / it["took"] for it in all_counts)
-        conflicts, others = (sum(it[kind] for it in all_counts) for kind in ("Conflict", "other"))
-        names = sorted(set().union(*(it["names"] for it in all_counts)))
-        print(f"{name:10} {clients:7} {rate:13,.0f} {conflicts:10,} {others:7,} {' '.join(names)}", flush=True)
+        runs = []
+        for _ in range(options.runs):
+            before = seconds_of(pids())
+            run = load(clients)
+            runs.append((run, (seconds_of(pids()) - before) / max(run.statements, 1) * 1e6))
+        run, cost = sorted(runs)[len(runs) // 2]
+        print(f"{name:10} {clients:7} {run.rate:13,.0f} {cost:10.1f} {run.conflicts:10,} {run.others:7,}", flush=True)
 
 
-def echo(options):
-    with tempfile.TemporaryDirectory() as folder:
-        source, program = pathlib.Path(folder, "echo.c"), pathlib.Path(folder, "echo")
-        source.write_text(ECHO)
+def line_load(program: pathlib.Path, port: int, options: argparse.Namespace) -> typing.Callable[[int], Run]:
+    def load(clients: int) -> Run:
+        words = [program, port, clients, options.seconds, options.rows, TABLE, TAG, "admin"]
+        said = subprocess.run([str(word) for word in words], check=True, capture_output=True, text=True).stdout.split()
+        return Run(float(said[0]), *map(int, said[1:]))
+
+    return load
+
+
+def make_rows(port: int, rows: int) -> None:
+    """Makes the table of an ifdb at this port."""
+    with socket.create_connection(("127.0.0.1", port)) as link, link.makefile("rwb") as lines:
+
+        def ask(statement: str) -> None:
+            lines.write(statement.encode() + b"\n")
+            lines.flush()
+            answer = lines.readline()
+            if not answer.startswith(b"OK"):
+                raise SystemExit(f"ifdb answers {statement[:60]!r} by {answer!r}")
+
+        ask("HELLO admin KEY 'admin'")
+        ask(f"CREATE TABLE {TABLE} (id INT, v INT, PRIMARY KEY (id))")
+        ask(f"CREATE TAG {TAG}")
+        ask(f"SET LABEL ({TAG})")
+        for low in range(0, rows, 200):
+            ask(f"INSERT INTO {TABLE} VALUES " + ", ".join(f"({key}, 0)" for key in range(low, min(low + 200, rows))))
+
+
+def free_port() -> int:
+    with socket.create_server(("127.0.0.1", 0)) as door:
+        return door.getsockname()[1]
+
+
+def measure_ifdb(load: pathlib.Path, options: argparse.Namespace) -> None:
+    port, workers = free_port(), max(options.clients) + 8
+    words = [options.program, "serve", "--port", str(port), "--workers", str(workers)]
+    with subprocess.Popen(words, stdout=subprocess.PIPE) as server:
         try:
-            subprocess.run(["gcc", "-O2", "-pthread", "-o", program, source], check=True)
-        except (OSError, subprocess.CalledProcessError) as fault:
-            print(f"echo       left out: {fault}")
-            return
-        server = subprocess.Popen([program], stdout=subprocess.PIPE)
-        try:
-            port = int(server.stdout.readline())
-            measure("echo in C", lambda: Echo("127.0.0.1", port), options)
+            if not server.stdout.readline().startswith(b"LISTENING"):
+                raise SystemExit(f"{options.program} doesn't serve")
+            make_rows(port, options.rows)
+            told("ifdb", options, line_load(load, port, options), lambda: [server.pid])
         finally:
             server.kill()
-            server.wait()
 
 
-def main():
+def measure_echo(load: pathlib.Path, echo: pathlib.Path, options: argparse.Namespace) -> None:
+    with subprocess.Popen([echo], stdout=subprocess.PIPE) as server:
+        try:
+            told("echo in C", options, line_load(load, int(server.stdout.readline()), options), lambda: [server.pid])
+        finally:
+            server.kill()
+
+
+def postgres_pids() -> list[int]:
+    said = subprocess.run(["pgrep", "-x", "postgres"], capture_output=True, text=True).stdout
+    return [int(pid) for pid in said.split()]
+
+
+def measure_postgres(folder: pathlib.Path, options: argparse.Namespace) -> None:
+    def psql(*statements: str) -> None:
+        words = ["psql", "-q", "-v", "ON_ERROR_STOP=1", "-h", "127.0.0.1", "-p", str(options.postgres), "-U", options.user]
+        for statement in statements:
+            words += ["-c", statement]
+        subprocess.run([*words, options.database], check=True, stderr=subprocess.DEVNULL)
+
+    with contextlib.suppress(subprocess.CalledProcessError):
+        psql(f"CREATE ROLE {ROLE} LOGIN")
+    psql(
+        f"DROP TABLE IF EXISTS {TABLE}",
+        f"CREATE TABLE {TABLE} (id INT PRIMARY KEY, v INT, tags TEXT[])",
+        f"INSERT INTO {TABLE} SELECT id, 0, ARRAY['{TAG}'] FROM generate_series(0, {options.rows} - 1) AS id",
+        f"ALTER TABLE {TABLE} ENABLE ROW LEVEL SECURITY",
+        f"CREATE POLICY flows ON {TABLE} USING (tags <@ string_to_array(current_setting('served.tags', true), ','))",
+        f"GRANT SELECT, INSERT, UPDATE, DELETE ON {TABLE} TO {ROLE}",
+        f"ANALYZE {TABLE}",
+    )
+    script = folder / "load.sql"
+    script.write_text(PGBENCH)
+
+    def load(clients: int) -> Run:
+        words = ["pgbench", "-n", "-M", "prepared", "-h", "127.0.0.1", "-p", str(options.postgres), "-U", ROLE, "-f", str(script),
+                 "-c", str(clients), "-j", str(clients), "-T", str(max(1, round(options.seconds))), "-D", f"rows={options.rows}"]
+        settings = {**os.environ, "PGOPTIONS": f"-c served.tags={TAG} -c synchronous_commit=off"}
+        said = subprocess.run([*words, options.database], check=True, capture_output=True, text=True, env=settings).stdout
+        done = int(re.search(r"actually processed: (\d+)", said)[1])
+        failed = int((re.search(r"failed transactions: (\d+)", said) or [0, 0])[1])
+        rate = 4 * float(re.search(r"tps = ([\d.]+)", said)[1])
+        return Run(rate, 4 * done + 3 * failed, failed, 0)
+
+    told("PostgreSQL", options, load, postgres_pids)
+
+
+def main() -> None:
     parser = argparse.ArgumentParser(description=__doc__, formatter_class=argparse.RawDescriptionHelpFormatter)
-    parser.add_argument("host")
-    parser.add_argument("port", type=int)
-    parser.add_argument("--key", default="admin")
+    parser.add_argument("--program", default=HERE.parent / "crates/ifdb/out/ifdb")
     parser.add_argument("--postgres", type=int, metavar="PORT")
     parser.add_argument("--user", default="postgres")
     parser.add_argument("--database", default="postgres")
     parser.add_argument("--seconds", type=float, default=5)
-    parser.add_argument("--clients", type=lambda text: [int(it) for it in text.split(",")], default=[1, 4, 16])
+    parser.add_argument("--runs", type=int, default=3)
+    parser.add_argument("--clients", type=lambda text: [int(it) for it in text.split(",")], default=[1, 4, 16, 32])
     parser.add_argument("--rows", type=int, default=1000)
     options = parser.parse_args()
-    print(f"{'server':10} {'clients':>7} {'statements/s':>13} {'conflicts':>10} {'other':>7}")
-
-    def ifdb():
-        return Ifdb(options.host, options.port, options.key)
-
-    link = ifdb()
-    link.make(options.rows)
-    link.socket.close()
-    measure("ifdb", ifdb, options)
-    if options.postgres:
-        role = "served_bench_role"
-        Postgres(options.postgres, options.user, options.database).make(options.rows, role)
-        measure("PostgreSQL", lambda: Postgres(options.postgres, role, options.database), options)
-    echo(options)
+    with tempfile.TemporaryDirectory() as name:
+        folder = pathlib.Path(name)
+        load, echo = compiled(folder, "load"), compiled(folder, "echo")
+        print(f"{'server':10} {'clients':>7} {'statements/s':>13} {'us each':>10} {'conflicts':>10} {'other':>7}")
+        measure_ifdb(load, options)
+        measure_echo(load, echo, options)
+        if options.postgres:
+            measure_postgres(folder, options)
 
 
 if __name__ == "__main__":
-    multiprocessing.set_start_method("fork")
-    main()
+    sys.exit(main())
