@@ -27,7 +27,7 @@ use Rattle.ifdb_catalog.specs.Statements.{columns_named, listed_at, arranged, bo
 use Rattle.ifdb_catalog.specs.Binding.{bound}
 use Rattle.ifdb_catalog.proofs.Forms.{bound_expr-Column, bound_expr-Literal, bound_expr-Add, bound_expr-Sub, bound_expr-Mul}
 use Rattle.ifdb_catalog.proofs.Judging.{accepted}
-use Rattle.ifdb_framing.proofs.Lines.{all_map, all_flat_map, each_map}
+use Rattle.ifdb_framing.proofs.Lists.{all_map, all_flat_map, each_map}
 use Rattle.ifdb_framing.proofs.Clean.{is_clean, are_clean, is_clean_expr, clean-Column, clean-Literal, clean-Add, clean-Sub, clean-Mul, is_clean_item, is_clean_select, is_clean_assignment, is_clean_request, is_clean_bound, bound-Column, bound-Literal, bound-Add, bound-Sub, bound-Mul, is_clean_bound_item, is_clean_query, is_clean_set, is_clean_tree, binds_clean}
 use Rattle.ifdb_framing.proofs.Values.{value_at_clean}
 

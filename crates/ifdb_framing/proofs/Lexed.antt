@@ -1,6 +1,6 @@
 -- What a line without a newline is read as is a clean request.
 use Rattle.std.proofs.Common.{◌≡◌, ℕ, ◌+◌, ◌-◌, Bool, true, false, List, [], ◌∷◌, length, refl, cond, eqb, ltb, ◌&&◌, arith, Some, None, Ok, Err, Option, Result}
-use Rattle.std.specs.Prelude.{take, drop, not, slice_range, slice_index}
+use Rattle.std.specs.Prelude.{take, drop, slice_range, slice_index}
 use Rattle.std.specs.Char.{to_ascii_lowercase}
 use Rattle.std.specs.Str.{str_eq_ignore_ascii_case}
 use Rattle.std.proofs.lemmas.Bool.{and_parts}
@@ -22,26 +22,20 @@ use Rattle.ifdb_parse.specs.Parsed.{parsed}
 use Rattle.ifdb_parse.proofs.written.Parsed.{parsed_is_request}
 use Rattle.ifdb_db.specs.Reading.{request_or_fault, read_line}
 use Rattle.ifdb_laws.specs.Bytes.{is_line}
-use Rattle.ifdb_framing.proofs.Lines.{all_map, each_map, all_take, all_drop}
+use Rattle.ifdb_framing.proofs.Lines.{is_no_newline}
+use Rattle.ifdb_framing.proofs.Lists.{pick, all_map, each_map, all_take, all_drop}
 use Rattle.ifdb_framing.proofs.Clean.{if_there, is_clean_request, reads_clean}
 use Rattle.ifdb_framing.proofs.Passes.{is_clean_lexeme, are_clean_lexemes}
 use Rattle.ifdb_framing.proofs.Grammar.{line_passes}
 
 -- ---- parts of a line
 
-abbrev is_no_newline : ℕ → Bool
-is_no_newline b = not (eqb b 10)
-
-pick_line : (b : Bool) (x y : List ℕ) → is_line x ≡ true → is_line y ≡ true → is_line (cond b x y) ≡ true
-pick_line true x y h k = h
-pick_line false x y h k = k
-
 range_line : (line : List ℕ) (start end : ℕ) → is_line line ≡ true → is_line (slice_range line start end) ≡ true
 range_line line start end h = all_take is_no_newline (end - start) (drop start line) (all_drop is_no_newline start line h)
 
 return_line : (line : List ℕ) → is_line line ≡ true → is_line (without_return line) ≡ true
 return_line line h =
-    pick_line (eqb (slice_index line (length line - 1)) 13) (take (length line - 1) line) line (all_take is_no_newline (length line - 1) line h) h
+    pick is_line (eqb (slice_index line (length line - 1)) 13) (take (length line - 1) line) line (all_take is_no_newline (length line - 1) line h) h
 
 small_byte : (b : ℕ) → is_no_newline b ≡ true → is_no_newline (to_ascii_lowercase b) ≡ true
 small_byte b h = by (ltb b 65) (ltb b 91) where
@@ -59,20 +53,16 @@ undoubled_line (b ∷ []) h = h
 undoubled_line (b ∷ next ∷ text) h =
     let parts = and_parts (is_no_newline b) (is_line (next ∷ text)) h in
     let more = and_parts (is_no_newline next) (is_line text) parts.1 in
-    pick_line (eqb b 39 && eqb next 39) (39 ∷ undoubled text) (b ∷ undoubled (next ∷ text)) (undoubled_line text more.1)
+    pick is_line (eqb b 39 && eqb next 39) (39 ∷ undoubled text) (b ∷ undoubled (next ∷ text)) (undoubled_line text more.1)
     (both_of (is_no_newline b) (is_line (undoubled (next ∷ text))) parts.0 (undoubled_line (next ∷ text) parts.1))
 
 -- ---- lexemes
-
-pick_word : (b : Bool) (x : Lexeme) (o : Option Lexeme) → is_clean_lexeme x ≡ true → if_there is_clean_lexeme o ≡ true → if_there is_clean_lexeme (cond b (Some x) o) ≡ true
-pick_word true x o h k = h
-pick_word false x o h k = k
 
 among_clean : (text : List ℕ) (words : Lexemes) → are_clean_lexemes words ≡ true → if_there is_clean_lexeme (spelled_among text words) ≡ true
 among_clean text [] h = refl
 among_clean text (x ∷ words) h =
     let parts = and_parts (is_clean_lexeme x) (are_clean_lexemes words) h in
-    pick_word (str_eq_ignore_ascii_case text (word_text x)) x (spelled_among text words) parts.0 (among_clean text words parts.1)
+    pick (if_there is_clean_lexeme) (str_eq_ignore_ascii_case text (word_text x)) (Some x) (spelled_among text words) parts.0 (among_clean text words parts.1)
 
 reserved_clean : (text : List ℕ) → if_there is_clean_lexeme (reserved text) ≡ true
 unfolding reserved
@@ -82,15 +72,11 @@ word_clean : (text : List ℕ) (o : Option Lexeme) → is_line text ≡ true →
 word_clean text None h k = folded_line text h
 word_clean text (Some x) h k = k
 
-pick_symbol : (b : Bool) (x y : Lexeme) → is_clean_lexeme x ≡ true → is_clean_lexeme y ≡ true → is_clean_lexeme (cond b x y) ≡ true
-pick_symbol true x y h k = h
-pick_symbol false x y h k = k
-
 symbol_clean : (b : ℕ) → is_clean_lexeme (symbol_of b) ≡ true
 symbol_clean b =
-    pick_symbol (eqb b 40) t.Open _ refl (pick_symbol (eqb b 41) t.Close _ refl (pick_symbol (eqb b 44) t.Comma _ refl (pick_symbol (eqb b 46) t.Dot _ refl
-    (pick_symbol (eqb b 61) t.Equal _ refl (pick_symbol (eqb b 60) t.Less _ refl (pick_symbol (eqb b 62) t.Greater _ refl (pick_symbol (eqb b 43) t.Plus _ refl
-    (pick_symbol (eqb b 45) t.Minus _ refl (pick_symbol (eqb b 42) t.Star t.Semicolon refl refl)))))))))
+    pick is_clean_lexeme (eqb b 40) t.Open _ refl (pick is_clean_lexeme (eqb b 41) t.Close _ refl (pick is_clean_lexeme (eqb b 44) t.Comma _ refl (pick is_clean_lexeme (eqb b 46) t.Dot _ refl
+    (pick is_clean_lexeme (eqb b 61) t.Equal _ refl (pick is_clean_lexeme (eqb b 60) t.Less _ refl (pick is_clean_lexeme (eqb b 62) t.Greater _ refl (pick is_clean_lexeme (eqb b 43) t.Plus _ refl
+    (pick is_clean_lexeme (eqb b 45) t.Minus _ refl (pick is_clean_lexeme (eqb b 42) t.Star t.Semicolon refl refl)))))))))
 
 from_clean : (line : List ℕ) (start end : ℕ) (k : TokenKind) → is_line line ≡ true → is_clean_lexeme (lexeme_from line start end k) ≡ true
 from_clean line start end kind.Word h = word_clean (slice_range line start end) (reserved (slice_range line start end)) (range_line line start end h) (reserved_clean (slice_range line start end))

@@ -1,3 +1,4 @@
+pub mod Lists
 pub mod Lines
 pub mod Clean
 pub mod Values

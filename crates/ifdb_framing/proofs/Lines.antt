@@ -1,11 +1,10 @@
--- Lists of which each element passes, and texts without a newline.
-use Rattle.std.proofs.Common.{◌≡◌, ℕ, zero, suc, ◌+◌, ◌/◌, ◌%◌, Bool, true, false, List, [], ◌∷◌, ◌++◌, refl, ◌∙◌, arith, cond, eqb, ltb, ℤ, pos, negsuc}
+-- Texts without a newline: numbers, faults, and what is shown of values and labels.
+use Rattle.std.proofs.Common.{◌≡◌, ℕ, zero, suc, ◌+◌, ◌/◌, ◌%◌, Bool, true, false, List, [], ◌∷◌, ◌++◌, refl, arith, cond, eqb, ltb, ℤ, pos, negsuc}
 use Rattle.std.specs.Fmt.{digits, digits_onto, digit_glyph, signed_decimal}
-use Rattle.std.specs.Prelude.{codes, decimal, map, flat_map, not, slice_index_or, slice_set, take, drop}
+use Rattle.std.specs.Prelude.{codes, decimal, map, not, slice_index_or}
 use Rattle.std.specs.List.{list_all}
 use Rattle.std.proofs.lemmas.Bool.{and_parts}
 use Rattle.std.proofs.lemmas.Bool.Decides.{nat_tests}
-use Rattle.std.proofs.lemmas.List.Folds.{list_all-append}
 use Rattle.ifdb_catalog.proofs.Tests.{both_of}
 use Rattle.ifdb_wire.specs.declared.fault.Fault.{Fault}
 use Rattle.ifdb_wire.specs.declared.fault.Fault.TheVariants as fault
@@ -13,71 +12,12 @@ use Rattle.ifdb_wire.specs.Fault.{number_of, name_of, place_text, fault_text}
 use Rattle.ifdb_wire.specs.Text.{escaped_byte, escaped, tabbed}
 use Rattle.ifdb_bound.specs.Query.{joined, label_names}
 use Rattle.ifdb_laws.specs.Bytes.{is_line}
+use Rattle.ifdb_framing.proofs.Lists.{pick, all_append, all_flat_map, each_map, at_or}
 
--- ---- lists of which each element passes
-
-pub all_append : {X : Type 0} (p : X → Bool) (xs ys : List X) → list_all p xs ≡ true → list_all p ys ≡ true → list_all p (xs ++ ys) ≡ true
-all_append p xs ys h k = list_all-append p xs ys ∙ both_of (list_all p xs) (list_all p ys) h k
-
-pub all_push : {X : Type 0} (p : X → Bool) (xs : List X) (x : X) → list_all p xs ≡ true → p x ≡ true → list_all p (xs ++ x ∷ []) ≡ true
-all_push p xs x h k = all_append p xs (x ∷ []) h (both_of (p x) true k refl)
-
-pub all_map : {X Y : Type 0} (q : X → Bool) (p : Y → Bool) (f : X → Y) (xs : List X) → ((x : X) → q x ≡ true → p (f x) ≡ true) → list_all q xs ≡ true → list_all p (map f xs) ≡ true
-all_map q p f [] h k = refl
-all_map q p f (x ∷ xs) h k =
-    let parts = and_parts (q x) (list_all q xs) k in
-    both_of (p (f x)) (list_all p (map f xs)) (h x parts.0) (all_map q p f xs h parts.1)
-
-pub all_flat_map : {X Y : Type 0} (q : X → Bool) (p : Y → Bool) (f : X → List Y) (xs : List X) → ((x : X) → q x ≡ true → list_all p (f x) ≡ true) → list_all q xs ≡ true → list_all p (flat_map f xs) ≡ true
-all_flat_map q p f [] h k = refl
-all_flat_map q p f (x ∷ xs) h k =
-    let parts = and_parts (q x) (list_all q xs) k in
-    all_append p (f x) (flat_map f xs) (h x parts.0) (all_flat_map q p f xs h parts.1)
-
--- always passed
-abbrev pub any : {X : Type 0} → X → Bool
-any x = true
-
-pub all_any : {X : Type 0} (xs : List X) → list_all any xs ≡ true
-all_any [] = refl
-all_any (x ∷ xs) = all_any xs
-
--- where each image passes
-pub each_map : {X Y : Type 0} (p : Y → Bool) (f : X → Y) (xs : List X) → ((x : X) → p (f x) ≡ true) → list_all p (map f xs) ≡ true
-each_map p f xs h = all_map any p f xs (λ x e. h x) (all_any xs)
-
-pub all_take : {X : Type 0} (p : X → Bool) (n : ℕ) (xs : List X) → list_all p xs ≡ true → list_all p (take n xs) ≡ true
-all_take p zero [] h = refl
-all_take p zero (x ∷ xs) h = refl
-all_take p (suc n) [] h = refl
-all_take p (suc n) (x ∷ xs) h =
-    let parts = and_parts (p x) (list_all p xs) h in
-    both_of (p x) (list_all p (take n xs)) parts.0 (all_take p n xs parts.1)
-
-pub all_drop : {X : Type 0} (p : X → Bool) (n : ℕ) (xs : List X) → list_all p xs ≡ true → list_all p (drop n xs) ≡ true
-all_drop p zero [] h = refl
-all_drop p zero (x ∷ xs) h = h
-all_drop p (suc n) [] h = refl
-all_drop p (suc n) (x ∷ xs) h = all_drop p n xs (and_parts (p x) (list_all p xs) h).1
-
--- the element at a place, or what stands for it
-pub at_or : {X : Type 0} (p : X → Bool) (d : X) (xs : List X) (i : ℕ) → p d ≡ true → list_all p xs ≡ true → p (slice_index_or xs i d) ≡ true
-at_or p d [] i e h = e
-at_or p d (x ∷ xs) zero e h = (and_parts (p x) (list_all p xs) h).0
-at_or p d (x ∷ xs) (suc i) e h = at_or p d xs i e (and_parts (p x) (list_all p xs) h).1
-
-pub all_set : {X : Type 0} (p : X → Bool) (xs : List X) (i : ℕ) (v : X) → list_all p xs ≡ true → p v ≡ true → list_all p (slice_set xs i v) ≡ true
-all_set p [] i v h k = refl
-all_set p (x ∷ xs) zero v h k = both_of (p v) (list_all p xs) k (and_parts (p x) (list_all p xs) h).1
-all_set p (x ∷ xs) (suc i) v h k =
-    let parts = and_parts (p x) (list_all p xs) h in
-    both_of (p x) (list_all p (slice_set xs i v)) parts.0 (all_set p xs i v parts.1 k)
+abbrev pub is_no_newline : ℕ → Bool
+is_no_newline b = not (eqb b 10)
 
 -- ---- numbers
-
-pick_line : (b : Bool) (x y : List ℕ) → is_line x ≡ true → is_line y ≡ true → is_line (cond b x y) ≡ true
-pick_line true x y h k = h
-pick_line false x y h k = k
 
 -- a digit is no newline
 glyph_line : (d : ℕ) (b : Bool) → not (eqb (cond b (48 + d) (87 + d)) 10) ≡ true
@@ -88,7 +28,7 @@ digits_onto_line : (k n : ℕ) (acc : List ℕ) → is_line acc ≡ true → is_
 digits_onto_line zero n acc h = h
 digits_onto_line (suc k) n acc h =
     let one : is_line (digit_glyph false (n % 10) ∷ acc) ≡ true = both_of _ _ (glyph_line (n % 10) (ltb (n % 10) 10)) h in
-    pick_line (eqb (n / 10) 0) (digit_glyph false (n % 10) ∷ acc) (digits_onto k 10 false (n / 10) (digit_glyph false (n % 10) ∷ acc)) one
+    pick is_line (eqb (n / 10) 0) (digit_glyph false (n % 10) ∷ acc) (digits_onto k 10 false (n / 10) (digit_glyph false (n % 10) ∷ acc)) one
     (digits_onto_line k (n / 10) (digit_glyph false (n % 10) ∷ acc) one)
 
 pub decimal_line : (n : ℕ) → is_line (decimal n) ≡ true
@@ -102,7 +42,7 @@ signed_line (negsuc n) = decimal_line (suc n)
 -- ---- faults
 
 pub line_append : (x y : List ℕ) → is_line x ≡ true → is_line y ≡ true → is_line (x ++ y) ≡ true
-line_append x y h k = all_append (λ b. not (eqb b 10)) x y h k
+line_append x y h k = all_append (is_no_newline) x y h k
 
 name_line : (f : Fault) → is_line (name_of f) ≡ true
 name_line (fault.Syntax at) = refl
@@ -147,14 +87,14 @@ fault_line f =
 
 -- ---- rows
 
-byte_line : (b : ℕ) → not (eqb b 10) ≡ true → is_line (escaped_byte b) ≡ true
+byte_line : (b : ℕ) → is_no_newline b ≡ true → is_line (escaped_byte b) ≡ true
 byte_line b h =
-    pick_line (eqb b 92) (92 ∷ 92 ∷ []) (cond (eqb b 9) (92 ∷ 116 ∷ []) (cond (eqb b 13) (92 ∷ 114 ∷ []) (b ∷ []))) refl
-    (pick_line (eqb b 9) (92 ∷ 116 ∷ []) (cond (eqb b 13) (92 ∷ 114 ∷ []) (b ∷ [])) refl
-    (pick_line (eqb b 13) (92 ∷ 114 ∷ []) (b ∷ []) refl (both_of (not (eqb b 10)) true h refl)))
+    pick is_line (eqb b 92) (92 ∷ 92 ∷ []) (cond (eqb b 9) (92 ∷ 116 ∷ []) (cond (eqb b 13) (92 ∷ 114 ∷ []) (b ∷ []))) refl
+    (pick is_line (eqb b 9) (92 ∷ 116 ∷ []) (cond (eqb b 13) (92 ∷ 114 ∷ []) (b ∷ [])) refl
+    (pick is_line (eqb b 13) (92 ∷ 114 ∷ []) (b ∷ []) refl (both_of (is_no_newline b) true h refl)))
 
 pub escaped_line : (text : List ℕ) → is_line text ≡ true → is_line (escaped text) ≡ true
-escaped_line text h = all_flat_map (λ b. not (eqb b 10)) (λ b. not (eqb b 10)) escaped_byte text byte_line h
+escaped_line text h = all_flat_map (is_no_newline) (is_no_newline) escaped_byte text byte_line h
 
 pub tabbed_line : (xs : List (List ℕ)) → list_all is_line xs ≡ true → is_line (tabbed xs) ≡ true
 tabbed_line [] h = refl

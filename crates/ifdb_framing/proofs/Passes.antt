@@ -9,7 +9,7 @@ use Rattle.ifdb_syntax.specs.declared.lexeme.Lexeme.TheVariants as t
 use Rattle.ifdb_syntax.specs.Words.{Lexemes, name_of, text_of}
 use Rattle.ifdb_syntax.specs.Lang.{Lang, Then, nothing, at_some, rounds, repeat, name, text, parens, separated}
 use Rattle.ifdb_laws.specs.Bytes.{is_line}
-use Rattle.ifdb_framing.proofs.Lines.{any, all_push}
+use Rattle.ifdb_framing.proofs.Lists.{any, all_push}
 
 -- the name or the text of the lexeme is without a newline
 abbrev pub is_clean_lexeme : Lexeme → Bool

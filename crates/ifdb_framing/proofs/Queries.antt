@@ -1,5 +1,5 @@
 -- A SELECT gives clean rows of clean ones, where its items and the names of tags are clean.
-use Rattle.std.proofs.Common.{◌≡◌, ℕ, Bool, true, false, List, [], ◌∷◌, ◌++◌, length, refl, cond, pos, Some, None, Option}
+use Rattle.std.proofs.Common.{◌≡◌, ℕ, Bool, true, List, [], ◌∷◌, ◌++◌, length, refl, pos, Some, None, Option}
 use Rattle.std.specs.Prelude.{map, codes, slice_index_or, option_map}
 use Rattle.std.specs.List.{list_all, list_any, fold}
 use Rattle.std.specs.Ordering.{is_lt}
@@ -18,7 +18,8 @@ use Rattle.ifdb_bound.specs.Conditions.{passes}
 use Rattle.ifdb_bound.specs.Query.{SourceRow, Combination, values_of, no_row, combinations, matching, group_key, same_values, Group, with_member, groups_by, is_count, answer_groups, label_names, label_text, column_of, sum, lesser, greater, best, first_of, item_value, both, all_some, answer_row, order_cmp, with_row, sorted_by, select}
 use Rattle.ifdb_expr.proofs.Views.{combined}
 use Rattle.ifdb_laws.specs.Bytes.{is_line}
-use Rattle.ifdb_framing.proofs.Lines.{all_push, all_map, at_or, line_append, names_line}
+use Rattle.ifdb_framing.proofs.Lists.{pick, all_push, all_map, at_or}
+use Rattle.ifdb_framing.proofs.Lines.{line_append, names_line}
 use Rattle.ifdb_framing.proofs.Clean.{is_clean, are_clean, if_there, is_clean_source, is_clean_bound_item, is_clean_query}
 use Rattle.ifdb_framing.proofs.Values.{column_clean, in_range_clean, value_clean}
 
@@ -55,15 +56,11 @@ matching_clean s sources h = all-filter (λ rows. passes s.cond (values_of rows)
 abbrev is_clean_group : Group → Bool
 is_clean_group g = are_clean_combinations g.members
 
-either_groups : (b : Bool) (x y : List Group) → list_all is_clean_group x ≡ true → list_all is_clean_group y ≡ true → list_all is_clean_group (cond b x y) ≡ true
-either_groups true x y h k = h
-either_groups false x y h k = k
-
 with_clean : (columns : List BoundColumn) (groups : List Group) (rows : Combination) → list_all is_clean_group groups ≡ true → is_clean_combination rows ≡ true → list_all is_clean_group (with_member columns groups rows) ≡ true
 with_clean columns [] rows h k = both_of _ _ (both_of (is_clean_combination rows) true k refl) refl
 with_clean columns (g ∷ groups) rows h k =
     let parts = and_parts (is_clean_group g) (list_all is_clean_group groups) h in
-    either_groups (same_values g.key (group_key columns rows)) (record g { members = g.members ++ rows ∷ [] } ∷ groups) (g ∷ with_member columns groups rows)
+    pick (list_all is_clean_group) (same_values g.key (group_key columns rows)) (record g { members = g.members ++ rows ∷ [] } ∷ groups) (g ∷ with_member columns groups rows)
     (both_of _ _ (all_push is_clean_combination g.members rows parts.0 k) parts.1)
     (both_of _ _ parts.0 (with_clean columns groups rows parts.1 k))
 
@@ -77,13 +74,9 @@ grouped_clean columns groups (rows ∷ all) h k =
 groups_clean : (columns : List BoundColumn) (all : List Combination) → are_clean_combinations all ≡ true → list_all are_clean_combinations (groups_by columns all) ≡ true
 groups_clean columns all h = all_map is_clean_group are_clean_combinations (λ (g : Group). g.members) (fold (with_member columns) [] all) (λ g e. e) (grouped_clean columns [] all refl h)
 
-either_all : (b : Bool) (x y : List (List Combination)) → list_all are_clean_combinations x ≡ true → list_all are_clean_combinations y ≡ true → list_all are_clean_combinations (cond b x y) ≡ true
-either_all true x y h k = h
-either_all false x y h k = k
-
 answered_clean : (s : BoundSelect) (columns : List BoundColumn) (all : List Combination) → are_clean_combinations all ≡ true → list_all are_clean_combinations (answer_groups s columns all) ≡ true
 answered_clean s [] all h =
-    either_all (list_any is_count s.items) (all ∷ []) (map (λ rows. rows ∷ []) all) (both_of _ _ h refl)
+    pick (list_all are_clean_combinations) (list_any is_count s.items) (all ∷ []) (map (λ rows. rows ∷ []) all) (both_of _ _ h refl)
     (all_map is_clean_combination are_clean_combinations (λ rows. rows ∷ []) all (λ rows e. both_of _ _ e refl) h)
 answered_clean s (c ∷ columns) all h = groups_clean (c ∷ columns) all h
 
@@ -102,15 +95,11 @@ column_of_clean c members h = all_map is_clean_combination is_clean (λ rows. co
 abbrev Chooses : (Value → Value → Value) → Type 0
 Chooses choose = (a b : Value) → is_clean a ≡ true → is_clean b ≡ true → is_clean (choose a b) ≡ true
 
-either_value : (t : Bool) (a b : Value) → is_clean a ≡ true → is_clean b ≡ true → is_clean (cond t b a) ≡ true
-either_value true a b h k = k
-either_value false a b h k = h
-
 lesser_clean : Chooses lesser
-lesser_clean a b h k = either_value (is_lt (value_cmp b a)) a b h k
+lesser_clean a b h k = pick is_clean (is_lt (value_cmp b a)) b a k h
 
 greater_clean : Chooses greater
-greater_clean a b h k = either_value (is_lt (value_cmp a b)) a b h k
+greater_clean a b h k = pick is_clean (is_lt (value_cmp a b)) b a k h
 
 chosen_clean : (choose : Value → Value → Value) → Chooses choose → (v : Value) (values : List Value) → is_clean v ≡ true → are_clean values ≡ true → is_clean (fold choose v values) ≡ true
 chosen_clean choose c v [] h k = h
@@ -141,15 +130,11 @@ module _ (names : List (List ℕ)) (lines : list_all is_line names ≡ true) whe
 
 -- ---- order
 
-either_rows : (b : Bool) (x y : List (List Value)) → list_all are_clean x ≡ true → list_all are_clean y ≡ true → list_all are_clean (cond b x y) ≡ true
-either_rows true x y h k = h
-either_rows false x y h k = k
-
 with_row_clean : (keys : List OrderKey) (row : List Value) (rows : List (List Value)) → are_clean row ≡ true → list_all are_clean rows ≡ true → list_all are_clean (with_row keys row rows) ≡ true
 with_row_clean keys row [] h k = both_of (are_clean row) true h refl
 with_row_clean keys row (r ∷ rows) h k =
     let parts = and_parts (are_clean r) (list_all are_clean rows) k in
-    either_rows (is_lt (order_cmp keys r row)) (r ∷ with_row keys row rows) (row ∷ r ∷ rows)
+    pick (list_all are_clean) (is_lt (order_cmp keys r row)) (r ∷ with_row keys row rows) (row ∷ r ∷ rows)
     (both_of (are_clean r) (list_all are_clean (with_row keys row rows)) parts.0 (with_row_clean keys row rows h parts.1))
     (both_of (are_clean row) (list_all are_clean (r ∷ rows)) h k)
 

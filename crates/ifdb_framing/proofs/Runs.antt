@@ -19,7 +19,8 @@ use Rattle.ifdb_laws.specs.Bytes.{is_line}
 use Rattle.ifdb_laws.proofs.rows.Runs.{session_has}
 use Rattle.ifdb_db.specs.Reading.{read_line}
 use Rattle.ifdb_framing.specs.Framing.{is_framed, is_of_line, StepsAreFramed, RepliesAreFramed}
-use Rattle.ifdb_framing.proofs.Lines.{all_append, all_flat_map, all_take, all_drop}
+use Rattle.ifdb_framing.proofs.Lines.{is_no_newline}
+use Rattle.ifdb_framing.proofs.Lists.{pick, all_append, all_flat_map, all_take, all_drop}
 use Rattle.ifdb_framing.proofs.Clean.{reads_clean, is_clean_entry, is_framed_reply}
 use Rattle.ifdb_framing.proofs.Outcomes.{has_clean_own, Keeps, refused_framed, ask_keeps}
 use Rattle.ifdb_framing.proofs.Lexed.{line_clean}
@@ -66,13 +67,9 @@ module _ (read : Reader) (reads : ReadsClean read) where
   next_clean st (leaves_room n) v h = either (session_of st n).is_open (with_session st n (closed (session_of st n))) st
       (record { log = v.log; sessions = All-set Clean st.sessions (n - 1) (closed (session_of st n)) refl v.sessions }) v
 
-  pick : (b : Bool) (o u : Outcome) → is_framed_reply o.reply ≡ true → is_framed_reply u.reply ≡ true → is_framed_reply (cond b o u).reply ≡ true
-  pick true o u h k = h
-  pick false o u h k = k
-
   outcome_framed : (st : State) → IsClean st → (n : ℕ) (line : List ℕ) → is_line line ≡ true → is_framed_reply (outcome_of read st n line).reply ≡ true
   outcome_framed st v n line h =
-      pick (session_of st n).is_open (ask read st.log (session_of st n) line) (refuses (session_of st n) fault.NoSession) (asked st v n line h).reply (refused_framed fault.NoSession)
+      pick (λ (o : Outcome). is_framed_reply o.reply) (session_of st n).is_open (ask read st.log (session_of st n) line) (refuses (session_of st n) fault.NoSession) (asked st v n line h).reply (refused_framed fault.NoSession)
 
   told_framed : (st : State) (x : Step) → IsClean st → is_of_line x ≡ true → list_all is_framed (told read st x) ≡ true
   told_framed st opens v h = refl
@@ -93,9 +90,6 @@ module _ (read : Reader) (reads : ReadsClean read) where
 
 -- ---- scripts
 
-abbrev is_no_newline : ℕ → Bool
-is_no_newline b = not (eqb b 10)
-
 on_first_lines : (b : ℕ) (lines : List (List ℕ)) → is_no_newline b ≡ true → list_all is_line lines ≡ true → list_all is_line (on_first b lines) ≡ true
 on_first_lines b [] h k = both_of (is_line (b ∷ [])) true (both_of (is_no_newline b) true h refl) refl
 on_first_lines b (line ∷ lines) h k =
@@ -115,14 +109,6 @@ abbrev is_of_script : ScriptLine → Bool
 is_of_script (script.asks n request) = is_line request
 is_of_script _ = true
 
-pick_line : (b : Bool) (x y : ScriptLine) → is_of_script x ≡ true → is_of_script y ≡ true → is_of_script (cond b x y) ≡ true
-pick_line true x y h k = h
-pick_line false x y h k = k
-
-pick_text : (b : Bool) (x y : List ℕ) → is_line x ≡ true → is_line y ≡ true → is_line (cond b x y) ≡ true
-pick_text true x y h k = h
-pick_text false x y h k = k
-
 asks_line : (session : Option ℕ) (request : List ℕ) → is_line request ≡ true → is_of_script (asks_of session request) ≡ true
 asks_line None request h = refl
 asks_line (Some n) request h = h
@@ -133,16 +119,16 @@ split_line line (Some at) h = asks_line (session_number (take at line)) (drop (a
 
 short_is_line : (line : List ℕ) → is_line line ≡ true → is_of_script (short_line line) ≡ true
 short_is_line line h =
-    pick_line (eqb (length line) 0) script.skips _ refl (pick_line (eqb (slice_index line 0) 35) script.skips _ refl
-    (pick_line (bytes_eq line (codes "OPEN")) script.opens (split_at line (position (λ b. eqb b 32) line)) refl (split_line line (position (λ b. eqb b 32) line) h)))
+    pick is_of_script (eqb (length line) 0) script.skips _ refl (pick is_of_script (eqb (slice_index line 0) 35) script.skips _ refl
+    (pick is_of_script (bytes_eq line (codes "OPEN")) script.opens (split_at line (position (λ b. eqb b 32) line)) refl (split_line line (position (λ b. eqb b 32) line) h)))
 
 return_line : (line : List ℕ) → is_line line ≡ true → is_line (without_return line) ≡ true
 return_line line h =
-    pick_text (bytes_eq (drop (length line - 1) line) (codes "\r")) (take (length line - 1) line) line (all_take is_no_newline (length line - 1) line h) h
+    pick is_line (bytes_eq (drop (length line - 1) line) (codes "\r")) (take (length line - 1) line) line (all_take is_no_newline (length line - 1) line h) h
 
 script_is_line : (line : List ℕ) → is_line line ≡ true → is_of_script (script_line line) ≡ true
 script_is_line line h =
-    pick_line (nat_lt LONGEST_LINE (length line)) script.overlong (short_line (without_return line)) refl (short_is_line (without_return line) (return_line line h))
+    pick is_of_script (nat_lt LONGEST_LINE (length line)) script.overlong (short_line (without_return line)) refl (short_is_line (without_return line) (return_line line h))
 
 step_is_of_line : (x : ScriptLine) → is_of_script x ≡ true → list_all is_of_line (line_step x) ≡ true
 step_is_of_line script.skips h = refl

@@ -13,7 +13,7 @@ use Rattle.ifdb_catalog.specs.Public.{Public, opening, changed}
 use Rattle.ifdb_model.specs.Log.{Entry, changes, commits, public_from, public_of, commits_of, content_of}
 use Rattle.ifdb_model.specs.Session.{Txn, seen_in}
 use Rattle.ifdb_laws.proofs.Logs.{txn_all}
-use Rattle.ifdb_framing.proofs.Lines.{all_push, all_take}
+use Rattle.ifdb_framing.proofs.Lists.{all_push, all_take}
 use Rattle.ifdb_framing.proofs.Clean.{is_clean_row, is_clean_write, is_clean_change, is_clean_tag, is_clean_view, is_clean_public, is_clean_entry}
 
 changed_clean : (p : Public) (c : Change) → is_clean_public p ≡ true → is_clean_change c ≡ true → is_clean_public (changed p c) ≡ true

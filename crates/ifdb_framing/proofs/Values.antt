@@ -11,7 +11,8 @@ use Rattle.ifdb_bound.proofs.Meanings.{value_of-Column, value_of-Literal, value_
 use Rattle.ifdb_bound.proofs.BoundExprs.{each_bound_expr}
 use Rattle.ifdb_wire.specs.Text.{value_text, row_text}
 use Rattle.ifdb_laws.specs.Bytes.{is_line}
-use Rattle.ifdb_framing.proofs.Lines.{all_map, at_or, signed_line, escaped_line, tabbed_line}
+use Rattle.ifdb_framing.proofs.Lists.{all_map, at_or}
+use Rattle.ifdb_framing.proofs.Lines.{signed_line, escaped_line, tabbed_line}
 use Rattle.ifdb_framing.proofs.Clean.{is_clean, are_clean, if_there, is_clean_bound, bound-Literal}
 
 -- ---- lines

@@ -1,5 +1,5 @@
 -- The reply to a SELECT is framed, over clean rows and a clean public state.
-use Rattle.std.proofs.Common.{◌≡◌, ℕ, eqb, Bool, true, false, List, [], ◌∷◌, ◌++◌, length, zero, suc, refl, ◌∙◌, cond, Some, None, Ok, Err, Option, Result, slice_get}
+use Rattle.std.proofs.Common.{◌≡◌, ℕ, eqb, Bool, true, List, [], ◌∷◌, ◌++◌, length, zero, suc, refl, ◌∙◌, Some, None, Ok, Err, Option, Result, slice_get}
 use Rattle.std.specs.Prelude.{map, codes, decimal}
 use Rattle.std.specs.List.{list_all}
 use Rattle.std.proofs.lemmas.Bool.{and_parts}
@@ -24,7 +24,8 @@ use Rattle.ifdb_wire.specs.Text.{row_text, rows_head}
 use Rattle.ifdb_catalog.specs.Public.{Public, KnownTag, tag_names}
 use Rattle.ifdb_model.specs.Query.{setting_of, fault_of, table_reply, select_reply}
 use Rattle.ifdb_laws.specs.Bytes.{is_line}
-use Rattle.ifdb_framing.proofs.Lines.{all_map, each_map, line_append, decimal_line, fault_line}
+use Rattle.ifdb_framing.proofs.Lists.{pick, all_map, each_map}
+use Rattle.ifdb_framing.proofs.Lines.{line_append, decimal_line, fault_line}
 use Rattle.ifdb_framing.proofs.Clean.{are_clean, if_there, is_clean_row, is_clean_source, is_clean_query, is_clean_view, is_clean_tag, is_clean_public, is_framed_reply}
 use Rattle.ifdb_framing.proofs.Values.{row_line}
 use Rattle.ifdb_framing.proofs.Queries.{if_map, if_all, is_clean_combination, matching_clean, answer_row_clean, select_clean}
@@ -83,16 +84,12 @@ module _ (set : Setting) (lines : list_all is_line set.names ≡ true) (rows : L
     over_clean s k None h = refl
     over_clean s k (Some sources) h = answered_clean (select set.names s sources) (select_clean set.names lines s k sources h)
 
-    either_answer : (b : Bool) (o : Result (List (List Value)) QueryFault) → is_clean_answer o ≡ true → is_clean_answer (cond b o (Err view_authority)) ≡ true
-    either_answer true o h = h
-    either_answer false o h = refl
-
     query_clean : (label : List ℕ) (s : BoundSelect) → is_clean_query s ≡ true → is_clean_answer (query set rows label s) ≡ true
     query_clean label s k =
         let found = map (λ (x : BoundSource). source_rows set rows label x.relation) s.sources in
-        either_answer (list_all (λ (x : BoundSource). is_allowed set x.relation) s.sources) (over_sources set s (all_some found))
+        pick is_clean_answer (list_all (λ (x : BoundSource). is_allowed set x.relation) s.sources) (over_sources set s (all_some found)) (Err view_authority)
         (over_clean s k (all_some found) (if_all (list_all is_clean_source) found
-        (each_map (if_there (list_all is_clean_source)) (λ (x : BoundSource). source_rows set rows label x.relation) s.sources (λ x. source_clean label x.relation))))
+        (each_map (if_there (list_all is_clean_source)) (λ (x : BoundSource). source_rows set rows label x.relation) s.sources (λ x. source_clean label x.relation)))) refl
 
     rows_framed : (columns : ℕ) (found : List (List Value)) → list_all are_clean found ≡ true → is_framed_reply (reply.Rows (record { columns = columns; rows = found })) ≡ true
     rows_framed columns found h =

@@ -1,5 +1,5 @@
 -- INSERT and UPDATE write clean rows, where their trees and the rows that they see are clean.
-use Rattle.std.proofs.Common.{◌≡◌, ℕ, Bool, true, false, List, [], ◌∷◌, length, refl, sym, ap, ◌∙◌, cond, ◌&&◌, Some, None, Ok, Err, Option, Result}
+use Rattle.std.proofs.Common.{◌≡◌, ℕ, Bool, true, List, [], ◌∷◌, length, refl, sym, ap, ◌∙◌, ◌&&◌, Some, None, Ok, Err, Option, Result}
 use Rattle.std.specs.Prelude.{map}
 use Rattle.std.specs.List.{list_all, fold}
 use Rattle.std.proofs.lemmas.Bool.{and_parts}
@@ -14,11 +14,11 @@ use Rattle.ifdb_bound.specs.Expressions.{value_of}
 use Rattle.ifdb_wire.specs.declared.fault.Fault.{Fault}
 use Rattle.ifdb_wire.specs.declared.fault.Fault.TheVariants as fault
 use Rattle.ifdb_catalog.specs.Public.{Public, tags_of, has_tags, table_at}
-use Rattle.ifdb_model.specs.Writes.{Written, insert_all, matched, are_writable, with_value, and_assigned, assigned, update_all, deletion, counted, update_matched, scene_of, writes_of}
+use Rattle.ifdb_model.specs.Writes.{insert_all, matched, are_writable, with_value, and_assigned, assigned, update_all, deletion, counted, update_matched, scene_of, writes_of}
 use Rattle.ifdb_laws.proofs.Statements.{matched_all}
 use Rattle.ifdb_laws.proofs.Sided.{result_all, written_all}
 use Rattle.ifdb_laws.proofs.rows.Fits.{brings_all, renews_all}
-use Rattle.ifdb_framing.proofs.Lines.{all_set}
+use Rattle.ifdb_framing.proofs.Lists.{pick, all_set}
 use Rattle.ifdb_framing.proofs.Clean.{is_clean, are_clean, if_there, is_clean_row, is_clean_write, is_clean_set, is_clean_tree}
 use Rattle.ifdb_framing.proofs.Values.{value_clean}
 
@@ -48,10 +48,6 @@ counted_all : (q : Write → Bool) (n : ℕ) (o : Result (List Write) Fault) →
 counted_all q n (Err f) h = refl
 counted_all q n (Ok ws) h = h
 
-or_refused : (q : Write → Bool) (b : Bool) (o : Result Written Fault) (f : Fault) → written_all q o ≡ true → written_all q (cond b o (Err f)) ≡ true
-or_refused q true o f h = h
-or_refused q false o f h = refl
-
 deletions_clean : (rs : List Row) → list_all is_clean_write (map deletion rs) ≡ true
 deletions_clean [] = refl
 deletions_clean (r ∷ rs) = deletions_clean rs
@@ -63,20 +59,20 @@ pub writes_clean : (p : Public) (asker : ℕ) (rows : List Row) (label : List �
     → written_all is_clean_write (writes_of p asker rows label b) ≡ true
 writes_clean p asker rows label (bound.Insert t values given) h k =
     let x = scene_of p rows label given in
-    or_refused is_clean_write (has_tags p asker given) (counted (length values) (insert_all x t (table_at p t) values (Ok []))) fault.NoAuthority
+    pick (written_all is_clean_write) (has_tags p asker given) (counted (length values) (insert_all x t (table_at p t) values (Ok []))) (Err fault.NoAuthority)
     (counted_all is_clean_write (length values) (insert_all x t (table_at p t) values (Ok []))
-    (brings_all x t (table_at p t) is_clean_write are_clean (λ vs refs g e. new_clean vs g) values (Ok []) k refl))
+    (brings_all x t (table_at p t) is_clean_write are_clean (λ vs refs g e. new_clean vs g) values (Ok []) k refl)) refl
 writes_clean p asker rows label (bound.Update t sets c given) h k =
     let x = scene_of p rows label given in
     let rs = matched (tags_of p) rows t c label in
-    or_refused is_clean_write (has_tags p asker given) (update_matched x (table_at p t) sets rs) fault.NoAuthority
-    (or_refused is_clean_write (are_writable label rs) (counted (length rs) (update_all x (table_at p t) sets rs)) fault.WriteLabel
+    pick (written_all is_clean_write) (has_tags p asker given) (update_matched x (table_at p t) sets rs) (Err fault.NoAuthority)
+    (pick (written_all is_clean_write) (are_writable label rs) (counted (length rs) (update_all x (table_at p t) sets rs)) (Err fault.WriteLabel)
     (counted_all is_clean_write (length rs) (update_all x (table_at p t) sets rs)
     (renews_all x (table_at p t) sets is_clean_write is_clean_row (λ r values refs g e f. new_clean values (assigned_clean r.values sets values g k e)) rs
-    (matched_all is_clean_row (tags_of p) rows t c label h))))
+    (matched_all is_clean_row (tags_of p) rows t c label h))) refl) refl
 writes_clean p asker rows label (bound.Delete t c) h k =
     let rs = matched (tags_of p) rows t c label in
-    or_refused is_clean_write (are_writable label rs) (counted (length rs) (Ok (map deletion rs))) fault.WriteLabel (deletions_clean rs)
+    pick (written_all is_clean_write) (are_writable label rs) (counted (length rs) (Ok (map deletion rs))) (Err fault.WriteLabel) (deletions_clean rs) refl
 writes_clean p asker rows label (bound.Change c) h k = refl
 writes_clean p asker rows label (bound.SetLabel l) h k = refl
 writes_clean p asker rows label (bound.Select s) h k = refl
