@@ -16,7 +16,7 @@ abbrev pub is_of_line : Step → Bool
 is_of_line (asks n line) = is_line line
 is_of_line _ = true
 
--- whatever lines sessions ask, each reply is framed
+-- whatever lines without newlines sessions ask, each reply is framed
 abbrev pub StepsAreFramed : Type 0
 StepsAreFramed = (steps : List Step) → list_all is_of_line steps ≡ true → list_all is_framed (replies read_line opening steps) ≡ true
 
