@@ -1,0 +1,15 @@
+pub mod Lists
+pub mod Lines
+pub mod Clean
+pub mod Values
+pub mod Queries
+pub mod Views
+pub mod Binding
+pub mod Writes
+pub mod States
+pub mod Outcomes
+pub mod Passes
+pub mod Grammar
+pub mod Lexed
+pub mod Runs
+pub mod Outputs
