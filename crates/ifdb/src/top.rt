@@ -3,7 +3,7 @@ ghost use Rattle.std.specs.Prelude.{◌≡◌, ◌≢◌, ◌+◌, ◌^◌, ◌�
 ghost use Rattle.ifdb_io.specs.Causes.{Rose};
 ghost use Rattle.ifdb_generate.specs.Script.{script};
 ghost use Rattle.ifdb_script.specs.Rehearsal.{rehearsed, rehearsed_text};
-ghost use Rattle.ifdb_script.specs.Run.{RanWhole, RanFront, RanPast, RanCut, CutsDontMatter, IsToldByBytes, KeepsLevels};
+ghost use Rattle.ifdb_script.specs.Run.{RanWhole, RanFront, RanPast, RanCut, CutsDontMatter, IsToldByBytes, IsFramedRun, KeepsLevels};
 ghost use Rattle.ifdb_service.specs.Site.{GivesNone, IsCut, IsDone, IsUnserved};
 ghost use Rattle.ifdb_words.specs.Ranges.{IsService};
 ghost use Rattle.ifdb_words.specs.Words.{command_of};
@@ -59,6 +59,9 @@ pub fn top<T: AllocGlobal + Threads + Wait + Sync, R: Source, W: Sink, S: Site>(
         (R.left input.old) (R.left input.new) (W.written output.old) (W.written output.new) }
     ensures told_by_bytes { (limit : ℕ) → IsRun limit words.now → result ≡ Status.Done
         → IsToldByBytes limit
+        (R.left input.old) (R.left input.new) (W.written output.old) (W.written output.new) }
+    ensures framed { (limit : ℕ) → IsRun limit words.now → result ≡ Status.Done
+        → IsFramedRun limit
         (R.left input.old) (R.left input.new) (W.written output.old) (W.written output.new) }
     ensures cuts { CutsDontMatter }
     ensures two_worlds { (limit : ℕ) → IsRun limit words.now → result ≡ Status.Done

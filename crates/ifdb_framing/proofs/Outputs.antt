@@ -1,5 +1,5 @@
 -- Equal outputs show the same replies, and tell the same refusals.
-use Rattle.std.proofs.Common.{◌≡◌, ℕ, ◌^◌, Bool, true, List, [], ◌∷◌, refl, ltb, ◌&&◌, sym, ap, ◌∙◌}
+use Rattle.std.proofs.Common.{◌≡◌, ℕ, ◌^◌, Bool, true, List, [], ◌∷◌, refl, ltb, ◌&&◌, ap, ◌∙◌}
 use Rattle.std.specs.List.{list_all}
 use Rattle.std.proofs.lemmas.Bool.{and_parts}
 use Rattle.ifdb_catalog.proofs.Tests.{both_of}
@@ -9,7 +9,7 @@ use Rattle.ifdb_model.specs.Output.{refusals, told_of}
 use Rattle.ifdb_laws.specs.Bytes.{is_line, row_count, is_readable}
 use Rattle.ifdb_laws.proofs.ReadBack.{replies_read_back, refusals_read_back}
 use Rattle.ifdb_db.specs.Reading.{read_line}
-use Rattle.ifdb_framing.specs.Framing.{is_framed, is_numbered, OutputsReadBack, OutputsTellRefusals, OutputsDecide}
+use Rattle.ifdb_framing.specs.Framing.{is_framed, is_numbered, OutputsReadBack, OutputsTellRefusals}
 use Rattle.ifdb_framing.proofs.Runs.{replies_are_framed}
 
 readable : (t : Told) → is_framed t ≡ true → is_numbered t ≡ true → is_readable t ≡ true
@@ -41,8 +41,3 @@ pub outputs_tell_refusals : OutputsTellRefusals
 outputs_tell_refusals input other flags other_flags h k e =
     refusals_read_back (told_of read_line input flags) (told_of read_line other other_flags)
     (told_readable input flags (told_of read_line input flags) refl h) (told_readable other other_flags (told_of read_line other other_flags) refl k) e
-
-pub outputs_decide : OutputsDecide
-outputs_decide input told other t u h k e =
-    let same = refusals_read_back told other (told_readable input (refusals told) told t h) (told_readable input (refusals other) other u k) e in
-    t ∙ ap (told_of read_line input) same ∙ sym u

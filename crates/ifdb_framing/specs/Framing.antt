@@ -3,7 +3,7 @@ use Rattle.std.specs.Prelude.{◌≡◌, ℕ, ◌^◌, Bool, true, ◌&&◌, nat
 use Rattle.std.specs.List.{list_all}
 use Rattle.ifdb_wire.specs.Text.{reply_lines}
 use Rattle.ifdb_model.specs.Run.{Step, asks, Told, opening, replies}
-use Rattle.ifdb_model.specs.Output.{told_of, refusals, texts, output}
+use Rattle.ifdb_model.specs.Output.{told_of, refusals, output}
 use Rattle.ifdb_laws.specs.Bytes.{is_line, row_count, shown}
 use Rattle.ifdb_db.specs.Reading.{read_line}
 
@@ -41,10 +41,3 @@ OutputsTellRefusals = (input other : List ℕ) (flags other_flags : List Bool)
     → list_all is_numbered (told_of read_line input flags) ≡ true → list_all is_numbered (told_of read_line other other_flags) ≡ true
     → output read_line input flags ≡ output read_line other other_flags
     → refusals (told_of read_line input flags) ≡ refusals (told_of read_line other other_flags)
-
--- What a script was told is decided by its bytes and the output: two lists of replies that it may be told, each with the refusals that
--- it tells of, are one where their texts are equal.
-abbrev pub OutputsDecide : Type 0
-OutputsDecide = (input : List ℕ) (told other : List Told)
-    → told ≡ told_of read_line input (refusals told) → other ≡ told_of read_line input (refusals other)
-    → list_all is_numbered told ≡ true → list_all is_numbered other ≡ true → texts told ≡ texts other → told ≡ other

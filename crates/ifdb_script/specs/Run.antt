@@ -1,5 +1,6 @@
 -- What a run of a script did: what it read, what it was told, and what it wrote of that.
 use Rattle.std.specs.Prelude.{◌≡◌, ◌⊎◌, ℕ, ◌==◌, ◌<◌, ◌≤◌, Bool, true, List, [], ◌∷◌, ◌++◌, length, take, Option, if◌then◌else◌}
+use Rattle.std.specs.List.{list_all}
 use Rattle.std.specs.Io.KnownBytes.{Appends, Consumes, IsAtEnd}
 use Rattle.ifdb_io.specs.declared.lines.TheConstants.{LONGEST_LINE}
 use Rattle.ifdb_io.specs.Lines.{IsLine}
@@ -7,6 +8,7 @@ use Rattle.ifdb_model.specs.Run.{Told}
 use Rattle.ifdb_model.specs.Output.{output, texts, text_of, told_of, refusals}
 use Rattle.ifdb_laws.specs.Scripts.{none_reads_memory, IsHeardAlike}
 use Rattle.ifdb_db.specs.Reading.{read_line}
+use Rattle.ifdb_framing.specs.Framing.{is_framed}
 
 -- A script was told this, where memory was refused at exactly the steps whose replies read error 20.
 abbrev pub IsTold : List ℕ → List Told → Type 0
@@ -89,6 +91,11 @@ abbrev pub IsToldByBytes : ℕ → Option (List ℕ) → Option (List ℕ) → O
 IsToldByBytes limit left_old left_new written_old written_new =
     (ran : RanWhole limit left_old left_new written_old written_new)
     × ((flags : List Bool) → output read_line ran.input flags ≡ texts ran.told → told_of read_line ran.input flags ≡ ran.told)
+
+-- The input was run whole, and no line of a reply holds a newline: nobody's text or name forges a line of the protocol.
+abbrev pub IsFramedRun : ℕ → Option (List ℕ) → Option (List ℕ) → Option (List ℕ) → Option (List ℕ) → Type 0
+IsFramedRun limit left_old left_new written_old written_new =
+    (ran : RanWhole limit left_old left_new written_old written_new) × (list_all is_framed ran.told ≡ true)
 
 -- Two worlds: the input was run whole, and what was told is what was written. Where none of it reads error 20, each other
 -- script that agrees with this one below a level, neither with a step that crosses it, gives those inside it the bytes that

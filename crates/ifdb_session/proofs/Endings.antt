@@ -3,7 +3,7 @@
 use Rattle.std.proofs.Common.{◌≡◌, ℕ, ◌≤◌, false, List, [], ◌∷◌, ◌++◌, ◌∙◌, sym, subst, Option, None, inl, inr}
 use Rattle.std.specs.Io.KnownBytes.{Appends, IsAtEnd}
 use Rattle.ifdb_io.specs.Causes.{WritesShort}
-use Rattle.ifdb_io.specs.Lines.{Reading, Gives, Ends as Stops, Exceeds, IsLong}
+use Rattle.ifdb_io.specs.Lines.{Reading, Gives, Ends as Stops, Exceeds, IsLine, IsLong}
 use Rattle.ifdb_wire.specs.declared.reply.Reply.{Reply}
 use Rattle.ifdb_wire.specs.Text.{reply_text}
 use Rattle.ifdb_session.specs.declared.ending.Ending.TheVariants as ends
@@ -16,27 +16,27 @@ module _ (limit : ℕ) (lines : List (List ℕ)) (texts : List ℕ) (old new : R
     (so : Talks lines texts old (record { left = a; left_now = b; written = w; written_now = v })) (written : u ≡ v) where
   -- ---- a line that was asked
 
-  module _ (more : List (List ℕ)) (all : List ℕ) (text : List ℕ) (d t : Option (List ℕ)) (left : d ≡ c) (g : Gives old new b c (new.text ++ 10 ∷ []))
+  module _ (more : List (List ℕ)) (all : List ℕ) (text : List ℕ) (d t : Option (List ℕ)) (left : d ≡ c) (g : Gives old new b c (new.text ++ 10 ∷ [])) (line : IsLine new.text)
       (asked : more ≡ lines ++ new.text ∷ []) (told : all ≡ texts ++ text) where
     here : Gives old new b d (new.text ++ 10 ∷ [])
     here = subst (λ z. Gives old new b z (new.text ++ 10 ∷ [])) (sym left) g
 
     pub goes_on : Appends u t text → new.over ≡ false → new.skipping ≡ false → Talks more all new (record { left = a; left_now = d; written = w; written_now = t })
-    goes_on wrote over still = talks_on lines texts old new a b w v so more all d text here asked told t (subst (λ z. Appends z t text) written wrote) over still
+    goes_on wrote over still = talks_on lines texts old new a b w v so more all d text here line asked told t (subst (λ z. Appends z t text) written wrote) over still
 
     pub ends_by_bye : new.taken ≤ limit → Appends u t text → new.over ≡ false → new.skipping ≡ false
         → Ends ends.Bye limit more all (record { left = a; left_now = d; written = w; written_now = t })
     ends_by_bye few wrote over still =
-        let took = line_within lines texts old new a b w v so more all d text here asked told limit few in
+        let took = line_within lines texts old new a b w v so more all d text here line asked told limit few in
         ((new.held, record { took = took.took; within = took.within }), (goes_on wrote over still).wrote)
 
     pub ends_unwritten : new.taken ≤ limit → (r : Reply) → text ≡ reply_text None r → WritesShort u t text
         → Ends ends.LinkWrite limit more all (record { left = a; left_now = d; written = w; written_now = t })
     ends_unwritten few r is short =
-        let took = line_within lines texts old new a b w v so more all d text here asked told limit few in
+        let took = line_within lines texts old new a b w v so more all d text here line asked told limit few in
         inl (
           (new.held, record { took = took.took; within = took.within }),
-          wrote_cut lines texts old new a b w v so more all d text here asked told t r is (subst (λ z. WritesShort z t text) written short),
+          wrote_cut lines texts old new a b w v so more all d text here line asked told t r is (subst (λ z. WritesShort z t text) written short),
         )
 
   -- ---- a line that is too long

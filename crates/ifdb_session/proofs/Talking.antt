@@ -2,13 +2,14 @@
 use Rattle.std.proofs.Common.{◌≡◌, ℕ, ◌+◌, ◌≤◌, false, List, [], ◌∷◌, ◌++◌, ◌∙◌, length, take, sym, ap, subst, arith, Option, None}
 use Rattle.std.proofs.lemmas.List.{append_assoc, append-nil, length-append}
 use Rattle.std.proofs.lemmas.List.Concat.{flat_map-append}
+use Rattle.std.proofs.lemmas.List.Elements.{All-append, All-cons}
 use Rattle.std.specs.Io.KnownBytes.{Appends, Consumes}
 use Rattle.std.proofs.KnownBytes.{Appends-trans, Appends-nil, Consumes-trans, Consumes-nil}
 use Rattle.ifdb_io.specs.Causes.{WritesShort}
-use Rattle.ifdb_io.specs.Lines.{Reading, Gives, Ends as Stops, Exceeds, unskipped}
+use Rattle.ifdb_io.specs.Lines.{Reading, Gives, Ends as Stops, Exceeds, IsLine, unskipped}
 use Rattle.ifdb_wire.specs.declared.reply.Reply.{Reply}
 use Rattle.ifdb_wire.specs.Text.{reply_text}
-use Rattle.ifdb_session.specs.Links.{Took, TookWithin, WroteShort, CutsReply, with_newline, bytes_of, long_text}
+use Rattle.ifdb_session.specs.Links.{AreLines, Took, TookWithin, WroteShort, CutsReply, with_newline, bytes_of, long_text}
 use Rattle.ifdb_session.specs.Talk.{Talks}
 
 bytes-snoc : (lines : List (List ℕ)) (line : List ℕ) → bytes_of (lines ++ line ∷ []) ≡ bytes_of lines ++ with_newline line
@@ -61,11 +62,17 @@ cuts_reply a b c left now texts text all first r is short told =
       wrote = record { n = there.n; short = there.short; wrote = Appends-trans a b c texts (take there.n (reply_text None r)) first there.written };
     }
 
+no_lines : AreLines []
+no_lines k d lt = absurd (omega (arith, lt))
+
+only_line : (text : List ℕ) → IsLine text → AreLines (text ∷ [])
+only_line text line = All-cons IsLine text [] line no_lines
+
 module _ (lines : List (List ℕ)) (texts : List ℕ) (old new : Reading) (a b w v : Option (List ℕ))
     (so : Talks lines texts old (record { left = a; left_now = b; written = w; written_now = v })) where
   -- ---- one line more
 
-  module _ (more : List (List ℕ)) (all : List ℕ) (c : Option (List ℕ)) (text : List ℕ) (g : Gives old new b c (new.text ++ 10 ∷ []))
+  module _ (more : List (List ℕ)) (all : List ℕ) (c : Option (List ℕ)) (text : List ℕ) (g : Gives old new b c (new.text ++ 10 ∷ [])) (line : IsLine new.text)
       (asked : more ≡ lines ++ new.text ∷ []) (told : all ≡ texts ++ text) where
     pub line_bytes : bytes_of lines ++ ((new.text ++ 10 ∷ []) ++ new.held) ≡ bytes_of more ++ new.held
     line_bytes =
@@ -73,8 +80,11 @@ module _ (lines : List (List ℕ)) (texts : List ℕ) (old new : Reading) (a b w
         ∙ ap (λ l. l ++ new.held) (sym (bytes-snoc lines new.text) ∙ ap bytes_of (sym asked))
 
     line_took : Took more new.held (record { left = a; left_now = c; written = w; written_now = v })
-    line_took = subst (Consumes a c) line_bytes
-        (consumes_on a b c (bytes_of lines) old.held g.got ((new.text ++ 10 ∷ []) ++ new.held) so.took g.consumed (gives_bytes old new b c _ g so.still))
+    line_took = (
+      subst AreLines (sym asked) (All-append IsLine lines (new.text ∷ []) so.took.0 (only_line new.text line)),
+      subst (Consumes a c) line_bytes
+          (consumes_on a b c (bytes_of lines) old.held g.got ((new.text ++ 10 ∷ []) ++ new.held) so.took.1 g.consumed (gives_bytes old new b c _ g so.still)),
+    )
 
     line_count : new.taken ≡ length (bytes_of more ++ new.held)
     line_count =
@@ -102,7 +112,7 @@ module _ (lines : List (List ℕ)) (texts : List ℕ) (old new : Reading) (a b w
   pub long_within : (limit : ℕ) (c : Option (List ℕ)) → (g : Gives old new b c new.text) → new.taken ≤ limit
       → TookWithin limit lines (new.text ++ new.held) (record { left = a; left_now = c; written = w; written_now = v })
   long_within limit c g few = record {
-    took = consumes_on a b c (bytes_of lines) old.held g.got (new.text ++ new.held) so.took g.consumed (gives_bytes old new b c _ g so.still);
+    took = (so.took.0, consumes_on a b c (bytes_of lines) old.held g.got (new.text ++ new.held) so.took.1 g.consumed (gives_bytes old new b c _ g so.still));
     within =
         let count = count_on (bytes_of lines) old.held g.got (new.text ++ new.held) old.taken new.taken so.count g.count (gives_bytes old new b c _ g so.still) in
         omega (arith, few, count);
@@ -119,15 +129,18 @@ module _ (lines : List (List ℕ)) (texts : List ℕ) (old new : Reading) (a b w
   pub rest_within : (limit : ℕ) (c : Option (List ℕ)) → (g : Stops old new b c) → new.taken ≤ limit
       → TookWithin limit lines new.text (record { left = a; left_now = c; written = w; written_now = v })
   rest_within limit c g few = record {
-    took = consumes_on a b c (bytes_of lines) old.held g.got new.text so.took g.consumed (stops_bytes old new b c g so.still);
+    took = (so.took.0, consumes_on a b c (bytes_of lines) old.held g.got new.text so.took.1 g.consumed (stops_bytes old new b c g so.still));
     within =
         let count = count_on (bytes_of lines) old.held g.got new.text old.taken new.taken so.count g.count (stops_bytes old new b c g so.still) in
         omega (arith, few, count);
   }
 
   pub past_took : (c : Option (List ℕ)) → (g : Exceeds old new b c) → Took lines (new.text ++ g.last ∷ []) (record { left = a; left_now = c; written = w; written_now = v })
-  past_took c g = consumes_on a b c (bytes_of lines) old.held (g.got ++ g.last ∷ []) (new.text ++ g.last ∷ []) so.took g.consumed
-      (sym (append_assoc old.held g.got (g.last ∷ [])) ∙ ap (λ l. l ++ g.last ∷ []) (exceeds_bytes old new b c g so.still))
+  past_took c g = (
+    so.took.0,
+    consumes_on a b c (bytes_of lines) old.held (g.got ++ g.last ∷ []) (new.text ++ g.last ∷ []) so.took.1 g.consumed
+        (sym (append_assoc old.held g.got (g.last ∷ [])) ∙ ap (λ l. l ++ g.last ∷ []) (exceeds_bytes old new b c g so.still)),
+  )
 
   pub past_limit : (c : Option (List ℕ)) → Exceeds old new b c → length (bytes_of lines ++ new.text) ≡ new.limit
   past_limit c g =
@@ -146,7 +159,7 @@ pub talks_first : (lines : List (List ℕ)) (texts : List ℕ) (reader : Reading
     → reader ≡ record { text = []; held = []; skipping = false; taken = 0; limit = reader.limit; over = false }
     → Talks lines texts reader (record { left = l; left_now = l; written = w; written_now = w })
 talks_first lines texts reader l w none silent is = record {
-  took = subst (Consumes l l) (sym bytes) (Consumes-nil l);
+  took = (subst AreLines (sym none) no_lines, subst (Consumes l l) (sym bytes) (Consumes-nil l));
   count = let k = ap length bytes in let t = ap (λ (r : Reading). r.taken) is in omega (arith, k, t);
   wrote = subst (Appends w w) (sym silent) (Appends-nil w);
   over = ap (λ (r : Reading). r.over) is;

@@ -1,5 +1,5 @@
 -- What a connection gave and got, where its service ended so.
-use Rattle.std.specs.Prelude.{◌≡◌, ◌⊎◌, ℕ, ◌<◌, ◌≤◌, List, [], ◌∷◌, ◌++◌, length, take, flat_map, Option, None}
+use Rattle.std.specs.Prelude.{◌≡◌, ◌⊎◌, ℕ, ◌<◌, ◌≤◌, List, [], ◌∷◌, ◌++◌, length, take, flat_map, Option, None, All}
 use Rattle.std.specs.Io.KnownBytes.{Appends, Consumes, IsAtEnd}
 use Rattle.ifdb_io.specs.Lines.{IsLine, IsLong}
 use Rattle.ifdb_wire.specs.declared.fault.Fault.TheVariants as fault
@@ -36,9 +36,13 @@ pub record Span : Type 0 where
   pub written : Option (List ℕ)
   pub written_now : Option (List ℕ)
 
+-- each is a line: no newline is in it, and it isn't too long
+abbrev pub AreLines : List (List ℕ) → Type 0
+AreLines lines = All IsLine lines
+
 -- these lines came, and these bytes behind them
 abbrev pub Took : List (List ℕ) → List ℕ → Span → Type 0
-Took lines tail s = Consumes s.left s.left_now (bytes_of lines ++ tail)
+Took lines tail s = AreLines lines × Consumes s.left s.left_now (bytes_of lines ++ tail)
 
 -- so they did, and all of them are within the limit
 pub record TookWithin (limit : ℕ) (lines : List (List ℕ)) (tail : List ℕ) (s : Span) : Type 0 where

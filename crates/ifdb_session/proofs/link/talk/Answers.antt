@@ -23,7 +23,7 @@ loop-pass-preserved g c =
         i.talks.0 ++ c.answer-answered.new.out.text,
         e.texts i.talks.0 i.talks.1,
         goes_on 0 (lines_in (history c.loop-pass.pass) c.loop-pass.seat) i.talks.0 c.loop-pass.reader c.next.new.self _ _ _ _ _ _ i.talks.2 written
-            (lines_in (history c.answer-answered.new.pass) c.answer-answered.new.seat) (i.talks.0 ++ c.answer-answered.new.out.text) c.answer-answered.new.out.text _ _ c.answer-answered.ensures.left (c.next.ensures.whole (search rules)) e.lines refl (c.answer-answered.ensures.written (search rules))
+            (lines_in (history c.answer-answered.new.pass) c.answer-answered.new.seat) (i.talks.0 ++ c.answer-answered.new.out.text) c.answer-answered.new.out.text _ _ c.answer-answered.ensures.left (c.next.ensures.whole (search rules)) (c.next.ensures.whole_line (search rules)) e.lines refl (c.answer-answered.ensures.written (search rules))
             (search rules) (c.next.ensures.whole_kept (search rules)),
       );
       unfailed = search rules;
@@ -58,7 +58,7 @@ returns-then-not-answered-clause-talked g c =
         i.talks.0 ++ c.answer-answered.new.out.text,
         e.texts i.talks.0 i.talks.1,
         ends_unwritten c.args.reader.now.limit (lines_in (history c.loop-pass.pass) c.loop-pass.seat) i.talks.0 c.loop-pass.reader c.next.new.self _ _ _ _ _ _ i.talks.2 written
-            (lines_in (history c.answer-answered.new.pass) c.answer-answered.new.seat) (i.talks.0 ++ c.answer-answered.new.out.text) c.answer-answered.new.out.text _ _ c.answer-answered.ensures.left (c.next.ensures.whole (search rules)) e.lines refl few e.reply.0 e.reply.1 (c.answer-answered.ensures.unwritten (search rules)),
+            (lines_in (history c.answer-answered.new.pass) c.answer-answered.new.seat) (i.talks.0 ++ c.answer-answered.new.out.text) c.answer-answered.new.out.text _ _ c.answer-answered.ensures.left (c.next.ensures.whole (search rules)) (c.next.ensures.whole_line (search rules)) e.lines refl few e.reply.0 e.reply.1 (c.answer-answered.ensures.unwritten (search rules)),
       ),
       left_so (history c.answer-answered.new.pass) (places c.answer-answered.new.pass) c.answer-answered.new.seat c.answer-answered.result.is_open _ _ e.seated e.over
           (λ o. subst (λ n. AsksBye n (history c.answer-answered.new.pass) c.next.new.self.text) (sym e.number) (e.bye o)) e.lines,
@@ -75,7 +75,7 @@ returns-then-not-is_open-clause-talked g c =
         i.talks.0 ++ c.answer-answered.new.out.text,
         e.texts i.talks.0 i.talks.1,
         ends_by_bye c.args.reader.now.limit (lines_in (history c.loop-pass.pass) c.loop-pass.seat) i.talks.0 c.loop-pass.reader c.next.new.self _ _ _ _ _ _ i.talks.2 written
-            (lines_in (history c.answer-answered.new.pass) c.answer-answered.new.seat) (i.talks.0 ++ c.answer-answered.new.out.text) c.answer-answered.new.out.text _ _ c.answer-answered.ensures.left (c.next.ensures.whole (search rules)) e.lines refl few (c.answer-answered.ensures.written (search rules))
+            (lines_in (history c.answer-answered.new.pass) c.answer-answered.new.seat) (i.talks.0 ++ c.answer-answered.new.out.text) c.answer-answered.new.out.text _ _ c.answer-answered.ensures.left (c.next.ensures.whole (search rules)) (c.next.ensures.whole_line (search rules)) e.lines refl few (c.answer-answered.ensures.written (search rules))
             (search rules) (c.next.ensures.whole_kept (search rules)),
       ),
       left_so (history c.answer-answered.new.pass) (places c.answer-answered.new.pass) c.answer-answered.new.seat c.answer-answered.result.is_open _ _ e.seated e.over
