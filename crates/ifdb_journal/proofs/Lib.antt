@@ -2,6 +2,6 @@ mod Scan
 mod Spell
 mod Append
 mod Start
-mod Images
+pub mod Images
 mod Take
 mod Gather
