@@ -1,0 +1,10 @@
+mod ScriptLines
+mod Numbers
+mod Flags
+mod Batches
+mod Progress
+mod Ended
+mod Resuming
+mod Taking
+mod Acknowledging
+mod Following
