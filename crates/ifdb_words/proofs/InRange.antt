@@ -1,16 +1,22 @@
 -- The numbers of a command are within their ranges.
 use Rattle.std.proofs.Common.{◌≡◌, ℕ, ◌≤◌, ◌^◌, ◌&&◌, Bool, true, false, refl, sym, subst, arith, List, [], ◌∷◌, Option, Some, None, codes, if◌then◌else◌}
-use Rattle.std.specs.Prelude.{nat_le, option_and_then, option_map, Result, Ok, Err, IfOk}
+use Rattle.std.specs.Prelude.{nat_le, option_and_then, option_map, Result, Ok, Err, IfOk, IfSome}
 use Rattle.std.specs.Str.{bytes_eq}
 use Rattle.std.proofs.lemmas.Bool.Decides.{nat_tests}
 use Rattle.ifdb_words.specs.declared.command.Command.{Command}
 use Rattle.ifdb_words.specs.declared.command.Command.TheVariants.{Run}
+use Rattle.ifdb_words.specs.declared.keep.Keep.{Keep}
+use Rattle.ifdb_words.specs.declared.project.Project.{Project}
+use Rattle.ifdb_words.specs.FileName.{file_name_of}
 use Rattle.ifdb_words.specs.Generate.{counts_for, generation_in, is_flag, script_for, size_of}
-use Rattle.ifdb_words.specs.Limit.{limit_of}
+use Rattle.ifdb_words.specs.Keep.{keep_in, keep_names, keep_of, keep_with}
+use Rattle.ifdb_words.specs.Level.{level_of}
+use Rattle.ifdb_words.specs.Limit.{limit_in, limit_names, limit_of}
 use Rattle.ifdb_words.specs.Numbers.{up_to, needed_to, number_of, number_or, number_to}
 use Rattle.ifdb_words.specs.Options.{Use, uses_of, values_of}
-use Rattle.ifdb_words.specs.Ranges.{IsWithin}
-use Rattle.ifdb_words.specs.Run.{run_names, run_of}
+use Rattle.ifdb_words.specs.Project.{project_in, project_names, project_of, project_with}
+use Rattle.ifdb_words.specs.Ranges.{IsLimit, IsWithin}
+use Rattle.ifdb_words.specs.Run.{run_in}
 use Rattle.ifdb_words.specs.Serve.{links_of, port_of, serve_in, serve_names, serve_of, serve_with, workers_of}
 use Rattle.ifdb_words.specs.Words.{command_in}
 use Rattle.ifdb_words.proofs.Basics.{none_some, some_is}
@@ -45,15 +51,69 @@ default_in : (default most : ℕ) (word : Option (List ℕ)) (m : ℕ) → Withi
 default_in default most None m within e = subst (Within most) (some_is default m e) within
 default_in default most (Some word) m within e = number_in most word m e
 
-limit_in : (values : List ℕ → Option (List ℕ)) (n : ℕ) → limit_of values ≡ Some n → Within (2 ^ 40) n
-limit_in values n e = default_in (2 ^ 30) (2 ^ 40) (values (codes "limit")) n (omega arith, omega arith) e
+limit_within : (values : List ℕ → Option (List ℕ)) (n : ℕ) → limit_of values ≡ Some n → Within (2 ^ 40) n
+limit_within values n e = default_in (2 ^ 30) (2 ^ 40) (values (codes "limit")) n (omega arith, omega arith) e
 
-run_values : (values : List ℕ → Option (List ℕ)) → IsWithin (run_of values)
-run_values values = go (limit_of values) refl
+limit_values : (values : List ℕ → Option (List ℕ)) → IfSome (limit_of values) IsLimit
+limit_values values = go (limit_of values) refl
   where
-    go : (o : Option ℕ) → limit_of values ≡ o → IsWithin (option_map Run o)
+    go : (o : Option ℕ) → limit_of values ≡ o → IfSome o IsLimit
     go None e = tt
-    go (Some n) e = limit_in values n e
+    go (Some n) e = limit_within values n e
+
+limit_words : (uses : Option (List Use)) → IfSome (option_and_then (λ (uses : List Use). limit_of (values_of uses)) uses) IsLimit
+limit_words None = tt
+limit_words (Some uses) = limit_values (values_of uses)
+
+pub limit_in_range : (words : List (List ℕ)) (o : Option ℕ) → o ≡ limit_in words → IfSome o IsLimit
+limit_in_range words o is = subst (λ (o : Option ℕ). IfSome o IsLimit) (sym is) (limit_words (uses_of limit_names words))
+
+run_within : (words : List (List ℕ)) → IsWithin (run_in words)
+run_within words = go (limit_in words) (limit_in_range words (limit_in words) refl)
+  where
+    go : (o : Option ℕ) → IfSome o IsLimit → IsWithin (option_map Run o)
+    go None within = tt
+    go (Some n) within = within
+
+abbrev HasLimit : Project → Type 0
+HasLimit p = IsLimit p.limit
+
+project_values : (values : List ℕ → Option (List ℕ)) → IfSome (project_of values) HasLimit
+project_values values = go (option_and_then level_of (values (codes "tags"))) (limit_of values) (limit_values values)
+  where
+    go : (level : Option (List ℕ)) (limit : Option ℕ) → IfSome limit IsLimit → IfSome (project_with level limit) HasLimit
+    go None limit within = tt
+    go (Some level) None within = tt
+    go (Some level) (Some limit) within = within
+
+project_words : (uses : Option (List Use)) → IfSome (option_and_then (λ (uses : List Use). project_of (values_of uses)) uses) HasLimit
+project_words None = tt
+project_words (Some uses) = project_values (values_of uses)
+
+pub project_in_range : {E : Type 0} (words : List (List ℕ)) (r : Result (Option Project) E) → IfOk r (λ p. p ≡ project_in words)
+    → IfOk r (λ p. IfSome p (λ p. IsLimit p.limit))
+project_in_range words (Ok p) is = subst (λ (p : Option Project). IfSome p HasLimit) (sym is) (project_words (uses_of project_names words))
+project_in_range words (Err e) is = tt
+
+abbrev KeepsWithin : Keep → Type 0
+KeepsWithin k = IsLimit k.limit
+
+keep_values : (values : List ℕ → Option (List ℕ)) → IfSome (keep_of values) KeepsWithin
+keep_values values = go (option_and_then file_name_of (values (codes "file"))) (limit_of values) (limit_values values)
+  where
+    go : (file : Option (List ℕ)) (limit : Option ℕ) → IfSome limit IsLimit → IfSome (keep_with file limit) KeepsWithin
+    go None limit within = tt
+    go (Some file) None within = tt
+    go (Some file) (Some limit) within = within
+
+keep_words : (uses : Option (List Use)) → IfSome (option_and_then (λ (uses : List Use). keep_of (values_of uses)) uses) KeepsWithin
+keep_words None = tt
+keep_words (Some uses) = keep_values (values_of uses)
+
+pub keep_in_range : {E : Type 0} (words : List (List ℕ)) (r : Result (Option Keep) E) → IfOk r (λ k. k ≡ keep_in words)
+    → IfOk r (λ k. IfSome k (λ k. IsLimit k.limit))
+keep_in_range words (Ok k) is = subst (λ (k : Option Keep). IfSome k KeepsWithin) (sym is) (keep_words (uses_of keep_names words))
+keep_in_range words (Err e) is = tt
 
 serve_values : (values : List ℕ → Option (List ℕ)) → IsWithin (serve_of values)
 serve_values values = go (port_of values) (workers_of values) (links_of values) (limit_of values) refl refl refl refl
@@ -67,7 +127,7 @@ serve_values values = go (port_of values) (workers_of values) (links_of values) 
       port = needed_in 65535 (values (codes "port")) p ep;
       workers = default_in 4 64 (values (codes "workers")) w (omega arith, omega arith) ew;
       links = default_in 1000000 1000000 (values (codes "links")) l (omega arith, omega arith) el;
-      limit = limit_in values i ei;
+      limit = limit_within values i ei;
     }
 
 -- what is asked for by the uses that were read
@@ -99,7 +159,7 @@ generation_within (word ∷ other ∷ third ∷ words) = tt
 command_within : (words : List (List ℕ)) → IsWithin (command_in words)
 command_within [] = tt
 command_within (word ∷ words) =
-    either (bytes_eq word (codes "run")) _ _ (by_uses run_of (uses_of run_names words) run_values)
+    either (bytes_eq word (codes "run")) _ _ (run_within words)
     (either (bytes_eq word (codes "serve")) _ _ (by_uses serve_of (uses_of serve_names words) serve_values)
     (either (bytes_eq word (codes "generate")) _ None (generation_within words) tt))
 

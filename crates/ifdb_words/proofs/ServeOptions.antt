@@ -1,6 +1,5 @@
 -- What clap makes of the options of `serve`.
-use Rattle.std.proofs.Common.{◌≡◌, ◌∙◌, ◌||◌, not, Bool, true, false, true≢false, refl, sym, ap, subst, is_some, inl, inr, List, [], ◌∷◌, Option, Some, None, codes}
-use Rattle.std.specs.Prelude.{option_and_then}
+use Rattle.std.proofs.Common.{◌≡◌, ◌∙◌, Bool, true, false, true≢false, refl, ap, is_some, List, [], ◌∷◌, Option, Some, None, codes}
 use Rattle.clap.specs.Words.{App, Text, built, is_simple, found_of, first_value, is_simple_and_free}
 use Rattle.clap.specs.Walk.{nothing_held, rows_after}
 use Rattle.clap.specs.Faults.{level_fault}
@@ -10,15 +9,15 @@ use Rattle.clap.proofs.OnLiterals.{clap_on_literals}
 use Rattle.clap.proofs.FaultLemmas.{leaf_fault}
 use Rattle.ifdb_words.specs.declared.command.Command.{Command}
 use Rattle.ifdb_words.specs.Clap.{IsTaken, serve_app}
-use Rattle.ifdb_words.specs.Options.{Use, is_used, value_of, values_of}
+use Rattle.ifdb_words.specs.Options.{Use, value_of, values_of}
 use Rattle.ifdb_words.specs.Numbers.{needed_to}
 use Rattle.ifdb_words.specs.Limit.{limit_of}
-use Rattle.ifdb_words.specs.Serve.{serve_in, serve_of, serve_with, workers_of, links_of}
+use Rattle.ifdb_words.specs.Serve.{links_of, serve_in, serve_of, serve_with, workers_of}
 use Rattle.ifdb_words.proofs.Held.{shape}
 use Rattle.ifdb_words.proofs.Values.{serve_same}
 use Rattle.ifdb_words.proofs.Reader.{lacks}
-use Rattle.ifdb_words.proofs.Rows.{unused_value}
-use Rattle.ifdb_words.proofs.Taken.{HasOptions, taken, refused}
+use Rattle.ifdb_words.proofs.Taken.{HasOptions}
+use Rattle.ifdb_words.proofs.ByOptions.{taken_as, refused_as, left_out}
 
 abbrev options : List (Text × Bool)
 options = (codes "port", true) ∷ (codes "workers", false) ∷ (codes "links", false) ∷ (codes "limit", false) ∷ []
@@ -49,18 +48,12 @@ has_options = record {
 -- words that clap takes
 pub serve_taken : (a : App) (words : List Text) (m : ArgMatches) (r : Option Command) → a ≡ serve_app → IsTaken a words (Some m)
     → r ≡ serve_of (first_value (found_of m)) → r ≡ serve_in words
-serve_taken a words m r same is result =
-    let t = taken options serve_app words m has_options (subst (λ (a : App). IsTaken a words (Some m)) same is) in
-    result ∙ serve_same (first_value (found_of m)) (values_of t.0) t.2 ∙ sym (ap (option_and_then (λ (uses : List Use). serve_of (values_of uses))) t.1)
+serve_taken a words m r same is result = result ∙ taken_as options serve_app has_options serve_of serve_same a words m same is
 
--- without a port nothing is asked for
-portless : (uses : List Use) → lacks options uses ≡ true → serve_of (values_of uses) ≡ None
-portless uses lacking = go (value_of (codes "port") uses) (unused_value (codes "port") uses (unused (is_used (codes "port") uses) lacking))
+-- nothing is asked for without `--port`
+without : (uses : List Use) → lacks options uses ≡ true → serve_of (values_of uses) ≡ None
+without uses lacking = go (value_of (codes "port") uses) (left_out (codes "port") uses lacking)
   where
-    unused : (b : Bool) → (not b || false) ≡ true → b ≡ false
-    unused true e = absurd (true≢false (sym e))
-    unused false e = refl
-
     go : (port : Option Text) → port ≡ None
         → serve_with (needed_to 65535 port) (workers_of (values_of uses)) (links_of (values_of uses)) (limit_of (values_of uses)) ≡ None
     go None none = refl
@@ -68,7 +61,4 @@ portless uses lacking = go (value_of (codes "port") uses) (unused_value (codes "
 
 -- words that it refuses
 pub serve_refused : (a : App) (words : List Text) → a ≡ serve_app → IsTaken a words None → None ≡ serve_in words
-serve_refused a words same is = elim (refused options serve_app words has_options (subst (λ (a : App). IsTaken a words None) same is)) [
-  | inl none ↦ sym (ap (option_and_then (λ (uses : List Use). serve_of (values_of uses))) none)
-  | inr lacking ↦ sym (ap (option_and_then (λ (uses : List Use). serve_of (values_of uses))) lacking.1 ∙ portless lacking.0 lacking.2)
-]
+serve_refused a words same is = refused_as options serve_app has_options serve_of without a words same is

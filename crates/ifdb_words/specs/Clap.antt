@@ -17,12 +17,18 @@ bared a = record { top = record a.top { no_binary_name = true; disable_help_flag
 abbrev pub bare_app : List ℕ → App
 bare_app name = bared (new_app name)
 
-abbrev pub run_app : App
-run_app = with_rule (bare_app (codes "run")) (option_of (codes "limit") false)
+abbrev pub limit_app : App
+limit_app = with_rule (bare_app (codes "limit")) (option_of (codes "limit") false)
 
 abbrev pub serve_app : App
 serve_app = with_rule (with_rule (with_rule (with_rule (bare_app (codes "serve")) (option_of (codes "port") true))
     (option_of (codes "workers") false)) (option_of (codes "links") false)) (option_of (codes "limit") false)
+
+abbrev pub project_app : App
+project_app = with_rule (with_rule (bare_app (codes "project")) (option_of (codes "tags") true)) (option_of (codes "limit") false)
+
+abbrev pub keep_app : App
+keep_app = with_rule (with_rule (bare_app (codes "keep")) (option_of (codes "file") true)) (option_of (codes "limit") false)
 
 -- a word that begins with a hyphen and is no option, as `-`, `--` and `-x`
 abbrev pub is_stray : List ℕ → Bool

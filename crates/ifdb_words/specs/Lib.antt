@@ -1,8 +1,13 @@
 pub mod Clap
+pub mod FileName
+pub mod First
 pub mod Generate
+pub mod Keep
+pub mod Level
 pub mod Limit
 pub mod Numbers
 pub mod Options
+pub mod Project
 pub mod Ranges
 pub mod Run
 pub mod Serve

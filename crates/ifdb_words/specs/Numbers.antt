@@ -1,13 +1,20 @@
 -- Numbers in words.
-use Rattle.std.specs.Prelude.{ℕ, ◌&&◌, nat_lt, nat_le, List, length, Option, Some, None, option_and_then, if◌then◌else◌}
+use Rattle.std.specs.Prelude.{ℕ, ◌&&◌, Bool, nat_lt, nat_le, List, length, Option, Some, None, option_and_then, if◌then◌else◌}
 use Rattle.std.specs.List.{list_all}
 use Rattle.std.specs.Str.Parse.{digits_value}
 use Rattle.std.specs.Char.{is_ascii_digit}
 
+-- it is 1 to so many digits
+abbrev pub is_number : ℕ → List ℕ → Bool
+is_number most word = nat_lt 0 (length word) && nat_le (length word) most && list_all is_ascii_digit word
+
+-- a number of 1 to so many digits
+abbrev pub decimal_of : ℕ → List ℕ → Option ℕ
+decimal_of most word = if is_number most word then Some (digits_value 10 word) else None
+
 -- a number of 1 to 13 digits
 abbrev pub number_of : List ℕ → Option ℕ
-number_of word =
-    if nat_lt 0 (length word) && nat_lt (length word) 14 && list_all is_ascii_digit word then Some (digits_value 10 word) else None
+number_of word = decimal_of 13 word
 
 -- the number, if it is from 1 to this
 abbrev pub up_to : ℕ → ℕ → Option ℕ

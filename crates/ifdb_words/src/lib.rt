@@ -2,9 +2,14 @@
 #![tactic(auto)]
 
 mod command;
+mod file_name;
 mod generate;
+mod keep;
+mod level;
+mod limit;
 mod numbers;
 mod options;
+mod project;
 mod run;
 mod serve;
 mod service;
@@ -12,5 +17,10 @@ mod service;
 mod tests;
 
 pub use command::{Command, Text, command_of};
+pub use file_name::FileName;
+pub use keep::{Keep, keep_in};
+pub use level::Level;
+pub use limit::limit_in;
+pub use project::{Project, project_in};
 pub use service::Service;
 pub use std::alloc::AllocError as OutOfMemory;

@@ -1,8 +1,8 @@
 // Numbers in words.
-ghost use Rattle.std.specs.Prelude.{◌≡◌, ◌<◌, option_map};
+ghost use Rattle.std.specs.Prelude.{◌≡◌, ◌≤◌, option_map};
 ghost use Rattle.std.specs.Char.{is_ascii_digit};
 ghost use Rattle.std.specs.List.{list_all};
-ghost use Rattle.ifdb_words.specs.Numbers.{needed_to, number_of, number_or, number_to};
+ghost use Rattle.ifdb_words.specs.Numbers.{decimal_of, needed_to, number_of, number_or, number_to};
 
 /// The most digits of a number.
 const MOST_DIGITS: usize = 13;
@@ -37,11 +37,19 @@ fn number_to(most: u64, word: &str) -> Option<u64>
 }
 
 /// The number that 1 to 13 digits write.
-#[tactic(auto, using(crate::proofs::Digits::number_read, crate::proofs::Digits::number_too_long, crate::proofs::Digits::number_of_others))]
 pub fn number_of(word: &str) -> Option<u64>
     ensures { result ≡ number_of word.now }
 {
-    if word.len() > MOST_DIGITS || !are_digits(word.as_bytes()) {
+    decimal_of(MOST_DIGITS, word)
+}
+
+/// The number that 1 to `most` digits write, at most 19.
+#[tactic(auto, using(crate::proofs::Digits::number_read, crate::proofs::Digits::number_too_long, crate::proofs::Digits::number_of_others))]
+pub fn decimal_of(most: usize, word: &str) -> Option<u64>
+    requires { most ≤ 19 }
+    ensures { result ≡ decimal_of most word.now }
+{
+    if word.len() > most || !are_digits(word.as_bytes()) {
         return None;
     }
     word.parse().ok()

@@ -5,9 +5,9 @@ ghost use Rattle.ifdb_words.specs.Clap.{serve_app};
 ghost use Rattle.ifdb_words.specs.Serve.{port_of, serve_in, serve_of, workers_of};
 
 use crate::command::Command;
+use crate::limit::limit_of;
 use crate::numbers::{needed_to, number_or};
 use crate::options::{bare_command, option, taken};
-use crate::run::limit_of;
 use crate::service::Service;
 use clap::ArgMatches;
 use std::alloc::{AllocError as OutOfMemory, Global};

@@ -1,0 +1,6 @@
+-- Names of files in words.
+use Rattle.std.specs.Prelude.{ℕ, ◌&&◌, List, length, nat_le, Option, Some, None, if◌then◌else◌}
+
+-- the name that a word is: of 1 to 255 bytes
+abbrev pub file_name_of : List ℕ → Option (List ℕ)
+file_name_of word = if nat_le 1 (length word) && nat_le (length word) 255 then Some word else None
