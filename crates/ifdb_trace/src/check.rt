@@ -1,5 +1,5 @@
 // The check of a trace.
-ghost use Rattle.std.specs.Prelude.{◌≡◌, ◌+◌, ◌<◌, ◌≤◌, ◌^◌, [], false, ℕ, List};
+ghost use Rattle.std.specs.Prelude.{◌≡◌, ◌≢◌, ◌+◌, ◌<◌, ◌≤◌, ◌^◌, [], false, ℕ, List};
 ghost use Rattle.ifdb_io.specs.Causes.{Rose};
 ghost use Rattle.ifdb_trace.specs.Checked.{CheckedWhole, CheckedWrong, CheckedPast};
 ghost use Rattle.ifdb_trace.specs.Checking.{Due, first_dues};
@@ -39,6 +39,7 @@ pub fn check_trace<R: Source>(alloc: Global, input: &mut R, limit: u64) -> Trace
     ensures read { result ≡ TraceEnd.ReadFault → Rose (R.faults input.old) (R.faults input.new) }
     ensures too_large { result ≡ TraceEnd.TooLarge
         → CheckedPast limit (R.left input.old) (R.left input.new) }
+    ensures unfailed { result ≢ TraceEnd.ReadFault → R.faults input.new ≡ R.faults input.old }
     ensures later { R.faults input.old ≤ R.faults input.new }
 {
     let Ok(mut reader) = LineReader::new(alloc, limit) else {
@@ -68,6 +69,7 @@ fn check_lines<R: Source>(reader: &mut LineReader, checker: &mut Checker, input:
     ensures read { result ≡ TraceEnd.ReadFault → Rose (R.faults input.old) (R.faults input.new) }
     ensures too_large { result ≡ TraceEnd.TooLarge
         → CheckedPast reader.old.limit (R.left input.old) (R.left input.new) }
+    ensures unfailed { result ≢ TraceEnd.ReadFault → R.faults input.new ≡ R.faults input.old }
     ensures later { R.faults input.old ≤ R.faults input.new }
 {
     let mut count = 0;

@@ -1,5 +1,5 @@
 // A script's projection to a level.
-ghost use Rattle.std.specs.Prelude.{◌≡◌, ◌+◌, ◌≤◌, ◌^◌, ◌++◌, ◌∷◌, [], false, IfOk, OnOk, OnErr, length};
+ghost use Rattle.std.specs.Prelude.{◌≡◌, ◌≢◌, ◌+◌, ◌≤◌, ◌^◌, ◌++◌, ◌∷◌, [], false, IfOk, OnOk, OnErr, length};
 ghost use Rattle.std.specs.Io.KnownBytes.{Appends};
 ghost use Rattle.ifdb_io.specs.Causes.{HasCause, Rose, WritesShort};
 ghost use Rattle.ifdb_wire.specs.Script.{asked_by};
@@ -96,6 +96,7 @@ pub fn project<R: Source, W: Sink>(
     ensures memory_front { result ≡ ProjectEnd.OutOfMemory
         → ProjectedCut limit level.now (R.left input.old) (R.left input.new)
         (W.written output.old) (W.written output.new) }
+    ensures unfailed { result ≢ ProjectEnd.ReadFault → R.faults input.new ≡ R.faults input.old }
     ensures input_later { R.faults input.old ≤ R.faults input.new }
     ensures output_later { W.faults output.old ≤ W.faults output.new }
 {
@@ -142,6 +143,7 @@ fn project_lines<R: Source, W: Sink>(
     ensures memory_front { result ≡ ProjectEnd.OutOfMemory
         → ProjectedCut reader.old.limit level.now (R.left input.old) (R.left input.new)
         (W.written output.old) (W.written output.new) }
+    ensures unfailed { result ≢ ProjectEnd.ReadFault → R.faults input.new ≡ R.faults input.old }
     ensures input_later { R.faults input.old ≤ R.faults input.new }
     ensures output_later { W.faults output.old ≤ W.faults output.new }
 {

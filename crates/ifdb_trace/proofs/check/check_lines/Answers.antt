@@ -1,4 +1,5 @@
-use Rattle.std.proofs.Common.{◌≡◌, ◌≤◌, ◌+◌, refl, sym, ap, subst, ◌∙◌, arith}
+use Rattle.std.proofs.Common.{◌≡◌, ◌≤◌, ◌+◌, refl, sym, ap, subst, ◌∙◌, arith, true≢false}
+use Rattle.std.specs.Prelude.{Result, Ok, Err, is_ok}
 use Rattle.ifdb_io.specs.Lines.{Reading}
 use Rattle.ifdb_trace.specs.Checking.{behind}
 use Rattle.ifdb_trace.specs.Checked.{CheckedWrong}
@@ -6,6 +7,9 @@ use Rattle.ifdb_trace.specs.Stages.{IsEndOf}
 use Rattle.ifdb_db.specs.Reading.{read_line}
 use Rattle.ifdb_trace.proofs.Judging.{Judged, judged_none, judged_few, judged_line, wrong_line, wrong_long, end_accepted, end_refused, rest_wrong, rest_accepted, rest_refused, past_at, refused_is}
 use Rattle.ifdb_trace.proofs.check.check_lines.Goals as goal
+
+not_err : {A E : Type 0} (x : A) (e : E) → Ok x ≡ Err e → ⊥
+not_err x e same = true≢false (ap (λ (r : Result _ _). is_ok r) same)
 
 pub lines-init : goal.lines-init
 lines-init g c =
@@ -18,6 +22,7 @@ lines-init g c =
       few = omega arith;
       within = omega (arith, ap (λ (reader : Reading). reader.taken) c.requires.fresh);
       later = omega arith;
+      unfailed = refl;
     }
 
 pub returns-in-Err-TooMuch-clause-too_large : goal.returns-in-Err-TooMuch-clause-too_large
@@ -111,6 +116,7 @@ lines-preserved g c =
       few = omega (arith, few, within);
       within = within;
       later = omega (arith, e.later, c.lines.invariant.later);
+      unfailed = e.unfailed (not_err _ _) ∙ c.lines.invariant.unfailed;
     }
 
 pub returns-in-Err-Wrong-take-clause-refused : goal.returns-in-Err-Wrong-take-clause-refused

@@ -12,6 +12,7 @@ invariant-lines g l = record {
   few : l.count ≤ l.fn.reader.limit;
   within : l.reader.taken ≤ l.fn.reader.limit;
   later : g.R.Source.faults l.fn.input ≤ g.R.Source.faults l.input;
+  unfailed : g.R.Source.faults l.input ≡ g.R.Source.faults l.fn.input;
 }
 
 abbrev pub decreases-lines : goal.decreases-lines

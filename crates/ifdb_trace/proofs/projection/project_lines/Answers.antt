@@ -14,6 +14,7 @@ lines-init g c =
       goes = ap (λ (reader : Reading). reader.over) c.requires.fresh;
       limit = refl;
       input_later = omega arith;
+      unfailed = refl;
       output_later = omega arith;
     }
 
@@ -68,6 +69,7 @@ lines-preserved-in-Ok-project_line g c =
       goes = e.over;
       limit = e.limit ∙ c.lines.invariant.limit;
       input_later = omega (arith, e.later, c.lines.invariant.input_later);
+      unfailed = e.unfailed (λ q. cc) ∙ c.lines.invariant.unfailed;
       output_later = omega (arith, c.in-Ok-project_line.ensures.later, c.lines.invariant.output_later);
     }
 
@@ -107,5 +109,6 @@ lines-preserved g c =
       goes = e.over;
       limit = e.limit ∙ c.lines.invariant.limit;
       input_later = omega (arith, e.later, c.lines.invariant.input_later);
+      unfailed = e.unfailed (λ q. cc) ∙ c.lines.invariant.unfailed;
       output_later = omega (arith, c.in_default.ensures.cause.later, c.lines.invariant.output_later);
     }

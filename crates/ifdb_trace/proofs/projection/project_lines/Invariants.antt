@@ -10,6 +10,7 @@ invariant-lines g l = record {
   goes : l.reader.over ≡ false;
   limit : l.reader.limit ≡ l.fn.reader.limit;
   input_later : g.R.Source.faults l.fn.input ≤ g.R.Source.faults l.input;
+  unfailed : g.R.Source.faults l.input ≡ g.R.Source.faults l.fn.input;
   output_later : g.W.Sink.faults l.fn.output ≤ g.W.Sink.faults l.output;
 }
 
