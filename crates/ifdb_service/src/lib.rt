@@ -11,4 +11,5 @@ mod workers;
 
 pub use doors::{Ended, Unserved, serve_doors};
 pub use end::ServiceEnd;
+pub use numbered_line::write_numbered;
 pub use service::serve;

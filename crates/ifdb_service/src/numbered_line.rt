@@ -9,11 +9,7 @@ use itoa::Buffer;
 
 /// Writes a name, a space and a number, on a line. After `Failed` a front of it that lacks at least the last byte was written.
 /// Takes no memory.
-pub(crate) fn write_numbered<W: Sink>(
-    output: &mut W,
-    name: &[u8],
-    number: u64,
-) -> Result<(), Failed>
+pub fn write_numbered<W: Sink>(output: &mut W, name: &[u8], number: u64) -> Result<(), Failed>
     ensures ok { OnOk result (Appends (W.written output.old) (W.written output.new)
         (numbered_line name.now number)) }
     ensures err { OnErr result (WritesShort (W.written output.old) (W.written output.new)
