@@ -1,0 +1,78 @@
+// The files of the system, by their paths.
+ghost use Rattle.std.specs.Prelude.{◌≡◌, None};
+
+use crate::FileDisk;
+use ifdb_disk::Shelf;
+use ifdb_io::Failed;
+use std::fs::File;
+use std::io;
+use std::io::ErrorKind;
+use std::path::Path;
+use std::rt::Files;
+
+/// The files of the system. A name is a path, as the system has it.
+///
+/// `open` makes the file where there is none, and syncs the folder, so that its entry is there after
+/// a crash. It locks the file against each other program that opens it so, up to `close` or the end
+/// of the program. It fails, and the count of the shelf's faults rises, where one of these fails: the
+/// file or its folder can't be opened, or another program has the lock.
+#[derive(Drop)]
+pub struct FileShelf<'a, R> {
+    rt: &'a R,
+    failed: u64,
+}
+
+impl<'a, R> FileShelf<'a, R> {
+    /// The files of this system.
+    pub fn new(rt: &'a R) -> Self
+        ensures { result.failed ≡ 0 }
+    {
+        FileShelf { rt, failed: 0 }
+    }
+}
+
+// Opens a file that no other program has, and that is there after a crash.
+fn open_alone<R: Files<File = File>>(rt: &R, name: &str) -> io::Result<File> {
+    let file = File::options()
+        .read(true)
+        .write(true)
+        .create(true)
+        .open(rt, name)?;
+    if file.try_lock().is_err() {
+        return Err(io::Error::from(ErrorKind::WouldBlock));
+    }
+    folder_of(rt, name)?.sync_all()?;
+    Ok(file)
+}
+
+// The folder that a path's entry stands in.
+fn folder_of<R: Files<File = File>>(rt: &R, name: &str) -> io::Result<File> {
+    match Path::new(name).parent() {
+        Some(folder) if !folder.as_str().is_empty() => File::open(rt, folder),
+        _ => File::open(rt, "."),
+    }
+}
+
+impl<'a, R: Files<File = File>> Shelf for FileShelf<'a, R> {
+    ghost use Rattle.std.specs.Prelude.{None};
+
+    type Disk = FileDisk;
+
+    ghost tells = { λ _. None };
+
+    ghost faults = { λ shelf. shelf.failed };
+
+    fn open(&mut self, name: &str) -> Result<FileDisk, Failed> {
+        match open_alone(self.rt, name) {
+            Ok(file) => Ok(FileDisk::new(file)),
+            Err(_) => {
+                self.failed = self.failed.saturating_add(1);
+                Err(Failed)
+            }
+        }
+    }
+
+    fn close(&mut self, disk: FileDisk) {
+        let _ = disk;
+    }
+}

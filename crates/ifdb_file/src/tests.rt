@@ -1,0 +1,37 @@
+// A file that is written, synced and opened again.
+use crate::{FileDisk, FileShelf};
+use ifdb_disk::{Disk, Shelf};
+use ifdb_io::Failed;
+use std::fs;
+use std::test::Fail;
+
+// What a disk holds, up to 16 bytes, read behind its length.
+fn holds(disk: &mut FileDisk, want: &[u8]) -> Result<bool, Failed> {
+    let mut buf = [0; 16];
+    let count = disk.read(0, &mut buf)?;
+    let size = disk.len()?;
+    Ok(count <= 16 && &buf[..count] == want && size == want.len() as u64)
+}
+
+#[test]
+fn written_and_opened_again(rt: HostRuntime) -> Result<(), Fail> {
+    let mut shelf = FileShelf::new(&rt);
+    let mut disk = shelf.open("journal")?;
+    assert!(rt; holds(&mut disk, b"")?);
+    disk.write(0, b"abcdef")?;
+    disk.sync()?;
+    disk.write(2, b"XY")?;
+    disk.write(6, b"gh")?;
+    disk.sync()?;
+    assert!(rt; holds(&mut disk, b"abXYefgh")?);
+    assert_eq!(rt; disk.write((1 << 62) - 1, b"z"), Err(Failed));
+    // Another one that opens it is refused.
+    assert!(rt; shelf.open("journal").is_err());
+    shelf.close(disk);
+    let mut again = shelf.open("./journal")?;
+    assert!(rt; holds(&mut again, b"abXYefgh")?);
+    shelf.close(again);
+    assert!(rt; shelf.open("nowhere/journal").is_err());
+    fs::remove_file(&rt, "journal")?;
+    Ok(())
+}
