@@ -1,0 +1,2 @@
+mod projected;
+mod traces;
