@@ -1,0 +1,5 @@
+mod damage;
+mod long;
+mod rows;
+mod stops;
+mod support;
