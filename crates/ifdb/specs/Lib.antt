@@ -1,3 +1,9 @@
+pub mod Base
+pub mod Check
+pub mod Keep
+pub mod More
+pub mod Project
 pub mod Status
 pub mod Texts
+pub mod Usage
 pub mod Words

@@ -2,22 +2,30 @@
 #![tactic(auto)]
 
 mod adapters;
+mod check;
+mod keep;
+mod more;
+mod project;
 #[cfg(test)]
 mod tests;
 mod top;
 
 use adapters::{Reading, Writing};
+use ifdb_file::FileShelf;
 use ifdb_net::TcpSite;
+use ifdb_service::write_numbered;
+use more::{MoreStatus, top_more};
 use std::io;
 use std::process::ExitCode;
-use top::{Status, top};
+use top::Status;
 
-// Hands the program's words, standard input and output, and this machine's ports to the top call.
+// Hands the program's words, standard input and output, and this machine's ports and files to the top call. Tells on standard error
+// where a journal is damaged.
 fn main(rt: HostRuntime) -> ExitCode {
     let words = match words(&rt) {
         Ok(words) => words,
         Err(error) if error.kind() == io::ErrorKind::OutOfMemory => {
-            return ExitCode::from(Status::OutOfMemory as u8);
+            return ExitCode::from(MoreStatus::Base(Status::OutOfMemory).exit_code());
         }
         // A word that is no text asks for nothing that the program does.
         Err(_) => Vec::new(rt.alloc()),
@@ -25,7 +33,14 @@ fn main(rt: HostRuntime) -> ExitCode {
     let mut input = Reading::new(rt.stdin());
     let mut output = Writing::new(rt.stdout());
     let mut site = TcpSite::new(&rt, rt.alloc());
-    ExitCode::from(top(&rt, &words, &mut input, &mut output, &mut site) as u8)
+    let mut shelf = FileShelf::new(&rt);
+    let end = top_more(&rt, &words, &mut input, &mut output, &mut site, &mut shelf);
+    if let MoreStatus::Damaged(at) = end {
+        let mut errors = Writing::new(rt.stderr());
+        // Where this fails too the status says it alone.
+        let _ = write_numbered(&mut errors, b"ifdb: the journal is damaged at byte", at);
+    }
+    ExitCode::from(end.exit_code())
 }
 
 // The program's words, without its name.

@@ -4,14 +4,18 @@ ghost use Rattle.std.specs.Prelude.{◌≡◌, ◌<◌};
 mod ends;
 mod faults;
 mod generate;
+mod keeps;
 mod rows;
 mod serve;
 mod spellings;
 mod statements;
+mod traces;
 mod transactions;
 mod worlds;
 
 use super::*;
+use crate::top::top;
+use ifdb_disk::{MemoryDisk, MemoryShelf};
 use ifdb_io::{MemoryLink, MemorySink, MemorySite, MemorySource};
 use std::alloc::{AllocGlobal, Global};
 use std::marker::Sync;
@@ -93,6 +97,38 @@ fn call<R: AllocGlobal + Threads + Wait + Sync>(
     let status = top(rt, &words, &mut input, &mut output, site);
     let written = Vec::from_slice(rt.alloc(), output.bytes())?;
     Ok(Ran { status, written })
+}
+
+// How a call of the program ended by words that only `top_more` knows, and what was written for it.
+#[derive(Drop)]
+struct EndedMore {
+    end: MoreStatus,
+    written: Vec<u8>,
+}
+
+// Calls the program with these words over an input, a site without doors, and a shelf with an empty disk.
+fn ended_more<R: AllocGlobal + Threads + Wait + Sync>(
+    rt: &R,
+    words: &str,
+    bytes: &[u8],
+    calls: (Calls, Calls),
+) -> Result<EndedMore, Fail>
+    requires { (0 < calls.0.piece) × (0 < calls.1.piece) }
+{
+    let (reads, writes) = calls;
+    let words = words_of(rt.alloc(), words)?;
+    let mut input = source(rt.alloc(), bytes, reads)?;
+    let mut output = sink(rt.alloc(), writes)?;
+    let mut site = MemorySite::<MemoryLink>::new(
+        rt.alloc(),
+        Vec::new(rt.alloc()),
+        Vec::new(rt.alloc()),
+    );
+    let disk = MemoryDisk::new(rt.alloc(), Vec::new(rt.alloc()), 0, 0, Vec::new(rt.alloc()))?;
+    let mut shelf = MemoryShelf::new(disk, Vec::new(rt.alloc()));
+    let end = top_more(rt, &words, &mut input, &mut output, &mut site, &mut shelf);
+    let written = Vec::from_slice(rt.alloc(), output.bytes())?;
+    Ok(EndedMore { end, written })
 }
 
 // Calls the program with these words over a script, and a site without doors.

@@ -1,16 +1,14 @@
 // The one call that does all that the program does.
-ghost use Rattle.std.specs.Prelude.{◌≡◌, ◌≢◌, ◌+◌, ◌^◌, ◌≤◌, ◌⊎◌, ℕ, List, IfOk};
+ghost use Rattle.std.specs.Prelude.{◌≡◌, ◌≢◌, ◌^◌, ◌≤◌, ℕ, List, IfOk};
 ghost use Rattle.ifdb_io.specs.Causes.{Rose};
 ghost use Rattle.ifdb_generate.specs.Script.{script};
 ghost use Rattle.ifdb_script.specs.Rehearsal.{rehearsed, rehearsed_text};
-ghost use Rattle.ifdb_script.specs.Run.{RanWhole, RanFront, RanPast, RanCut, CutsDontMatter, IsToldByBytes, IsFramedRun, KeepsLevels};
+ghost use Rattle.ifdb_script.specs.Run.{RanWhole, RanFront, RanPast, RanCut};
 ghost use Rattle.ifdb_service.specs.Site.{GivesNone, IsCut, IsDone, IsUnserved};
 ghost use Rattle.ifdb_words.specs.Ranges.{IsService};
-ghost use Rattle.ifdb_words.specs.Words.{command_of};
-ghost use Rattle.ifdb_words.specs.declared.service.Service.{Service as ServiceWords};
-ghost use Rattle.ifdb.specs.Status.{EndsWell, IsMade, IsRunEnd, IsServeEnd, IsUsage};
-ghost use Rattle.ifdb.specs.Texts.{IsWritten, text_for, text_of};
-ghost use Rattle.ifdb.specs.Words.{IsRefused, IsRun, IsServe, IsText, NeedsNoInput, NeedsNoSite, usage_line};
+ghost use Rattle.ifdb.specs.Base.{DoesBase};
+ghost use Rattle.ifdb.specs.Status.{IsMade, IsRunEnd, IsServeEnd, IsUsage};
+ghost use Rattle.ifdb.specs.Texts.{IsWritten, text_of};
 
 use ifdb_generate::{OutOfMemory, Size, generate};
 use ifdb_io::{Failed, Sink, Site, Source, write_all};
@@ -54,87 +52,27 @@ pub fn top<T: AllocGlobal + Threads + Wait + Sync, R: Source, W: Sink, S: Site>(
     output: &mut W,
     site: &mut S,
 ) -> Status
-    // The script's output.
-    ensures done { (limit : ℕ) → IsRun limit words.now → result ≡ Status.Done → RanWhole limit
-        (R.left input.old) (R.left input.new) (W.written output.old) (W.written output.new) }
-    ensures told_by_bytes { (limit : ℕ) → IsRun limit words.now → result ≡ Status.Done
-        → IsToldByBytes limit
-        (R.left input.old) (R.left input.new) (W.written output.old) (W.written output.new) }
-    ensures framed { (limit : ℕ) → IsRun limit words.now → result ≡ Status.Done
-        → IsFramedRun limit
-        (R.left input.old) (R.left input.new) (W.written output.old) (W.written output.new) }
-    ensures cuts { CutsDontMatter }
-    ensures two_worlds { (limit : ℕ) → IsRun limit words.now → result ≡ Status.Done
-        → KeepsLevels limit
-        (R.left input.old) (R.left input.new) (W.written output.old) (W.written output.new) }
-
-    // Faults of a script, and what was written before them.
-    ensures read { result ≡ Status.ReadFault → Rose (R.faults input.old) (R.faults input.new) }
-    ensures read_front { (limit : ℕ) → IsRun limit words.now → result ≡ Status.ReadFault
-        → RanFront limit
-        (R.left input.old) (R.left input.new) (W.written output.old) (W.written output.new) }
-    ensures write { result ≡ Status.WriteFault → Rose (W.faults output.old) (W.faults output.new) }
-    ensures write_front { (limit : ℕ) → IsRun limit words.now → result ≡ Status.WriteFault
-        → RanCut limit
-        (R.left input.old) (R.left input.new) (W.written output.old) (W.written output.new) }
-    ensures too_large { (limit : ℕ) → IsRun limit words.now → result ≡ Status.TooLarge
-        → RanPast limit
-        (R.left input.old) (R.left input.new) (W.written output.old) (W.written output.new) }
-    ensures memory { NeedsNoSite words.now → result ≡ Status.OutOfMemory
-        → (input.new ≡ input.old) × (output.new ≡ output.old) }
-    ensures complete { ¬ IsRefused words.now → ¬ Rose (R.faults input.old) (R.faults input.new)
-        → ¬ Rose (W.faults output.old) (W.faults output.new)
-        → ¬ Rose (S.faults site.old) (S.faults site.new)
-        → result ≢ Status.TooLarge → EndsWell result }
-
-    // The service.
-    ensures served { (s : ServiceWords) → IsServe s words.now → result ≡ Status.Done
-        → IsDone S.Site S.Door.Door S.Door.Link.Source S.Door.Link.Sink W.Sink s
-        site.old site.new output.old output.new }
-    ensures served_cut { (s : ServiceWords) → IsServe s words.now → result ≡ Status.WriteFault
-        → IsCut S.Site S.Door.Door S.Door.Link.Source S.Door.Link.Sink W.Sink s
-        site.old site.new output.old output.new }
-    ensures unserved { (s : ServiceWords) → IsServe s words.now → result ≡ Status.OutOfMemory
-        → ((site.new ≡ site.old) × (output.new ≡ output.old))
-        ⊎ IsUnserved S.Site S.Door.Door S.Door.Link.Source S.Door.Link.Sink W.Sink s
-        site.old site.new output.old output.new }
-    ensures site { result ≡ Status.SiteFault → Rose (S.faults site.old) (S.faults site.new) }
-    ensures no_doors { (s : ServiceWords) → IsServe s words.now → result ≡ Status.SiteFault
-        → GivesNone S.Site s site.old site.new × (output.new ≡ output.old) }
-    ensures serve_ends { (s : ServiceWords) → IsServe s words.now → IsServeEnd result }
-
-    // Other words.
-    ensures usage { result ≡ Status.Usage → IsRefused words.now }
-    ensures refused { IsRefused words.now → IsUsage result }
-    ensures text { IsText words.now → IsWritten (text_for (command_of words.now)) result
-        (W.written output.old) (W.written output.new) }
-    ensures other_input { NeedsNoInput words.now → input.new ≡ input.old }
-    ensures other_site { NeedsNoSite words.now → site.new ≡ site.old }
-
-    // What is so at every end.
-    ensures unfailed { result ≢ Status.ReadFault → R.faults input.new ≡ R.faults input.old }
-    ensures input_later { R.faults input.old ≤ R.faults input.new }
-    ensures output_later { W.faults output.old ≤ W.faults output.new }
-    ensures site_later { S.faults site.old ≤ S.faults site.new }
+    ensures { DoesBase R.Source W.Sink S.Site S.Door.Door S.Door.Link.Source S.Door.Link.Sink
+        words.now input.old input.new output.old output.new site.old site.new result }
 {
     match command_of(rt.alloc(), words) {
         Ok(Some(Command::Run { limit })) => run(rt.alloc(), input, output, limit),
         Ok(Some(Command::Serve(service))) => serve(rt, output, site, service),
         Ok(Some(Command::Write(text))) => write_text(rt.alloc(), output, text),
-        Ok(None) => write_usage(output),
+        Ok(None) => write_usage(output, USAGE),
         Err(_) => Status::OutOfMemory,
     }
 }
 
-/// Writes the usage line.
-fn write_usage<W: Sink>(output: &mut W) -> Status
+/// Writes a usage line.
+pub(crate) fn write_usage<W: Sink>(output: &mut W, line: &str) -> Status
     ensures ends { IsUsage result }
-    ensures text { IsWritten usage_line result (W.written output.old) (W.written output.new) }
+    ensures text { IsWritten line.now result (W.written output.old) (W.written output.new) }
     ensures write { result ≡ Status.WriteFault → Rose (W.faults output.old) (W.faults output.new) }
     ensures memory { result ≢ Status.OutOfMemory }
     ensures later { W.faults output.old ≤ W.faults output.new }
 {
-    match write_all(output, USAGE.as_bytes()) {
+    match write_all(output, line.as_bytes()) {
         Ok(()) => Status::Usage,
         Err(Failed) => Status::WriteFault,
     }

@@ -1,0 +1,18 @@
+-- What is written for words that begin with a command and aren't well formed.
+use Rattle.std.specs.Prelude.{◌≡◌, ℕ, List}
+use Rattle.ifdb_io.specs.Causes.{Rose}
+use Rattle.ifdb_io.specs.declared.outside.Sink as sink
+use Rattle.ifdb.specs.declared.top.Status.TheVariants as status
+use Rattle.ifdb.specs.declared.more.MoreStatus.{MoreStatus}
+use Rattle.ifdb.specs.declared.more.MoreStatus.TheVariants.{Base}
+use Rattle.ifdb.specs.More.{OnBase}
+use Rattle.ifdb.specs.Status.{IsUsage}
+use Rattle.ifdb.specs.Texts.{IsWritten}
+
+module _ {I O : Type 0} (outputs : sink.Ghosts O) where
+  -- the usage line was to be written, or there was no memory to read the words; the input is as it was
+  pub record TellsUsage (line : List ℕ) (input input' : I) (output output' : O) (end : MoreStatus) : Type 0 where
+    pub ends : OnBase end IsUsage
+    pub written : OnBase end (λ s. IsWritten line s (outputs.written output) (outputs.written output'))
+    pub write : end ≡ Base status.WriteFault → Rose (outputs.faults output) (outputs.faults output')
+    pub input_is : input' ≡ input
