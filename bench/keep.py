@@ -1,7 +1,7 @@
 #!/usr/bin/env python3
 """Times scripts over a journal, on the built program. Run it at the top of the repository, after ./ifdb build.
 
-    bench/keep.py [--steps N] [--records N] [--rounds N] [FOLDER ..]
+    bench/keep.py [--steps N] [--records N] [--rounds N] [FOLDER ..]      IFDB names another program than crates/ifdb/out/ifdb
 
 In each FOLDER (else in this one and in /dev/shm): INSERTs of one row, each kept for itself, in the same rounds beside SQLite with
 journal_mode=WAL and synchronous=FULL and one INSERT a transaction. Both read their statements as a text from a pipe. Then a journal
@@ -17,7 +17,7 @@ import subprocess
 import tempfile
 import time
 
-PROGRAM = os.path.abspath("crates/ifdb/out/ifdb")
+PROGRAM = os.path.abspath(os.environ.get("IFDB", "crates/ifdb/out/ifdb"))
 BEGIN = "OPEN\n1 HELLO admin KEY 'admin'\n1 CREATE TABLE note (id INT, body TEXT, PRIMARY KEY (id))\n"
 GATE, KIND_OPEN, KIND_ASK = b"\x01", b"\x01", b"\x02"
 

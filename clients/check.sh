@@ -1,6 +1,6 @@
 #!/usr/bin/env bash
-# Tests what runs outside the kit, over the built program: the client, the shell, the stored dialogues, the clinic, and
-# recorded runs of the example scripts.
+# Tests what runs outside the kit, over the built program: the client, the shell, the stored dialogues, the clinic, recorded
+# runs of the example scripts, and journals in files.
 #
 #   clients/check.sh      the variable IFDB names another program than crates/ifdb/out/ifdb
 #
@@ -28,5 +28,6 @@ python3 -m unittest discover -s clients/python || status=$FAILED
 python3 clients/python/dialogue.py examples/session.dialogue examples/clinic/roles.dialogue || status=$FAILED
 python3 examples/clinic/check.py || status=$FAILED
 python3 examples/traces.py || status=$FAILED
+python3 examples/kept.py || status=$FAILED
 if ((status == 0)); then echo "clients/check.sh: all passed"; else echo "clients/check.sh: something failed" >&2; fi
 exit $status

@@ -1,0 +1,68 @@
+#!/usr/bin/env python3
+"""Runs the worked scripts of a journal over real files, by the built program: what is written, how long the file is, the status and
+standard error, and that what stands before a damaged byte goes on as a journal. Prints how many calls were as they should be.
+
+    examples/kept.py      the variable IFDB names another program than crates/ifdb/out/ifdb
+"""
+import os
+import subprocess
+import sys
+import tempfile
+from pathlib import Path
+
+from record import PROGRAM
+
+IFDB = os.environ.get("IFDB", PROGRAM[0])
+HERE = Path(__file__).resolve().parent
+FIRST, REPLIES = (HERE / "kept.script").read_text(), (HERE / "kept.replies").read_text()
+LOOK = "OPEN\n1 HELLO admin KEY 'admin'\n1 SELECT id FROM note\n"
+FOUND = "1 OPEN\n1 OK\n1 ROWS 1 1\n1 1\n"
+
+
+def kept(file, script):
+    """The status, the replies, standard error, and the length of the file."""
+    done = subprocess.run([IFDB, "keep", "--file", file], input=script, capture_output=True, text=True, check=False)
+    return done.returncode, done.stdout, done.stderr, os.path.getsize(file) if os.path.exists(file) else None
+
+
+def front(file, byte, copy):
+    with open(copy, "wb") as out:
+        subprocess.run([HERE / "journal_front.sh", file, str(byte)], stdout=out, check=True)
+    return copy
+
+
+def calls(folder):
+    """What each call was to give, and what it gave."""
+    file, damaged, copy = (os.path.join(folder, name) for name in ("journal", "damaged", "copy"))
+    yield (0, REPLIES, "", 211), kept(file, FIRST)
+    yield (0, FOUND, "", 276), kept(file, LOOK)
+    # The gate behind the records of both scripts is opened, and nothing stands behind it.
+    Path(damaged).write_bytes(Path(file).read_bytes()[:-1] + b"\1")
+    yield (8, "", "ifdb: the journal is damaged at byte 275\n", 276), kept(damaged, LOOK)
+    yield (0, FOUND, "", 276 + 65), kept(front(damaged, 275, copy), LOOK)
+    Path(damaged).write_bytes(b"\1\11\0")
+    yield (8, "", "ifdb: the journal is damaged at byte 0\n", 3), kept(damaged, FIRST)
+    yield (7, "", "", None), kept(os.path.join(folder, "nowhere", "journal"), FIRST)
+    with subprocess.Popen([IFDB, "keep", "--file", file], stdin=subprocess.PIPE, stdout=subprocess.PIPE) as holder:
+        holder.stdin.write(b"OPEN\n")
+        holder.stdin.flush()
+        holder.stdout.readline()  # (it has the file now)
+        status, replies, errors, _ = kept(file, LOOK)
+        yield (7, "", ""), (status, replies, errors)
+        holder.stdin.close()
+
+
+def main():
+    count = wrong = 0
+    with tempfile.TemporaryDirectory(prefix="ifdb-kept-") as folder:
+        for wanted, found in calls(folder):
+            count += 1
+            if found != wanted:
+                wrong += 1
+                print(f"{found!r} in place of {wanted!r}")
+    print(f"journals: {count} calls, {wrong} wrong")
+    return 1 if wrong else 0
+
+
+if __name__ == "__main__":
+    sys.exit(main())
