@@ -1,10 +1,12 @@
 #!/usr/bin/env python3
 """Runs the worked scripts of a journal over real files, by the built program: what is written, how long the file is, the status and
-standard error, and that what stands before a damaged byte goes on as a journal. Prints how many calls were as they should be.
+standard error, that what stands before a damaged byte goes on as a journal, and that a disk that is full loses nothing that was
+answered. Prints how many calls were as they should be.
 
     examples/kept.py      the variable IFDB names another program than crates/ifdb/out/ifdb
 """
 import os
+import resource
 import subprocess
 import sys
 import tempfile
@@ -31,6 +33,16 @@ def front(file, byte, copy):
     return copy
 
 
+def full(file, size):
+    """How many INSERTs are answered where the file can't grow past a size, the status, and how many rows the next start finds."""
+    script = FIRST[: FIRST.index("1 BEGIN")] + "".join(f"1 INSERT INTO note VALUES ({i})\n" for i in range(2, 1000))
+    done = subprocess.run(
+        [IFDB, "keep", "--file", file], input=script, capture_output=True, text=True, check=False, restore_signals=False,
+        preexec_fn=lambda: resource.setrlimit(resource.RLIMIT_FSIZE, (size, size)))
+    _, replies, _, _ = kept(file, LOOK.replace(" id ", " COUNT(*) "))
+    return done.returncode, done.stdout.count("OK 1"), int(replies.split()[-1])
+
+
 def calls(folder):
     """What each call was to give, and what it gave."""
     file, damaged, copy = (os.path.join(folder, name) for name in ("journal", "damaged", "copy"))
@@ -42,6 +54,8 @@ def calls(folder):
     yield (0, FOUND, "", 276 + 65), kept(front(damaged, 275, copy), LOOK)
     Path(damaged).write_bytes(b"\1\11\0")
     yield (8, "", "ifdb: the journal is damaged at byte 0\n", 3), kept(damaged, FIRST)
+    status, answered, found = full(os.path.join(folder, "full"), 10_000)
+    yield (7, True, True), (status, 100 < answered < 998, found == answered)
     yield (7, "", "", None), kept(os.path.join(folder, "nowhere", "journal"), FIRST)
     with subprocess.Popen([IFDB, "keep", "--file", file], stdin=subprocess.PIPE, stdout=subprocess.PIPE) as holder:
         holder.stdin.write(b"OPEN\n")

@@ -1,11 +1,12 @@
 #!/usr/bin/env python3
 """Refuses each request for memory of the built program in turn, on each example, and looks at what it answers.
 
-Where no memory was there to begin with, it has to end with status 4 and write nothing. Else each step is answered as if the steps
-that were told error 20 weren't in the script, and those are told nothing else. Run it at the top of the repository, with the
-program built and a C compiler there:
+`run` and `keep`: where no memory was there to begin with, it has to end with status 4 and write nothing. Else each step is answered
+as if the steps that were told error 20 weren't in the script, and those are told nothing else; and the next `keep` over the file
+goes on. `check` of the recorded run accepts it, or ends with status 4 and writes nothing. `project` writes what it writes with all
+memory, or a front of that and ends with status 4. Run it at the top of the repository, with the program built and a C compiler there:
 
-    examples/refusals.py [SCRIPT..]
+    examples/refusals.py [SCRIPT..]       the variable IFDB names another program than crates/ifdb/out/ifdb
 """
 import os
 import pathlib
@@ -13,17 +14,19 @@ import subprocess
 import sys
 import tempfile
 
+from record import recorded
+
 HERE = pathlib.Path(__file__).resolve().parent
-PROGRAM = HERE.parent / "crates/ifdb/out/ifdb"
+PROGRAM = os.environ.get("IFDB", str(HERE.parent / "crates/ifdb/out/ifdb"))
 NO_MEMORY = 4
 
 
-def run(script, shim=None, refuse=None):
-    """Runs a script, with one request refused, and returns its status, what it wrote, and what it said."""
+def run(words, text, shim=None, refuse=None):
+    """Runs words over an input, with one request refused, and returns their status, what they wrote, and what they said."""
     env = dict(os.environ)
     if shim:
         env.update(LD_PRELOAD=str(shim), REFUSE=str(refuse))
-    ran = subprocess.run([PROGRAM, "run"], input=script, capture_output=True, env=env, check=False)
+    ran = subprocess.run([PROGRAM, *words], input=text, capture_output=True, env=env, check=False)
     return ran.returncode, ran.stdout, ran.stderr
 
 
@@ -44,10 +47,10 @@ def replies_of(written):
 
 
 def is_refused(reply):
-    return reply.split(b" ", 1)[1] == b"ERR 20 OutOfMemory\n"
+    return reply.split(b" ", 1)[1:] == [b"ERR 20 OutOfMemory\n"]
 
 
-def fault_in(script, status, written):
+def fault_of_script(script, status, written):
     """What is wrong with how a script was answered, or None."""
     if status == NO_MEMORY:
         return "there was no memory, and something was written" if written else None
@@ -57,9 +60,44 @@ def fault_in(script, status, written):
     if len(steps) != len(replies):
         return f"{len(steps)} steps have {len(replies)} replies"
     kept = b"".join(step for step, reply in zip(steps, replies) if not is_refused(reply))
-    if run(kept)[1] != b"".join(it for it in replies if not is_refused(it)):
+    if run(["run"], kept)[1] != b"".join(it for it in replies if not is_refused(it)):
         return "others than the refused steps are answered otherwise"
     return None
+
+
+class Word:
+    """What a word of the program is given, and what is wrong with what it answers."""
+
+    def __init__(self, name, words, text, fault, file=None):
+        self.name, self.words, self.text, self.fault, self.file = name, words, text, fault, file
+
+    def call(self, shim, refuse):
+        if self.file:
+            self.file.unlink(missing_ok=True)
+        return run(self.words, self.text, shim, refuse)
+
+    def fault_at(self, shim, number):
+        """The status, whether error 20 was told, and the fault."""
+        status, written, _ = self.call(shim, number)
+        fault = self.fault(self.text, status, written)
+        if not fault and self.file and run(self.words, b"")[0]:
+            fault = "the journal can't be read back"
+        return status, status == 0 and any(map(is_refused, replies_of(written))), fault
+
+
+def words_of(path, folder):
+    """The words that are tried on a script."""
+    script = path.read_bytes()
+    trace = b"".join(recorded(script.splitlines(keepends=True), [PROGRAM, "run"]))
+    level = ["project", "--tags", "none"]
+    whole = run(level, script)[1]
+    file = folder / "journal"
+    return [
+        Word("run", ["run"], script, fault_of_script),
+        Word("keep", ["keep", "--file", str(file)], script, fault_of_script, file),
+        Word("check", ["check"], trace, lambda text, status, written: None if (status, written) in [(0, b"ACCEPTED\n"), (NO_MEMORY, b"")] else f"status {status}, {written!r}"),
+        Word("project", level, script, lambda text, status, written: None if (status == 0 and written == whole) or (status == NO_MEMORY and whole.startswith(written)) else f"status {status}"),
+    ]
 
 
 def main(names):
@@ -67,19 +105,20 @@ def main(names):
     with tempfile.TemporaryDirectory() as work:
         shim = pathlib.Path(work) / "refuse.so"
         subprocess.run(["cc", "-O1", "-shared", "-fPIC", "-o", shim, HERE / "refuse.c", "-ldl"], check=True)
-        faults = 0
+        faults = requests = 0
         for path in scripts:
-            script = path.read_bytes()
-            count, told, before = int(run(script, shim, 0)[2]), 0, 0
-            for number in range(1, count + 1):
-                status, written, _ = run(script, shim, number)
-                before += status == NO_MEMORY
-                told += status == 0 and any(map(is_refused, replies_of(written)))
-                fault = fault_in(script, status, written)
-                if fault:
-                    faults += 1
-                    print(f"{path.name}: request {number}: {fault}")
-            print(f"{path.name}: {count} requests refused in turn; {before} ended it before the first read, {told} were told as error 20")
+            for word in words_of(path, pathlib.Path(work)):
+                count, told, before = int(word.call(shim, 0)[2]), 0, 0
+                requests += count
+                for number in range(1, count + 1):
+                    status, is_told, fault = word.fault_at(shim, number)
+                    before += status == NO_MEMORY
+                    told += is_told
+                    if fault:
+                        faults += 1
+                        print(f"{word.name} {path.name}: request {number}: {fault}")
+                print(f"{word.name} {path.name}: {count} requests refused in turn; {before} ended with status 4, {told} were told as error 20", flush=True)
+    print(f"{requests} requests refused, {faults} faults")
     return 1 if faults else 0
 
 
