@@ -22,7 +22,7 @@ pub use name::{LONGEST_NAME, Name, NameFault, names_are_bounded};
 pub use sequence::Sequence;
 pub use shared::Shared;
 pub use std::alloc::AllocError as OutOfMemory;
-pub use value::{Compare, Value, ValueKind, ValueRow, ValueRows};
+pub use value::{Compare, TermKind, Value, ValueKind, ValueRow, ValueRows};
 pub use word::Word;
 
 #[cfg(test)]
