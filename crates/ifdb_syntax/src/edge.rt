@@ -10,7 +10,7 @@ pub enum Edge {
     Tight,
     /// COUNT, SUM, MIN or MAX: `(` follows without a space.
     Call,
-    /// A name, a number, a text or `)`: a `-` behind it subtracts, and a space stands before most lexemes.
+    /// A name, a number, a text, NULL or `)`: a `-` behind it subtracts, and a space stands before most lexemes.
     Operand,
     /// Any other: a `-` behind it is a literal's, and a space stands before most lexemes.
     Wide,
@@ -30,9 +30,11 @@ impl Edge {
                 Edge::Tight | Edge::Call | Edge::Wide => Edge::Tight,
             },
             Lexeme::Count | Lexeme::Sum | Lexeme::Min | Lexeme::Max => Edge::Call,
-            Lexeme::Close | Lexeme::Name(_) | Lexeme::Number(_) | Lexeme::Quoted(_) => {
-                Edge::Operand
-            }
+            Lexeme::Close
+            | Lexeme::Name(_)
+            | Lexeme::Number(_)
+            | Lexeme::Quoted(_)
+            | Lexeme::Null => Edge::Operand,
             _ => Edge::Wide,
         }
     }

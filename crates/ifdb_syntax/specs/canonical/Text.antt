@@ -29,6 +29,7 @@ edge_after before t.Close = edge.Operand
 edge_after before (t.Name name) = edge.Operand
 edge_after before (t.Number number) = edge.Operand
 edge_after before (t.Quoted text) = edge.Operand
+edge_after before t.Null = edge.Operand
 edge_after before _ = edge.Wide
 
 -- one space, which is 32, but none before `)`, `,` and `.`
