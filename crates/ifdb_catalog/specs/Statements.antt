@@ -1,15 +1,15 @@
 -- INSERT, UPDATE and DELETE: what they may name, which of their forms fit, and their bound trees.
-use Rattle.std.specs.Prelude.{ℕ, Bool, true, false, ◌&&◌, ◌==◌, List, [], ◌∷◌, map, length, slice_get, position, bytes_eq, Option}
+use Rattle.std.specs.Prelude.{ℕ, Bool, true, false, not, ◌&&◌, ◌==◌, List, [], ◌∷◌, map, length, slice_get, position, bytes_eq, Option}
 use Rattle.std.specs.Option.{is_some}
 use Rattle.std.specs.List.{list_all, list_any}
-use Rattle.ifdb_value.specs.Value.{kind_of}
+use Rattle.ifdb_value.specs.Value.{kind_of, is_null}
 use Rattle.ifdb_value.specs.declared.value.Value.{Value}
 use Rattle.ifdb_value.specs.declared.value.ValueKind.{ValueKind}
 use Rattle.ifdb_value.specs.declared.column.Column.{Column}
 use Rattle.ifdb_label.specs.Label.{reduce}
 use Rattle.ifdb_syntax.specs.declared.request.Assignment.{Assignment}
 use Rattle.ifdb_bound.specs.Expressions.{value_at}
-use Rattle.ifdb_bound.specs.Kinds.{same_kind, agree, expr_kind}
+use Rattle.ifdb_bound.specs.Kinds.{takes, accepts, expr_kind}
 use Rattle.ifdb_bound.specs.declared.request.BoundAssignment.{BoundAssignment}
 use Rattle.ifdb_bound.specs.declared.schema.Schema.{Schema}
 use Rattle.ifdb_catalog.specs.Public.{Public, tags_of, tag_named, relation_named, table_named, table_at}
@@ -86,15 +86,27 @@ abbrev pub arranged : List Column → List (List ℕ) → List Value → List Va
 arranged columns [] row = row
 arranged columns (n ∷ names) row = map (λ (c : Column). value_at row (listed_at (n ∷ names) c.name)) columns
 
--- a value for each column, of its kind
+-- a value for each column, which takes it: NULL, or one of its kind
 abbrev pub values_fit : List ValueKind → List Value → Bool
 values_fit [] [] = true
-values_fit (k ∷ kinds) (v ∷ values) = same_kind k (kind_of v) && values_fit kinds values
+values_fit (k ∷ kinds) (v ∷ values) = takes k (kind_of v) && values_fit kinds values
 values_fit _ _ = false
 
--- a row has as many values as are wanted, and gives each column one of its kind
-abbrev pub row_fits : List Column → List (List ℕ) → List Value → Bool
-row_fits columns names row = (length row == wanted columns names) && values_fit (kinds_of columns) (arranged columns names row)
+-- the values at some places
+abbrev pub values_at : List Value → List ℕ → List Value
+values_at values places = map (value_at values) places
+
+-- none of the values is NULL
+abbrev pub are_given : List Value → Bool
+are_given values = list_all (λ v. not (is_null v)) values
+
+-- the values fill a row of the table: each column takes its one, and none of the primary key is NULL
+abbrev pub fills : Schema → List Value → Bool
+fills t values = values_fit (kinds_of t.columns) values && are_given (values_at values t.key)
+
+-- a row has as many values as are wanted, and fills one of the table
+abbrev pub row_fits : Schema → List (List ℕ) → List Value → Bool
+row_fits t names row = (length row == wanted t.columns names) && fills t (arranged t.columns names row)
 
 -- ---- UPDATE
 
@@ -110,11 +122,11 @@ assigns_key t a = list_any (λ place. place == place_at t.columns a.column) t.ke
 abbrev pub bound_assignment : List Column → Scope → Assignment → BoundAssignment
 bound_assignment columns scope a = record { column = place_at columns a.column; expr = bound_expr scope a.expr }
 
--- the expression gives the column's kind
+-- the column takes what the expression gives
 abbrev pub assignment_fits : List Column → List (List ValueKind) → BoundAssignment → Bool
-assignment_fits columns kinds a = agree (slice_get (kinds_of columns) a.column) (expr_kind kinds a.expr)
+assignment_fits columns kinds a = accepts (slice_get (kinds_of columns) a.column) (expr_kind kinds a.expr)
 
--- no column is assigned twice, and each is given its kind
+-- no column is assigned twice, and each takes what it is given
 abbrev pub assignments_fit : List Column → Scope → List Assignment → Bool
 assignments_fit columns scope assignments =
     are_distinct (map (λ (a : Assignment). a.column) assignments)
