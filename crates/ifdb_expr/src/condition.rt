@@ -1,8 +1,9 @@
 // Whether conditions hold.
-ghost use Rattle.std.specs.Prelude.{◌≡◌};
+ghost use Rattle.std.specs.Prelude.{◌≡◌, true};
 ghost use Rattle.std.specs.List.{list_all, list_any};
 ghost use Rattle.ifdb_bound.specs.Query.{values_of};
-ghost use Rattle.ifdb_bound.specs.Conditions.{holds, compares, operand_value};
+ghost use Rattle.ifdb_bound.specs.Truth.{comes_to};
+ghost use Rattle.ifdb_bound.specs.Conditions.{truth, holds, compares, compared, null_test, operand_value};
 ghost use Rattle.ifdb_expr.specs.ByReference.{owned};
 
 use crate::frame::Frame;
@@ -11,52 +12,99 @@ use ifdb_bound::{BoundCond, BoundOperand};
 use ifdb_value::Compare;
 use std::cmp::Ordering;
 
-/// Whether a condition holds of the rows. Takes no memory.
-#[cycle(holds)]
-#[tactic(auto, using(ifdb_bound::proofs::Meanings::meanings))]
+/// Whether a condition is True of the rows. Takes no memory.
+#[tactic(auto, using(crate::proofs::Deciding::holds_is))]
 pub fn holds(cond: &BoundCond, frame: &Frame<'_>) -> bool
     ensures { result ≡ holds (values_of frame.now) cond.now }
 {
+    comes_to(cond, true, frame)
+}
+
+/// Whether a condition is True of the rows, or, where False is wanted, False. What is unknown is neither, so NOT asks for
+/// the other of the two.
+#[cycle(holds)]
+#[tactic(auto, using(ifdb_bound::proofs::Meanings::truths))]
+fn comes_to(cond: &BoundCond, wanted: bool, frame: &Frame<'_>) -> bool
+    ensures { result ≡ comes_to wanted (truth (values_of frame.now) cond.now) }
+{
     match cond {
-        BoundCond::Or(members) => some_holds(members.items(), frame),
-        BoundCond::And(members) => all_hold(members.items(), frame),
-        BoundCond::Not(inner) => !holds(inner.get(), frame),
-        BoundCond::Compare { left, how, right } => compare_holds(left, *how, right, frame),
+        BoundCond::Or(members) => {
+            if wanted {
+                some_come_to(members.items(), wanted, frame)
+            } else {
+                all_come_to(members.items(), wanted, frame)
+            }
+        }
+        BoundCond::And(members) => {
+            if wanted {
+                all_come_to(members.items(), wanted, frame)
+            } else {
+                some_come_to(members.items(), wanted, frame)
+            }
+        }
+        BoundCond::Not(inner) => comes_to(inner.get(), !wanted, frame),
+        BoundCond::Compare { left, how, right } => {
+            compare_comes_to(left, *how, right, wanted, frame)
+        }
+        BoundCond::IsNull {
+            operand: tested,
+            negated,
+        } => { null_test_comes_to(tested, *negated, wanted, frame) }
     }
 }
 
-/// Whether some condition of a list holds.
+/// Whether some condition of a list comes to what is wanted.
 #[cycle(holds)]
-fn some_holds(conds: &[BoundCond], frame: &Frame<'_>) -> bool
-    ensures { result ≡ list_any (holds (values_of frame.now)) conds.now }
+fn some_come_to(conds: &[BoundCond], wanted: bool, frame: &Frame<'_>) -> bool
+    ensures { result
+        ≡ list_any (λ cond. comes_to wanted (truth (values_of frame.now) cond)) conds.now }
 {
     for cond in conds {
-        if holds(cond, frame) {
+        if comes_to(cond, wanted, frame) {
             return true;
         }
     }
     false
 }
 
-/// Whether each condition of a list holds.
+/// Whether each condition of a list comes to what is wanted.
 #[cycle(holds)]
-fn all_hold(conds: &[BoundCond], frame: &Frame<'_>) -> bool
-    ensures { result ≡ list_all (holds (values_of frame.now)) conds.now }
+fn all_come_to(conds: &[BoundCond], wanted: bool, frame: &Frame<'_>) -> bool
+    ensures { result
+        ≡ list_all (λ cond. comes_to wanted (truth (values_of frame.now) cond)) conds.now }
 {
     for cond in conds {
-        if !holds(cond, frame) {
+        if !comes_to(cond, wanted, frame) {
             return false;
         }
     }
     true
 }
 
-/// Whether a comparison holds of the rows.
-fn compare_holds(left: &BoundOperand, how: Compare, right: &BoundOperand, frame: &Frame<'_>) -> bool
-    ensures { result ≡ compares how (operand_value (values_of frame.now) left.now)
-        (operand_value (values_of frame.now) right.now) }
+/// Whether a comparison comes to what is wanted; with NULL it comes to neither.
+fn compare_comes_to(
+    left: &BoundOperand,
+    how: Compare,
+    right: &BoundOperand,
+    wanted: bool,
+    frame: &Frame<'_>,
+) -> bool
+    ensures { result ≡ comes_to wanted (compared how (operand_value (values_of frame.now) left.now)
+        (operand_value (values_of frame.now) right.now)) }
 {
-    compares(how, operand(left, frame), operand(right, frame))
+    let left = operand(left, frame);
+    let right = operand(right, frame);
+    if left.is_null() || right.is_null() {
+        return false;
+    }
+    compares(how, left, right) == wanted
+}
+
+/// Whether IS NULL, or IS NOT NULL where it is negated, comes to what is wanted.
+fn null_test_comes_to(tested: &BoundOperand, negated: bool, wanted: bool, frame: &Frame<'_>) -> bool
+    ensures { result ≡ comes_to wanted (null_test negated (operand_value (values_of frame.now) tested.now)) }
+{
+    (operand(tested, frame).is_null() != negated) == wanted
 }
 
 /// The value of an operand.

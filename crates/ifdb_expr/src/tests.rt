@@ -48,6 +48,34 @@ fn values_end_at_64_bits(rt: HostRuntime) -> Result<(), Fail> {
     Ok(())
 }
 
+/// NULL.
+fn null() -> BoundExpr {
+    BoundExpr::Literal(Value::Null)
+}
+
+/// Tests that an expression gives NULL on a row of one number.
+fn gives_null(rt: &impl Abort, expr: &BoundExpr, of: i64) {
+    let values = [Value::Int(of)];
+    let frame = Frame::empty().with(SeenRow {
+        values: &values,
+        label: &[],
+    });
+    assert!(rt; matches!(value(expr, &frame), Some(ValueRef::Null)));
+}
+
+#[test]
+fn out_of_range_wins_over_null(rt: HostRuntime) -> Result<(), Fail> {
+    let alloc = rt.alloc();
+    let more = BoundExpr::Add(Box::new(alloc, first())?, Box::new(alloc, number(1))?);
+    let beside = BoundExpr::Mul(Box::new(alloc, null())?, Box::new(alloc, more)?);
+    gives(&rt, &beside, i64::MAX, None);
+    gives_null(&rt, &beside, 0);
+    let nothing = BoundExpr::Sub(Box::new(alloc, first())?, Box::new(alloc, null())?);
+    let behind = BoundExpr::Add(Box::new(alloc, nothing)?, Box::new(alloc, number(1))?);
+    gives_null(&rt, &behind, i64::MAX);
+    Ok(())
+}
+
 #[test]
 fn a_text_is_copied(rt: HostRuntime) -> Result<(), Fail> {
     let alloc = rt.alloc();
@@ -104,5 +132,78 @@ fn a_condition_holds_of_two_rows(rt: HostRuntime) -> Result<(), Fail> {
     });
     assert!(rt; holds(&condition, &both));
     assert!(rt; !holds(&condition, &other));
+    Ok(())
+}
+
+/// Whether NULL compares so with a number, and whether it is known not to.
+fn null_compares(alloc: Global, how: Compare) -> Result<(bool, bool), Fail> {
+    let not = BoundCond::Not(Box::new(alloc, unknown(how))?);
+    Ok((
+        holds(&unknown(how), &Frame::empty()),
+        holds(&not, &Frame::empty()),
+    ))
+}
+
+#[test]
+fn a_comparison_with_null_is_neither(rt: HostRuntime) -> Result<(), Fail> {
+    let alloc = rt.alloc();
+    for how in [
+        Compare::Equal,
+        Compare::NotEqual,
+        Compare::Less,
+        Compare::AtMost,
+        Compare::Greater,
+        Compare::AtLeast,
+    ] {
+        let found = null_compares(alloc, how)?;
+        assert!(rt; found == (false, false));
+    }
+    Ok(())
+}
+
+/// NULL compared with 1, which is Unknown.
+fn unknown(how: Compare) -> BoundCond {
+    BoundCond::Compare {
+        left: BoundOperand::Literal(Value::Null),
+        how,
+        right: BoundOperand::Literal(Value::Int(1)),
+    }
+}
+
+/// `1 IS NULL`, or `1 IS NOT NULL` where it is negated.
+fn known(negated: bool) -> BoundCond {
+    BoundCond::IsNull {
+        operand: BoundOperand::Literal(Value::Int(1)),
+        negated,
+    }
+}
+
+/// Whether an AND or OR of an unknown part and a known one holds, and whether its NOT does.
+fn comes(alloc: Global, is_and: bool, part: bool) -> Result<(bool, bool), Fail> {
+    let mut found = (false, false);
+    for turned in [false, true] {
+        let mut parts = Sequence::single(alloc, unknown(Compare::Equal))?;
+        parts.push(known(part))?;
+        let chain = if is_and {
+            BoundCond::And(parts)
+        } else {
+            BoundCond::Or(parts)
+        };
+        if turned {
+            found.1 = holds(&BoundCond::Not(Box::new(alloc, chain)?), &Frame::empty());
+        } else {
+            found.0 = holds(&chain, &Frame::empty());
+        }
+    }
+    Ok(found)
+}
+
+#[test]
+fn one_part_decides_beside_an_unknown_one(rt: HostRuntime) -> Result<(), Fail> {
+    let alloc = rt.alloc();
+    assert!(rt; comes(alloc, true, true)? == (false, false));
+    assert!(rt; comes(alloc, true, false)? == (false, true));
+    assert!(rt; comes(alloc, false, true)? == (true, false));
+    assert!(rt; comes(alloc, false, false)? == (false, false));
     Ok(())
 }
