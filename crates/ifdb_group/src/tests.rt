@@ -81,6 +81,7 @@ fn are(rt: &impl Abort, alloc: Global, rows: &ValueRows, want: &[&str]) -> Resul
         let mut text = String::new(alloc);
         for value in row.items() {
             match value {
+                Value::Null => text.push_str("null ")?,
                 Value::Int(number) => write!(text, "{number} ")?,
                 Value::Text(word) => write!(text, "{} ", word.as_str())?,
             }
@@ -152,7 +153,81 @@ fn a_sum_is_judged_at_its_end(rt: HostRuntime) -> Result<(), Fail> {
     assert!(rt; matches!(beyond, Err(ExprFault::OutOfRange)));
     let mut none = ValueRows::new(alloc);
     none.push(total(alloc, &[])?.ok().ok_or("a sum")?)?;
-    are(&rt, alloc, &none, &["0 0 "])
+    are(&rt, alloc, &none, &["0 null "])
+}
+
+/// Rows of a number or NULL, and of a text or NULL.
+fn rows_with_null(alloc: Global) -> Result<ValueRows, OutOfMemory> {
+    let mut all = ValueRows::new(alloc);
+    all.push(row_of_two(alloc, Value::Null, Value::Null)?)?;
+    all.push(row_of_two(alloc, Value::Int(7), Value::Null)?)?;
+    all.push(row_of_two(alloc, Value::Null, Value::Text(Word::of(alloc, "a")?))?)?;
+    all.push(row_of_two(alloc, Value::Int(-9), Value::Null)?)?;
+    Ok(all)
+}
+
+fn row_of_two(alloc: Global, first: Value, second: Value) -> Result<ValueRow, OutOfMemory> {
+    let mut row = ValueRow::new(alloc);
+    row.push(first)?;
+    row.push(second)?;
+    Ok(row)
+}
+
+/// COUNT(*), and SUM, MIN and MAX of the first column and of the second.
+fn aggregates(alloc: Global) -> Result<BoundItems, OutOfMemory> {
+    let mut items = BoundItems::single(alloc, BoundItem::CountAll)?;
+    items.push(BoundItem::Sum(column(0)))?;
+    items.push(BoundItem::Min(column(0)))?;
+    items.push(BoundItem::Max(column(1)))?;
+    Ok(items)
+}
+
+#[test]
+fn null_is_left_out_of_sums_and_ends(rt: HostRuntime) -> Result<(), Fail> {
+    let alloc = rt.alloc();
+    let rows = rows_with_null(alloc)?;
+    let items = aggregates(alloc)?;
+    let mut sink = Sink::Total(Total::new(alloc, items.items())?);
+    give(&mut sink, rows.items(), &[])?;
+    let Sink::Total(total) = &sink else {
+        return Err(Fail::from("a total"));
+    };
+    let mut found = ValueRows::new(alloc);
+    found.push(total.row(alloc, &[]).ok().ok_or("a row")?)?;
+    are(&rt, alloc, &found, &["4 -2 -9 a "])
+}
+
+#[test]
+fn null_is_a_group_and_comes_first(rt: HostRuntime) -> Result<(), Fail> {
+    let alloc = rt.alloc();
+    let rows = rows_with_null(alloc)?;
+    let mut items = aggregates(alloc)?;
+    items.push(item(1))?;
+    let columns = [column(1)];
+    let found = grouped(alloc, rows.items(), items.items(), &columns)?;
+    are(
+        &rt,
+        alloc,
+        &found,
+        &["3 -2 -9 null null ", "1 null null a a "],
+    )?;
+    let falling = [
+        OrderKey {
+            place: 1,
+            descending: true,
+        },
+        OrderKey {
+            place: 0,
+            descending: false,
+        },
+    ];
+    let turned = sorted(&falling, rows_with_null(alloc)?)?;
+    are(
+        &rt,
+        alloc,
+        &turned,
+        &["null a ", "null null ", "-9 null ", "7 null "],
+    )
 }
 
 #[test]
