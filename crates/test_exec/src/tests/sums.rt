@@ -49,7 +49,8 @@ static CASES: [Case; 14] = [
     Case(Doubled, 1, Low, None),
     // A sum is of the rows that are kept, and is judged at its end.
     Case(Total, 2, Low, Some(&[1, 1])),
-    Case(Total, 4, Low, Some(&[0, 0])),
+    // That of no row is NULL, which is read as -1.
+    Case(Total, 4, Low, Some(&[0, -1])),
     Case(Total, 0, Low, None),
     Case(Total, 0, High, Some(&[4, -1])),
 ];

@@ -217,9 +217,10 @@ fn numbers(alloc: Global, rows: &ValueRows) -> Result<Vec<i64>, OutOfMemory> {
     Ok(all)
 }
 
-/// A number, or the length of a text.
+/// A number, or the length of a text, or -1 for NULL.
 fn number(value: &Value) -> i64 {
     match value {
+        Value::Null => -1,
         Value::Int(number) => *number,
         Value::Text(text) => i64::try_from(text.as_str().len()).unwrap_or(0),
     }
