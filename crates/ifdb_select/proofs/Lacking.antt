@@ -14,11 +14,6 @@ pub lacks_second : (f : Fault) (a b : Bool) → Lacks f b → Lacks f (a && b)
 lacks_second f true b h = h
 lacks_second f false b h = grind (arith)
 
--- a test fails where its second part does
-pub second_fails : (a b : Bool) → b ≡ false → a && b ≡ false
-second_fails true b h = h
-second_fails false b h = refl
-
 -- a request that lacks a name is refused for it
 pub refused : (f : Fault) (known : Bool) (r : Result Bound Fault) → Lacks f known → (known ≡ false → r ≡ Err UnknownName) → (f ≡ OutOfMemory) ⊎ (r ≡ Err f)
 refused f known r (inl h) k = inl h

@@ -12,7 +12,7 @@ mod statement;
 mod terms;
 
 pub use ifdb_catalog::OutOfMemory;
-pub use kinds::{agree, expr_kind, same_kind, where_fits};
+pub use kinds::{accepts, agree, expr_kind, have_one_kind, takes, where_fits};
 pub use named::{Named, are_distinct, place_named, times};
 pub use outputs::{OutputName, output_names};
 pub use queries::{bound_select, key_places, scope_of};

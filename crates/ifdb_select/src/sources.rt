@@ -13,7 +13,7 @@ use crate::kinds::item_kind;
 use crate::scope::ScopeSource;
 use ifdb_bound::{BoundItem, BoundSource, Relation, ViewDef};
 use ifdb_catalog::Catalog;
-use ifdb_value::{Column, Name, Sequence, TableId, ValueKind, ViewId};
+use ifdb_value::{Column, Name, Sequence, TableId, TermKind, ValueKind, ViewId};
 use ifdb_wire::Fault;
 use std::alloc::Global;
 
@@ -104,9 +104,19 @@ fn item_kinds(
 {
     let mut kinds = Sequence::new(alloc);
     for item in items {
-        kinds.push(item_kind(scope, item).unwrap_or(ValueKind::Int))?;
+        kinds.push(kind_or_int(item_kind(scope, item)))?;
     }
     Ok(kinds)
+}
+
+/// The one kind, or that of numbers where there is none.
+fn kind_or_int(term: Option<TermKind>) -> ValueKind
+    ensures { result ≡ kind_or kind.Int term }
+{
+    match term {
+        Some(TermKind::Of(kind)) => kind,
+        Some(TermKind::Any) | None => ValueKind::Int,
+    }
 }
 
 /// The tables of a view as sources, each spoken of by the view's name.

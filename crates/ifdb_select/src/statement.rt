@@ -81,18 +81,18 @@ fn items_stand(scope: &[ScopeSource<'_>], group: &[ColumnRef], items: &[Item]) -
     }
 }
 
-/// Whether, without GROUP BY, all items are COUNT(*) or none is an aggregate.
+/// Whether, without GROUP BY, all items are aggregates or none is one.
 fn stand_ungrouped(items: &[Item]) -> bool
     ensures { result ≡ stand_ungrouped items.now }
 {
-    are_counts(items) || !has_aggregate(items)
+    are_aggregates(items) || !has_aggregate(items)
 }
 
-/// Whether all items are COUNT(*).
-fn are_counts(items: &[Item]) -> bool
-    ensures { result ≡ list_all is_count items.now }
+/// Whether all items are aggregates.
+fn are_aggregates(items: &[Item]) -> bool
+    ensures { result ≡ list_all is_aggregate items.now }
 {
-    items.iter().all(|item| is_count(item))
+    items.iter().all(|item| is_aggregate(item))
 }
 
 /// Whether an item is COUNT(*).

@@ -79,6 +79,10 @@ fn bound_cond(alloc: Global, scope: &[ScopeSource<'_>], cond: &Cond) -> Result<B
                 right,
             })
         }
+        Cond::IsNull { operand, negated } => Ok(BoundCond::IsNull {
+            operand: bound_operand(alloc, scope, operand)?,
+            negated: *negated,
+        }),
     }
 }
 
