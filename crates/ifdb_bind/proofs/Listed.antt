@@ -7,9 +7,8 @@ use Rattle.std.proofs.lemmas.Bool.Decides.{nat_tests}
 use Rattle.ifdb_value.specs.declared.value.Value.{Value}
 use Rattle.ifdb_value.specs.declared.column.Column.{Column}
 use Rattle.ifdb_bound.specs.Expressions.{value_at}
-use Rattle.ifdb_catalog.specs.Scope.{kinds_of}
-use Rattle.ifdb_catalog.specs.Statements.{are_listed, arranged, listed_at, row_fits, values_fit}
-use Rattle.ifdb_bind.specs.Listed.{each_once, listed_fits, places_in, values_at}
+use Rattle.ifdb_catalog.specs.Statements.{are_listed, arranged, listed_at, values_at, values_fit}
+use Rattle.ifdb_bind.specs.Listed.{each_once, fill, listed_fills, places_in, row_fills}
 
 -- ---- with a list
 
@@ -18,20 +17,20 @@ at_places : (names : List (List ℕ)) (row : List Value) (columns : List Column)
 at_places names row [] = refl
 at_places names row (c ∷ columns) = ap (λ (l : List Value). value_at row (listed_at names c.name) ∷ l) (at_places names row columns)
 
-fits_at_places : (columns : List Column) (n : List ℕ) (names : List (List ℕ)) (row : List Value)
-    → row_fits columns (n ∷ names) row ≡ listed_fits columns (n ∷ names) row
-fits_at_places columns n names row =
-    ap (λ (l : List Value). (length row == length (n ∷ names)) && values_fit (kinds_of columns) l) (at_places (n ∷ names) row columns)
+fills_at_places : (columns : List Column) (key : List ℕ) (n : List ℕ) (names : List (List ℕ)) (row : List Value)
+    → row_fills columns key (n ∷ names) row ≡ listed_fills columns key (n ∷ names) row
+fills_at_places columns key n names row =
+    ap (λ (l : List Value). (length row == length (n ∷ names)) && fill columns key l) (at_places (n ∷ names) row columns)
 
-rows_fit : (columns : List Column) (n : List ℕ) (names : List (List ℕ)) (rows : List (List Value))
-    → list_all (row_fits columns (n ∷ names)) rows ≡ list_all (listed_fits columns (n ∷ names)) rows
-rows_fit columns n names [] = refl
-rows_fit columns n names (r ∷ rows) = λ j. fits_at_places columns n names r j && rows_fit columns n names rows j
+rows_fill : (columns : List Column) (key : List ℕ) (n : List ℕ) (names : List (List ℕ)) (rows : List (List Value))
+    → list_all (row_fills columns key (n ∷ names)) rows ≡ list_all (listed_fills columns key (n ∷ names)) rows
+rows_fill columns key n names [] = refl
+rows_fill columns key n names (r ∷ rows) = λ j. fills_at_places columns key n names r j && rows_fill columns key n names rows j
 
-pub listed_rows_fit : (columns : List Column) (names : List (List ℕ)) (rows : List (List Value)) → (length names == 0) ≡ false
-    → each_once columns names && list_all (listed_fits columns names) rows ≡ are_listed columns names && list_all (row_fits columns names) rows
-listed_rows_fit columns [] rows h = absurd (grind (arith, nat_tests))
-listed_rows_fit columns (n ∷ names) rows h = ap (λ (b : Bool). each_once columns (n ∷ names) && b) (sym (rows_fit columns n names rows))
+pub listed_rows_fit : (columns : List Column) (key : List ℕ) (names : List (List ℕ)) (rows : List (List Value)) → (length names == 0) ≡ false
+    → each_once columns names && list_all (listed_fills columns key names) rows ≡ are_listed columns names && list_all (row_fills columns key names) rows
+listed_rows_fit columns key [] rows h = absurd (grind (arith, nat_tests))
+listed_rows_fit columns key (n ∷ names) rows h = ap (λ (b : Bool). each_once columns (n ∷ names) && b) (sym (rows_fill columns key n names rows))
 
 pub listed_rows : (columns : List Column) (names : List (List ℕ)) (rows : List (List Value)) → (length names == 0) ≡ false
     → map (λ row. values_at row (places_in names columns)) rows ≡ map (arranged columns names) rows

@@ -1,7 +1,8 @@
 -- Which refusal a CREATE VIEW meets first.
-use Rattle.std.proofs.Common.{◌≡◌, refl, ap, sym, ◌∙◌, ℕ, ◌+◌, ◌<◌, Bool, true, false, ◌&&◌, List, [], ◌∷◌, ◌++◌, take, get_or, length, Option, Some, None, Result, Ok, Err}
+use Rattle.std.proofs.Common.{◌≡◌, refl, ap, sym, ◌∙◌, ℕ, ◌+◌, ◌<◌, Bool, true, false, ◌&&◌, List, [], ◌∷◌, ◌++◌, take, get_or, length, arith, Option, Some, None, Result, Ok, Err}
 use Rattle.std.specs.Prelude.{not}
 use Rattle.std.specs.List.{list_all}
+use Rattle.std.proofs.lemmas.Bool.Decides.{nat_tests}
 use Rattle.std.proofs.lemmas.List.{take_more}
 use Rattle.ifdb_syntax.specs.declared.select.Select.{Select}
 use Rattle.ifdb_syntax.specs.declared.select.Source.{Source}
@@ -15,7 +16,7 @@ use Rattle.ifdb_catalog.specs.Public.{Public}
 use Rattle.ifdb_catalog.specs.Scope.{Scope, scope_of}
 use Rattle.ifdb_catalog.specs.Queries.{is_relation, output, select_is_known, select_fits}
 use Rattle.ifdb_catalog.specs.Statements.{are_tags}
-use Rattle.ifdb_catalog.specs.Definitions.{bound_view, given, is_from_view, names_fit}
+use Rattle.ifdb_catalog.specs.Definitions.{bound_view, given, have_kinds, is_from_view, names_fit}
 use Rattle.ifdb_catalog.specs.Binding.{create_view}
 
 -- what binding comes to, by which checks fail
@@ -38,7 +39,7 @@ module _ (p : Public) (asker : ℕ) (name : List ℕ) (s : Select) (tags : List 
   known = select_is_known p scope s && are_tags p tags
 
   fits : Bool
-  fits = select_fits p scope s && names_fit (output scope s)
+  fits = select_fits p scope s && (names_fit (output scope s) && have_kinds scope s)
 
   tree : Bound
   tree = b.Change (change.View (bound_view p asker name scope s tags))
@@ -47,7 +48,7 @@ module _ (p : Public) (asker : ℕ) (name : List ℕ) (s : Select) (tags : List 
   unfolding outcome known fits tree
   over_scope =
       sym (ap (λ (x : Scope). outcome (is_relation p name) (select_is_known p x s && are_tags p tags) (is_from_view p s)
-      (select_fits p x s && names_fit (output x s)) (b.Change (change.View (bound_view p asker name x s tags)))) same)
+      (select_fits p x s && (names_fit (output x s) && have_kinds x s)) (b.Change (change.View (bound_view p asker name x s tags)))) same)
       ∙ ap (λ (t : Bool). outcome t known (is_from_view p s) fits tree) new
 
   pub unknown : select_is_known p scope s && are_tags p tags ≡ false → create_view p asker name s tags ≡ Err UnknownName
@@ -58,15 +59,27 @@ module _ (p : Public) (asker : ℕ) (name : List ℕ) (s : Select) (tags : List 
   unfolding judged outcome known
   viewed h k = over_scope ∙ (λ j. outcome false (h j) (k j) fits tree)
 
-  pub mismatched : select_is_known p scope s && are_tags p tags ≡ true → is_from_view p s ≡ false → select_fits p scope s && names_fit (output scope s) ≡ false
+  pub mismatched : select_is_known p scope s && are_tags p tags ≡ true → is_from_view p s ≡ false → select_fits p scope s && (names_fit (output scope s) && have_kinds scope s) ≡ false
       → create_view p asker name s tags ≡ Err TypeMismatch
   unfolding judged outcome known fits
   mismatched h k l = over_scope ∙ (λ j. outcome false (h j) (k j) (l j) tree)
 
-  pub accepted : select_is_known p scope s && are_tags p tags ≡ true → is_from_view p s ≡ false → select_fits p scope s && names_fit (output scope s) ≡ true
+  pub accepted : select_is_known p scope s && are_tags p tags ≡ true → is_from_view p s ≡ false → select_fits p scope s && (names_fit (output scope s) && have_kinds scope s) ≡ true
       → create_view p asker name s tags ≡ Ok (b.Change (change.View (bound_view p asker name scope s tags)))
   unfolding judged outcome known fits tree
   accepted h k l = over_scope ∙ (λ j. outcome false (h j) (k j) (l j) tree)
+
+-- ---- the checks of a view's items
+
+-- the names fail, or what is beside them does
+pub without_names : (fits names kinds : Bool) → names ≡ false → fits && (names && kinds) ≡ false
+without_names fits names kinds h = grind (arith, nat_tests)
+
+pub without_kinds : (fits names kinds : Bool) → fits && kinds ≡ false → fits && (names && kinds) ≡ false
+without_kinds fits names kinds h = grind (arith, nat_tests)
+
+pub with_all : (fits names kinds : Bool) → fits && kinds ≡ true → names ≡ true → fits && (names && kinds) ≡ true
+with_all fits names kinds h k = grind (arith, nat_tests)
 
 -- ---- the names that there are
 

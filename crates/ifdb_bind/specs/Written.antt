@@ -28,9 +28,9 @@ assigned target a = bound_assignment target.columns (target ∷ []) a
 abbrev pub all_assigned : ScopeSource → List Assignment → List BoundAssignment
 all_assigned target assignments = map (assigned target) assignments
 
--- the column of the table that is written is given its kind
-abbrev pub is_given_its_kind : ScopeSource → BoundAssignment → Bool
-is_given_its_kind target a = assignment_fits target.columns (kinds_in (target ∷ [])) a
+-- the column of the table that is written takes what it is given
+abbrev pub takes_what_is_given : ScopeSource → BoundAssignment → Bool
+takes_what_is_given target a = assignment_fits target.columns (kinds_in (target ∷ [])) a
 
 -- UPDATE of a table by changes
 abbrev pub updated_by : Public → List ℕ → Changes → Result Bound Fault

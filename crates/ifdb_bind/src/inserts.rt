@@ -6,14 +6,17 @@ ghost use Rattle.ifdb_wire.specs.Refused.{RefusedAs};
 ghost use Rattle.ifdb_bound.specs.Expressions.{value_at};
 ghost use Rattle.ifdb_catalog.specs.Binding.{insert};
 ghost use Rattle.ifdb_catalog.specs.Scope.{kinds_of};
-ghost use Rattle.ifdb_catalog.specs.Statements.{arranged, is_column_of, listed_at, row_fits, values_fit};
-ghost use Rattle.ifdb_bind.specs.Listed.{MismatchedUnless, all_fit, all_listed, all_listed_fit, each_once, places_in, values_at};
+ghost use Rattle.ifdb_value.specs.Value.{is_null};
+ghost use Rattle.ifdb_catalog.specs.Statements.{are_given, arranged, is_column_of, listed_at, values_at, values_fit};
+ghost use Rattle.ifdb_bind.specs.Listed.{MismatchedUnless, all_fit, all_listed, all_listed_fit, each_once, fill, places_in, row_fills};
 
 use crate::OutOfMemory;
 use crate::names::label_named;
 use ifdb_bound::{Bound, Places, Relation};
 use ifdb_catalog::Catalog;
-use ifdb_select::{ScopeSource, columns_of, place_named, relation_named, same_kind, source, times};
+use ifdb_select::{
+    ScopeSource, columns_of, key_places, place_named, relation_named, source, takes, times,
+};
 use ifdb_value::{Column, Name, Names, Value, ValueRow, ValueRows};
 use ifdb_wire::Fault;
 use std::alloc::Global;
@@ -55,7 +58,14 @@ pub(crate) fn insert(
     let Relation::Table(table) = relation else {
         return Err(Fault::NotATable);
     };
-    let rows = arranged_rows(alloc, columns_of(catalog, table), columns.items(), rows)?;
+    let key = key_places(catalog, table);
+    let rows = arranged_rows(
+        alloc,
+        columns_of(catalog, table),
+        key,
+        columns.items(),
+        rows,
+    )?;
     Ok(Bound::Insert { table, rows, given })
 }
 
@@ -75,29 +85,30 @@ fn has_columns(source: &ScopeSource<'_>, names: &[Name]) -> bool
 fn arranged_rows(
     alloc: Global,
     columns: &[Column],
+    key: &[usize],
     names: &[Name],
     rows: ValueRows,
 ) -> Result<ValueRows, Fault>
-    ensures fit { IfOk result (λ _. all_fit columns.now names.now rows ≡ true) }
+    ensures fit { IfOk result (λ _. all_fit columns.now key.now names.now rows ≡ true) }
     ensures rows { IfOk result (λ all. all ≡ map (arranged columns.now names.now) rows) }
-    ensures refused { MismatchedUnless (all_fit columns.now names.now rows) result }
+    ensures refused { MismatchedUnless (all_fit columns.now key.now names.now rows) result }
 {
     if names.is_empty() {
-        whole_rows(columns, rows)
+        whole_rows(columns, key, rows)
     } else {
-        listed_rows(alloc, columns, names, rows.items())
+        listed_rows(alloc, columns, key, names, rows.items())
     }
 }
 
 /// The rows as they are, where each gives all columns.
-fn whole_rows(columns: &[Column], rows: ValueRows) -> Result<ValueRows, Fault>
-    ensures fit { IfOk result (λ _. list_all (row_fits columns.now []) rows ≡ true) }
+fn whole_rows(columns: &[Column], key: &[usize], rows: ValueRows) -> Result<ValueRows, Fault>
+    ensures fit { IfOk result (λ _. list_all (row_fills columns.now key.now []) rows ≡ true) }
     ensures rows { IfOk result (λ same. same ≡ rows) }
     ensures mismatch { IfErr result (λ fault. fault ≡ TypeMismatch) }
-    ensures refused { IfErr result (λ _. list_all (row_fits columns.now []) rows ≡ false) }
+    ensures refused { IfErr result (λ _. list_all (row_fills columns.now key.now []) rows ≡ false) }
 {
     for row in rows.items() {
-        if row.len() != columns.len() || !values_fit(columns, row.items()) {
+        if row.len() != columns.len() || !fill(columns, key, row.items()) {
             return Err(Fault::TypeMismatch);
         }
     }
@@ -108,12 +119,15 @@ fn whole_rows(columns: &[Column], rows: ValueRows) -> Result<ValueRows, Fault>
 fn listed_rows(
     alloc: Global,
     columns: &[Column],
+    key: &[usize],
     names: &[Name],
     rows: &[ValueRow],
 ) -> Result<ValueRows, Fault>
-    ensures fit { IfOk result (λ _. all_listed_fit columns.now names.now rows.now ≡ true) }
+    ensures fit { IfOk result
+        (λ _. all_listed_fit columns.now key.now names.now rows.now ≡ true) }
     ensures rows { IfOk result (λ arranged. arranged ≡ all_listed columns.now names.now rows.now) }
-    ensures refused { MismatchedUnless (all_listed_fit columns.now names.now rows.now) result }
+    ensures refused { MismatchedUnless
+        (all_listed_fit columns.now key.now names.now rows.now) result }
 {
     if !each_once(columns, names) {
         return Err(Fault::TypeMismatch);
@@ -125,7 +139,7 @@ fn listed_rows(
             return Err(Fault::TypeMismatch);
         }
         let values = values_at(alloc, row.items(), places.items())?;
-        if !values_fit(columns, values.items()) {
+        if !fill(columns, key, values.items()) {
             return Err(Fault::TypeMismatch);
         }
         arranged.push(values)?;
@@ -187,7 +201,36 @@ fn value_at(alloc: Global, row: &[Value], place: usize) -> Result<Value, OutOfMe
     }
 }
 
-/// Whether there is a value for each column, of its kind.
+/// Whether the values fill a row: each column takes its one, and none of the key is NULL.
+fn fill(columns: &[Column], key: &[usize], values: &[Value]) -> bool
+    ensures { result ≡ fill columns.now key.now values.now }
+{
+    values_fit(columns, values) && are_given(values, key)
+}
+
+/// Whether none of the values at some places is NULL.
+fn are_given(values: &[Value], places: &[usize]) -> bool
+    ensures { result ≡ are_given (values_at values.now places.now) }
+{
+    for place in places {
+        if is_null_at(values, *place) {
+            return false;
+        }
+    }
+    true
+}
+
+/// Whether the value at a place is NULL; where there is none it isn't.
+fn is_null_at(values: &[Value], place: usize) -> bool
+    ensures { result ≡ is_null (value_at values.now place) }
+{
+    match values.get(place) {
+        Some(value) => value.is_null(),
+        None => false,
+    }
+}
+
+/// Whether there is a value for each column, which takes it.
 #[tactic(auto, using(crate::proofs::Listed::no_columns))]
 fn values_fit(columns: &[Column], values: &[Value]) -> bool
     ensures { result ≡ values_fit (kinds_of columns.now) values.now }
@@ -196,9 +239,7 @@ fn values_fit(columns: &[Column], values: &[Value]) -> bool
         [] => values.is_empty(),
         [column, rest @ ..] => match values {
             [] => false,
-            [value, others @ ..] => {
-                same_kind(column.kind, value.kind()) && values_fit(rest, others)
-            }
+            [value, others @ ..] => { takes(column.kind, value.kind()) && values_fit(rest, others) }
         },
     }
 }

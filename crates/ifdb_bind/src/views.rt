@@ -1,11 +1,11 @@
 // Binding of CREATE VIEW.
-ghost use Rattle.std.specs.Prelude.{◌≡◌, ◌++◌, ◌∷◌, [], false, Ok, IfOk, OnOk};
+ghost use Rattle.std.specs.Prelude.{◌≡◌, ◌&&◌, ◌++◌, ◌∷◌, [], false, Ok, IfOk, OnOk};
 ghost use Rattle.std.specs.Option.{IfSome, is_some};
 ghost use Rattle.std.specs.List.{list_all, list_any};
 ghost use Rattle.ifdb_syntax.specs.declared.select.Source.{Source};
 ghost use Rattle.ifdb_wire.specs.Refused.{RefusedAs};
-ghost use Rattle.ifdb_catalog.specs.Definitions.{given, is_given, names_fit};
-ghost use Rattle.ifdb_catalog.specs.Queries.{is_relation, is_view, output};
+ghost use Rattle.ifdb_catalog.specs.Definitions.{given, have_kinds, is_given, names_fit};
+ghost use Rattle.ifdb_catalog.specs.Queries.{bound_select, is_relation, is_view, output, select_fits};
 ghost use Rattle.ifdb_catalog.specs.Scope.{scope_of};
 ghost use Rattle.ifdb_bind.specs.Made.{view_made};
 ghost use Rattle.ifdb_bind.specs.ViewBody.{view_of};
@@ -16,7 +16,8 @@ use ifdb_bound::{Bound, BoundSelect, Change, Relation, ViewDef};
 use ifdb_catalog::Catalog;
 use ifdb_label::Label;
 use ifdb_select::{
-    OutputName, ScopeSource, are_distinct, bound_select, output_names, scope_of, select_fits,
+    OutputName, ScopeSource, are_distinct, bound_select, have_one_kind, output_names, scope_of,
+    select_fits,
 };
 use ifdb_syntax::{Select, Source};
 use ifdb_value::{Name, Names, Principal};
@@ -119,7 +120,7 @@ fn body_over(
         drop(select);
         return Err(Fault::TypeMismatch);
     };
-    if !select_fits(catalog, scope, &view.select, &select) {
+    if !shows_columns(catalog, scope, &view.select, &select) {
         drop(select);
         return Err(Fault::TypeMismatch);
     }
@@ -128,6 +129,20 @@ fn body_over(
         names,
         declassifying,
     })
+}
+
+/// Whether a SELECT fits, and each of its items is of one kind, as a view's column is.
+fn shows_columns(
+    catalog: &Catalog,
+    scope: &[ScopeSource<'_>],
+    query: &Select,
+    tree: &BoundSelect,
+) -> bool
+    requires { tree.now ≡ bound_select catalog.now scope.now query.now }
+    ensures { result
+        ≡ (select_fits catalog.now scope.now query.now && have_kinds scope.now query.now) }
+{
+    select_fits(catalog, scope, query, tree) && have_one_kind(scope, tree.items.items())
 }
 
 /// Whether a view stands behind FROM.

@@ -11,14 +11,14 @@ ghost use Rattle.ifdb_catalog.specs.Scope.{kinds_in};
 ghost use Rattle.ifdb_catalog.specs.Statements.{assignment_fits, bound_assignment, label_named};
 ghost use Rattle.ifdb_catalog.specs.Terms.{bound_where};
 ghost use Rattle.ifdb_select.specs.Lacks.{RefusedUnless};
-ghost use Rattle.ifdb_bind.specs.Written.{all_assigned, are_known, are_known_in, assigned, is_given_its_kind, is_known_in, is_of_key, updated_by};
+ghost use Rattle.ifdb_bind.specs.Written.{all_assigned, are_known, are_known_in, assigned, takes_what_is_given, is_known_in, is_of_key, updated_by};
 
 use crate::names::label_named;
 use ifdb_bound::{Bound, BoundAssignment, BoundAssignments, BoundCond, Relation};
 use ifdb_catalog::Catalog;
 use ifdb_label::Label;
 use ifdb_select::{
-    ScopeSource, agree, are_distinct, bound_expr, bound_where, expr_kind, key_places,
+    ScopeSource, accepts, are_distinct, bound_expr, bound_where, expr_kind, key_places,
     relation_named, source, where_fits,
 };
 use ifdb_syntax::{Assignment, Cond};
@@ -193,7 +193,7 @@ fn is_of_key(key: &[usize], assignment: &BoundAssignment) -> bool
     key.iter().any(|place| *place == assignment.column)
 }
 
-/// Whether no column is written twice, each is given its kind, and the condition fits.
+/// Whether no column is written twice, each takes what it is given, and the condition fits.
 fn fits(target: &ScopeSource<'_>, assignments: &[Assignment], known: &KnownChanges) -> bool
     ensures { result ≡ (are_distinct (map (λ (a : Assignment). a.column) assignments.now)
         && list_all (assignment_fits target.now.columns (kinds_in (target.now ∷ [])))
@@ -201,13 +201,13 @@ fn fits(target: &ScopeSource<'_>, assignments: &[Assignment], known: &KnownChang
         && where_fits (kinds_in (target.now ∷ [])) known.now.cond }
 {
     are_distinct(assignments)
-        && have_kinds(target, known.assignments.items())
+        && assignments_fit(target, known.assignments.items())
         && where_fits(from_ref(target), &known.cond)
 }
 
-/// Whether each column that is written is given its kind.
-fn have_kinds(target: &ScopeSource<'_>, trees: &[BoundAssignment]) -> bool
-    ensures { result ≡ list_all (is_given_its_kind target.now) trees.now }
+/// Whether each column that is written takes what it is given.
+fn assignments_fit(target: &ScopeSource<'_>, trees: &[BoundAssignment]) -> bool
+    ensures { result ≡ list_all (takes_what_is_given target.now) trees.now }
 {
     for tree in trees {
         if !assignment_fits(target, tree) {
@@ -217,11 +217,11 @@ fn have_kinds(target: &ScopeSource<'_>, trees: &[BoundAssignment]) -> bool
     true
 }
 
-/// Whether a column that is written is given its kind.
+/// Whether a column that is written takes what it is given.
 fn assignment_fits(target: &ScopeSource<'_>, tree: &BoundAssignment) -> bool
-    ensures { result ≡ is_given_its_kind target.now tree.now }
+    ensures { result ≡ takes_what_is_given target.now tree.now }
 {
-    agree(
+    accepts(
         target.kind(tree.column),
         expr_kind(from_ref(target), &tree.expr),
     )

@@ -174,7 +174,7 @@ pub(super) static TABLES: [(&[u8], &str); 28] = [
 ];
 
 /// CREATE VIEW.
-pub(super) static VIEWS: [(&[u8], &str); 29] = [
+pub(super) static VIEWS: [(&[u8], &str); 32] = [
     (
         b"CREATE VIEW v AS SELECT id FROM note WITH DECLASSIFYING (bob)",
         "view v (id) by 1 for (2): 0.0 from table 0 (0)",
@@ -186,6 +186,18 @@ pub(super) static VIEWS: [(&[u8], &str); 29] = [
     (
         b"CREATE VIEW v AS SELECT fee + 1 AS more, why, pid AS id FROM visit WITH DECLASSIFYING (alice, patients)",
         "view v (more, why, id) by 1 for (0): (0.3 + 1), 0.2, 0.1 from table 1 (1, 0)",
+    ),
+    (
+        b"CREATE VIEW v AS SELECT id + NULL AS x FROM note WITH DECLASSIFYING (bob)",
+        "view v (x) by 1 for (2): (0.0 + null) from table 0 (0)",
+    ),
+    (
+        b"CREATE VIEW v AS SELECT id, NULL AS x FROM note WITH DECLASSIFYING (bob)",
+        "TypeMismatch",
+    ),
+    (
+        b"CREATE VIEW v AS SELECT (NULL) AS x FROM fees WITH DECLASSIFYING (bob)",
+        "NotATable",
     ),
     (
         b"CREATE VIEW note AS SELECT id FROM note WITH DECLASSIFYING (bob)",

@@ -1,8 +1,24 @@
 // SELECTs, each with its tree or its first refusal.
 
 /// Each part of a SELECT, there and left out.
-pub(super) static TREES: [(&[u8], &str); 27] = [
+pub(super) static TREES: [(&[u8], &str); 31] = [
     (b"SELECT * FROM note", "0.0, 0.1 from table 0 (0)"),
+    (
+        b"SELECT SUM(fee), MIN(why) FROM note, visit",
+        "sum 1.3, min 1.2 from table 0 (0), table 1 (1, 0)",
+    ),
+    (
+        b"SELECT COUNT(*), MAX(id) FROM note",
+        "count, max 0.0 from table 0 (0)",
+    ),
+    (
+        b"SELECT NULL, fee * (NULL + 1) FROM visit ORDER BY 1",
+        "null, (0.3 * (null + 1)) from table 1 (1, 0) order 0",
+    ),
+    (
+        b"SELECT id FROM note WHERE body IS NULL OR NULL = id AND 'x' IS NOT NULL",
+        "0.0 from table 0 (0) where or(0.1 is null, and(null = 0.0, 'x' is not null))",
+    ),
     (
         b"SELECT * FROM note, fees",
         "0.0, 0.1, 1.0, 1.1 from table 0 (0), view 0 ()",
@@ -162,7 +178,7 @@ pub(super) static NAMES: [(&[u8], &str); 31] = [
 ];
 
 /// Kinds and forms that don't fit, and two refusals in one request.
-pub(super) static FORMS: [(&[u8], &str); 39] = [
+pub(super) static FORMS: [(&[u8], &str); 40] = [
     (b"SELECT body + 1 FROM note", "TypeMismatch"),
     (b"SELECT id FROM note WHERE id = 'x'", "TypeMismatch"),
     (
@@ -182,8 +198,9 @@ pub(super) static FORMS: [(&[u8], &str); 39] = [
     (b"SELECT 1 FROM note, visit note", "TypeMismatch"),
     // Aggregates.
     (b"SELECT id, COUNT(*) FROM note", "TypeMismatch"),
-    (b"SELECT SUM(fee) FROM visit", "TypeMismatch"),
-    (b"SELECT COUNT(*), MAX(id) FROM note", "TypeMismatch"),
+    (b"SELECT SUM(fee), fee FROM visit", "TypeMismatch"),
+    (b"SELECT NULL, MAX(id) FROM note", "TypeMismatch"),
+    (b"SELECT NULL + 'x' FROM note", "TypeMismatch"),
     (b"SELECT COUNT(*), LABEL OF note FROM note", "TypeMismatch"),
     (b"SELECT SUM(why) FROM visit GROUP BY pid", "TypeMismatch"),
     (b"SELECT why FROM visit GROUP BY pid", "TypeMismatch"),

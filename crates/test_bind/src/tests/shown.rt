@@ -265,6 +265,10 @@ fn show_cond(text: &mut String, cond: &BoundCond) -> Result<(), AllocError> {
             text.push_str(")")
         }
         BoundCond::Compare { left, how, right } => compared(text, left, *how, right),
+        BoundCond::IsNull { operand, negated } => {
+            operand.show(text)?;
+            text.push_str(if *negated { " is not null" } else { " is null" })
+        }
     }
 }
 
@@ -381,6 +385,7 @@ impl Show for ValueRow {
 impl Show for Value {
     fn show(&self, text: &mut String) -> Result<(), AllocError> {
         match self {
+            Value::Null => text.push_str("null"),
             Value::Int(number) => write!(text, "{number}"),
             Value::Text(word) => quoted(text, word.as_str()),
         }

@@ -1,7 +1,7 @@
 // INSERT, UPDATE and DELETE, each with its tree or its first refusal.
 
 /// INSERT.
-pub(super) static INSERTS: [(&[u8], &str); 29] = [
+pub(super) static INSERTS: [(&[u8], &str); 33] = [
     (
         b"INSERT INTO note VALUES (1, 'a')",
         "insert 0 (1, 'a') given ()",
@@ -21,6 +21,19 @@ pub(super) static INSERTS: [(&[u8], &str); 29] = [
     (
         b"INSERT INTO note (id, body) VALUES (1, 'a') DECLASSIFYING (bob, alice)",
         "insert 0 (1, 'a') given (1, 2)",
+    ),
+    (
+        b"INSERT INTO visit (fee, why, id, pid) VALUES (NULL, NULL, 1, 2)",
+        "insert 1 (1, 2, null, null) given ()",
+    ),
+    (b"INSERT INTO note VALUES (NULL, 'a')", "TypeMismatch"),
+    (
+        b"INSERT INTO note (body, id) VALUES ('a', 1), ('b', NULL)",
+        "TypeMismatch",
+    ),
+    (
+        b"INSERT INTO visit VALUES (1, NULL, 'a', 2) DECLASSIFYING (bob)",
+        "TypeMismatch",
     ),
     (b"INSERT INTO nothing VALUES (1)", "UnknownName"),
     (b"INSERT INTO note (id, x) VALUES (1, 'a')", "UnknownName"),
@@ -84,7 +97,7 @@ pub(super) static INSERTS: [(&[u8], &str); 29] = [
 ];
 
 /// UPDATE.
-pub(super) static UPDATES: [(&[u8], &str); 33] = [
+pub(super) static UPDATES: [(&[u8], &str); 35] = [
     (
         b"UPDATE note SET body = 'x'",
         "update 0 set 1 = 'x' given ()",
@@ -101,6 +114,11 @@ pub(super) static UPDATES: [(&[u8], &str); 33] = [
         b"UPDATE drug SET name = code WHERE dose > 1",
         "update 3 set 2 = 0.0 where 0.1 > 1 given ()",
     ),
+    (
+        b"UPDATE visit SET fee = NULL, why = NULL WHERE fee IS NOT NULL",
+        "update 1 set 3 = null, 2 = null where 0.3 is not null given ()",
+    ),
+    (b"UPDATE note SET id = NULL", "KeyColumn"),
     (b"UPDATE nothing SET x = 1", "UnknownName"),
     (b"UPDATE note SET x = 1", "UnknownName"),
     (b"UPDATE note SET body = x", "UnknownName"),

@@ -3,7 +3,8 @@ use Rattle.std.specs.List.{list_all}
 use Rattle.std.specs.Prelude.{IfErr}
 use Rattle.ifdb_value.specs.declared.value.Value.{Value}
 use Rattle.ifdb_wire.specs.declared.fault.Fault.TheVariants.{OutOfMemory, TypeMismatch}
-use Rattle.ifdb_bind.specs.Listed.{each_once, listed_fits, places_in, values_at}
+use Rattle.ifdb_catalog.specs.Statements.{values_at}
+use Rattle.ifdb_bind.specs.Listed.{each_once, listed_fills, places_in}
 use Rattle.ifdb_bind.proofs.Listed.{listed_rows, listed_rows_fit, whole_rows}
 use Rattle.ifdb_bind.proofs.inserts.arranged_rows.Goals as goal
 
@@ -16,10 +17,10 @@ pub returns-else-is_empty-clause-fit : goal.returns-else-is_empty-clause-fit
 returns-else-is_empty-clause-fit c =
     let columns = c.args.columns.now in
     let names = c.args.names.now in
-    let all = subst (λ (rows : List (List Value)). IfOk c.listed_rows.result (λ _. each_once columns names && list_all (listed_fits columns names) rows ≡ true))
+    let all = subst (λ (rows : List (List Value)). IfOk c.listed_rows.result (λ _. each_once columns names && list_all (listed_fills columns c.args.key.now names) rows ≡ true))
     c.items.ensures c.listed_rows.ensures.fit in
     subst (λ (b : Bool). IfOk c.listed_rows.result (λ _. b ≡ true))
-    (listed_rows_fit columns names c.args.rows (sym c.is_empty.ensures ∙ c.if-is_empty.false)) all
+    (listed_rows_fit columns c.args.key.now names c.args.rows (sym c.is_empty.ensures ∙ c.if-is_empty.false)) all
 
 pub returns-else-is_empty-clause-rows : goal.returns-else-is_empty-clause-rows
 returns-else-is_empty-clause-rows c =
@@ -36,7 +37,7 @@ returns-else-is_empty-clause-refused c =
     let names = c.args.names.now in
     let all = subst
     (λ (rows : List (List Value)). IfErr c.listed_rows.result
-    (λ fault. (fault ≡ OutOfMemory) ⊎ ((fault ≡ TypeMismatch) × (each_once columns names && list_all (listed_fits columns names) rows ≡ false))))
+    (λ fault. (fault ≡ OutOfMemory) ⊎ ((fault ≡ TypeMismatch) × (each_once columns names && list_all (listed_fills columns c.args.key.now names) rows ≡ false))))
     c.items.ensures c.listed_rows.ensures.refused in
     subst (λ (b : Bool). IfErr c.listed_rows.result (λ fault. (fault ≡ OutOfMemory) ⊎ ((fault ≡ TypeMismatch) × (b ≡ false))))
-    (listed_rows_fit columns names c.args.rows (sym c.is_empty.ensures ∙ c.if-is_empty.false)) all
+    (listed_rows_fit columns c.args.key.now names c.args.rows (sym c.is_empty.ensures ∙ c.if-is_empty.false)) all

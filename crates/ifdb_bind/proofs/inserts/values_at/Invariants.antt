@@ -1,5 +1,5 @@
 use Rattle.std.proofs.Common.{◌≡◌, take}
-use Rattle.ifdb_bind.specs.Listed.{values_at}
+use Rattle.ifdb_catalog.specs.Statements.{values_at}
 use Rattle.ifdb_bind.proofs.inserts.values_at.Given as goal
 
 -- the values at the places so far

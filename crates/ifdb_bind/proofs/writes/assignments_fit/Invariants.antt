@@ -2,7 +2,7 @@ use Rattle.std.proofs.Common.{◌≡◌, take, true, [], ◌∷◌}
 use Rattle.std.specs.List.{list_all}
 use Rattle.ifdb_catalog.specs.Scope.{kinds_in}
 use Rattle.ifdb_catalog.specs.Statements.{assignment_fits}
-use Rattle.ifdb_bind.proofs.writes.have_kinds.Given as goal
+use Rattle.ifdb_bind.proofs.writes.assignments_fit.Given as goal
 
 -- the assignments so far fit
 abbrev pub invariant-loop-tree : goal.invariant-loop-tree
