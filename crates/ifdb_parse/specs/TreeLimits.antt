@@ -28,6 +28,7 @@ abbrev pub behind : Before → Lexeme → Before
 behind last (t.Name name) = before.Operand
 behind last (t.Number number) = before.Operand
 behind last (t.Quoted text) = before.Operand
+behind last t.Null = before.Operand
 behind last t.Close = before.Operand
 behind last t.Minus = behind_minus last
 behind last _ = before.Other

@@ -48,16 +48,61 @@ fn compare(lexemes: &[Lexeme]) -> Read<'_, Compare>
     }
 }
 
-/// `operand compare operand`.
+/// `operand compare operand | operand IS [NOT] NULL`.
 #[tactic(auto, unfolding(crate::specs::rules::Conditions::comparison))]
 fn comparison(alloc: Global, lexemes: &[Lexeme]) -> Read<'_, Cond>
     ensures value { IsRead result (spec.comparison lexemes.now) }
     ensures shorter { IsShorter result lexemes.now }
 {
     let (left, rest) = operand(alloc, lexemes)?;
-    let (how, rest) = compare(rest)?;
+    match rest {
+        [
+            Lexeme::Equal
+            | Lexeme::NotEqual
+            | Lexeme::Less
+            | Lexeme::AtMost
+            | Lexeme::Greater
+            | Lexeme::AtLeast,
+            ..
+        ] => { compared_with(alloc, left, rest) }
+        _ => null_test(left, rest),
+    }
+}
+
+/// `compare operand`, behind the left operand.
+#[tactic(auto, unfolding(crate::specs::rules::Conditions::compared_with))]
+fn compared_with(alloc: Global, left: Operand, lexemes: &[Lexeme]) -> Read<'_, Cond>
+    ensures value { IsRead result (spec.compared_with left lexemes.now) }
+    ensures shorter { IsShorter result lexemes.now }
+{
+    let (how, rest) = compare(lexemes)?;
     let (right, rest) = operand(alloc, rest)?;
     Ok((Cond::Compare { left, how, right }, rest))
+}
+
+/// `IS [NOT] NULL`, behind the operand.
+#[tactic(auto, unfolding(crate::specs::rules::Conditions::null_test, crate::specs::rules::Conditions::negates, crate::specs::rules::Shared::token))]
+fn null_test(operand: Operand, lexemes: &[Lexeme]) -> Read<'_, Cond>
+    ensures value { IsRead result (spec.null_test operand lexemes.now) }
+    ensures shorter { IsShorter result lexemes.now }
+{
+    match lexemes {
+        [Lexeme::Is, Lexeme::Not, rest @ ..] => null_word(operand, true, rest),
+        [Lexeme::Is, rest @ ..] => null_word(operand, false, rest),
+        _ => Err(Stop::Left(lexemes.len())),
+    }
+}
+
+/// `NULL`, behind `IS` or `IS NOT`.
+#[tactic(auto, unfolding(crate::specs::rules::Conditions::null_word, crate::specs::rules::Shared::token))]
+fn null_word(operand: Operand, negated: bool, lexemes: &[Lexeme]) -> Read<'_, Cond>
+    ensures value { IsRead result (spec.null_word operand negated lexemes.now) }
+    ensures shorter { IsShorter result lexemes.now }
+{
+    match lexemes {
+        [Lexeme::Null, rest @ ..] => Ok((Cond::IsNull { operand, negated }, rest)),
+        _ => Err(Stop::Left(lexemes.len())),
+    }
 }
 
 /// The one part, or the node of several.
@@ -100,7 +145,7 @@ fn negation(alloc: Global, lexemes: &[Lexeme]) -> Read<'_, Cond>
     }
 }
 
-/// `( cond ) | operand compare operand`.
+/// `( cond ) | operand compare operand | operand IS [NOT] NULL`.
 #[cycle(cond)]
 #[tactic(auto, unfolding(crate::specs::rules::Conditions::basic, crate::specs::rules::Shared::token))]
 fn basic(alloc: Global, lexemes: &[Lexeme]) -> Read<'_, Cond>
@@ -119,7 +164,7 @@ fn basic(alloc: Global, lexemes: &[Lexeme]) -> Read<'_, Cond>
     }
 }
 
-/// `prim = NOT prim | ( cond ) | operand compare operand`.
+/// `prim = NOT prim | ( cond ) | operand compare operand | operand IS [NOT] NULL`.
 #[cycle(cond)]
 #[tactic(auto, using(crate::proofs::rules::Loops::prim_is))]
 fn prim(alloc: Global, lexemes: &[Lexeme]) -> Read<'_, Cond>

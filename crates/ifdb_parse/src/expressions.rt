@@ -60,7 +60,7 @@ fn negated(number: u64) -> i64
     }
 }
 
-/// `literal = number | - number | text`.
+/// `literal = number | - number | text | NULL`.
 #[tactic(auto, unfolding(crate::specs::rules::Expressions::literal, crate::specs::rules::Shared::token, crate::specs::rules::Shared::number, crate::specs::rules::Shared::text))]
 pub(crate) fn literal(alloc: Global, lexemes: &[Lexeme]) -> Read<'_, Value>
     ensures value { IsRead result (spec.literal lexemes.now) }
@@ -70,6 +70,7 @@ pub(crate) fn literal(alloc: Global, lexemes: &[Lexeme]) -> Read<'_, Value>
         [Lexeme::Number(number), rest @ ..] => Ok((Value::Int(plain(*number)), rest)),
         [Lexeme::Minus, rest @ ..] => negative(rest),
         [Lexeme::Quoted(text), rest @ ..] => Ok((Value::Text(text.copy(alloc)?), rest)),
+        [Lexeme::Null, rest @ ..] => Ok((Value::Null, rest)),
         _ => Err(Stop::Left(lexemes.len())),
     }
 }
@@ -113,7 +114,7 @@ fn factor(alloc: Global, lexemes: &[Lexeme]) -> Read<'_, Expr>
 {
     match lexemes {
         [
-            Lexeme::Name(_) | Lexeme::Number(_) | Lexeme::Minus | Lexeme::Quoted(_),
+            Lexeme::Name(_) | Lexeme::Number(_) | Lexeme::Minus | Lexeme::Quoted(_) | Lexeme::Null,
             ..
         ] => { atom(alloc, lexemes) }
         [Lexeme::Open, rest @ ..] => {

@@ -121,7 +121,12 @@ fn plain_item(alloc: Global, lexemes: &[Lexeme]) -> Read<'_, Item>
 {
     match lexemes {
         [
-            Lexeme::Name(_) | Lexeme::Number(_) | Lexeme::Minus | Lexeme::Quoted(_) | Lexeme::Open,
+            Lexeme::Name(_)
+            | Lexeme::Number(_)
+            | Lexeme::Minus
+            | Lexeme::Quoted(_)
+            | Lexeme::Null
+            | Lexeme::Open,
             ..
         ] => { named(alloc, lexemes) }
         [Lexeme::Label, ..] => label_of(alloc, lexemes),
@@ -141,6 +146,7 @@ fn item(alloc: Global, lexemes: &[Lexeme]) -> Read<'_, Item>
             | Lexeme::Number(_)
             | Lexeme::Minus
             | Lexeme::Quoted(_)
+            | Lexeme::Null
             | Lexeme::Open
             | Lexeme::Label
             | Lexeme::Count,

@@ -29,7 +29,7 @@ pub(crate) fn exceeds_tree(lexemes: &[Lexeme], request: &Request) -> bool
 /// What the lexeme before is to the next one.
 #[derive(Clone, Copy)]
 pub(crate) enum Before {
-    /// A name, a number, a text or `)`: a `-` behind it subtracts.
+    /// A name, a number, a text, NULL or `)`: a `-` behind it subtracts.
     Operand,
     /// The `-` of a literal.
     Sign,
@@ -46,9 +46,11 @@ impl Before {
         ensures { result ≡ behind self lexeme.now }
     {
         match lexeme {
-            Lexeme::Name(_) | Lexeme::Number(_) | Lexeme::Quoted(_) | Lexeme::Close => {
-                Before::Operand
-            }
+            Lexeme::Name(_)
+            | Lexeme::Number(_)
+            | Lexeme::Quoted(_)
+            | Lexeme::Null
+            | Lexeme::Close => Before::Operand,
             Lexeme::Minus => match self {
                 Before::Operand => Before::Other,
                 Before::Sign | Before::Other => Before::Sign,

@@ -9,20 +9,20 @@ use Rattle.ifdb_syntax.specs.declared.condition.Cond.{Cond}
 use Rattle.ifdb_syntax.specs.declared.condition.Cond.TheVariants as c
 use Rattle.ifdb_syntax.specs.declared.place.CondPlace.{CondPlace}
 use Rattle.ifdb_syntax.specs.declared.place.CondPlace.TheVariants as at
-use Rattle.ifdb_syntax.specs.Words.{Lexemes, kind, NAME, AND, NOT, OR, WHERE}
+use Rattle.ifdb_syntax.specs.Words.{Lexemes, kind, NAME, AND, NOT, OR, WHERE, IS, NULL}
 use Rattle.ifdb_syntax.specs.Lang.{Lang, Then, nothing, separated, parens}
 use Rattle.ifdb_syntax.specs.Reading.{bounded}
-use Rattle.ifdb_syntax.specs.Conditions.{operand as operand_rule, compare_of, compare, comparison, or_of, and_of, negated_upto, negated, conj, disj, cond_upto, cond, condition}
+use Rattle.ifdb_syntax.specs.Conditions.{operand as operand_rule, compare_of, compare, negation, comparison, or_of, and_of, negated_upto, negated, conj, disj, cond_upto, cond, condition}
 use Rattle.ifdb_syntax.specs.canonical.Tokens as canon
-use Rattle.ifdb_syntax.specs.canonical.Conditions.{or_enclosed, and_enclosed, operand_tokens, compare_token, cond_tokens}
+use Rattle.ifdb_syntax.specs.canonical.Conditions.{or_enclosed, and_enclosed, operand_tokens, compare_token, null_test_tokens, cond_tokens}
 use Rattle.ifdb_syntax.specs.canonical.Queries.{condition_tokens}
 use Rattle.ifdb_syntax.proofs.ByForm.{each_cond}
-use Rattle.ifdb_syntax.proofs.CondTokens.{cond_tokens-Or, cond_tokens-And, cond_tokens-Not, cond_tokens-Compare}
+use Rattle.ifdb_syntax.proofs.CondTokens.{cond_tokens-Or, cond_tokens-And, cond_tokens-Not, cond_tokens-Compare, cond_tokens-IsNull}
 use Rattle.ifdb_parse.specs.declared.limits.Before.{Before}
 use Rattle.ifdb_parse.specs.declared.limits.Before.TheVariants as before
 use Rattle.ifdb_parse.specs.TreeLimits.{behind}
 use Rattle.ifdb_parse.proofs.back.Lighter.{Flat, Lighter, same_lighter, parens_lighter, drop_parens_lighter}
-use Rattle.ifdb_parse.proofs.back.Prints.{Prints, any, operand, other, whole, part, done, last, word, along, along_text, either, in_some, members, any_all, inside}
+use Rattle.ifdb_parse.proofs.back.Prints.{Prints, any, operand, other, whole, part, done, last, word, along, along_text, either, either_behind, in_some, members, any_all, inside}
 use Rattle.ifdb_parse.proofs.back.Exprs.{ref_prints, literal_prints}
 
 -- ---- comparisons
@@ -60,10 +60,25 @@ compare_prints b = record {
 abbrev pub at_place : CondPlace → Cond → Lexemes
 at_place place x = cond_tokens x place
 
+-- the NOT of IS NOT NULL
+abbrev not_tokens : Bool → Lexemes
+not_tokens true = t.Not ∷ []
+not_tokens false = []
+
+negation_prints : Prints before.Other other negation any not_tokens
+negation_prints = either (whole (word t.Not NOT _ refl refl (λ k. refl) (done true refl refl))) (whole (done false refl refl))
+
+null_text : (u : Lexemes) (n : Bool) → u ++ null_test_tokens n ≡ ((u ++ t.Is ∷ []) ++ not_tokens n) ++ t.Null ∷ []
+null_text u true = sym (append_assoc (u ++ t.Is ∷ []) (t.Not ∷ []) (t.Null ∷ []) ∙ append_assoc u (t.Is ∷ []) (t.Not ∷ t.Null ∷ []))
+null_text u false = sym (ap (λ (z : Lexemes). z ++ t.Null ∷ []) (append-nil (u ++ t.Is ∷ [])) ∙ append_assoc u (t.Is ∷ []) (t.Null ∷ []))
+
 comparison_prints : (place : CondPlace) → Prints before.Other operand (comparison bounded) any (at_place place)
 comparison_prints place =
-    whole (part _ operand_prints (λ a. part _ (compare_prints before.Operand) (λ how. part _ operand_prints (λ b.
-    done (c.Compare a how b) refl (cond_tokens-Compare a how b place ∙ sym (append_assoc (operand_tokens a) (compare_token how ∷ []) (operand_tokens b)))))))
+    whole (part _ operand_prints (λ a. either_behind
+    (part _ (compare_prints before.Operand) (λ how. part _ operand_prints (λ b.
+    done (c.Compare a how b) refl (cond_tokens-Compare a how b place ∙ sym (append_assoc (operand_tokens a) (compare_token how ∷ []) (operand_tokens b))))))
+    (word t.Is IS _ refl refl (λ k. refl) (part _ negation_prints (λ n. word t.Null NULL _ refl refl (λ k. refl)
+    (done (c.IsNull a n) refl (cond_tokens-IsNull a n place ∙ null_text (operand_tokens a) n)))))))
 
 -- ---- parentheses
 
@@ -88,6 +103,7 @@ placed = each_cond Placed (record {
   and_node = λ parts _. enclosed_or (c.And parts) _ and_enclosed (cond_tokens-And parts) refl;
   not_node = λ a _ place. inr (cond_tokens-Not a place ∙ sym (cond_tokens-Not a at.Cond));
   compare = λ a how b place. inr (cond_tokens-Compare a how b place ∙ sym (cond_tokens-Compare a how b at.Cond));
+  null_test = λ a n place. inr (cond_tokens-IsNull a n place ∙ sym (cond_tokens-IsNull a n at.Cond));
 })
 
 enclosed_prints : (place : CondPlace) (l : Lang Cond) → Prints before.Other operand l any (at_place at.Cond) →

@@ -9,7 +9,7 @@ use Rattle.ifdb_syntax.specs.declared.expression.Expr.{Expr}
 use Rattle.ifdb_syntax.specs.declared.expression.Expr.TheVariants as e
 use Rattle.ifdb_syntax.specs.declared.place.ExprPlace.{ExprPlace}
 use Rattle.ifdb_syntax.specs.declared.place.ExprPlace.TheVariants as at
-use Rattle.ifdb_syntax.specs.Words.{Lexemes, DOT, MINUS, PLUS, STAR}
+use Rattle.ifdb_syntax.specs.Words.{Lexemes, DOT, MINUS, PLUS, STAR, NULL}
 use Rattle.ifdb_syntax.specs.Lang.{Lang, Then, nothing, rounds, token, number, parens}
 use Rattle.ifdb_syntax.specs.Reading.{operators, joined, bounded}
 use Rattle.ifdb_syntax.specs.Within.{expr_short}
@@ -73,8 +73,9 @@ negated_prints = record {
 
 pub literal_prints : Prints before.Other operand (literal bounded) any canon.literal_tokens
 literal_prints =
-    either (either (whole (part _ plain_prints (λ n. done _ refl refl))) negated_prints)
-    (whole (part _ (text_prints before.Other) (λ w. done _ refl refl)))
+    either (either (either (whole (part _ plain_prints (λ n. done _ refl refl))) negated_prints)
+    (whole (part _ (text_prints before.Other) (λ w. done _ refl refl))))
+    (whole (word t.Null NULL _ refl refl (λ k. refl) (done _ refl refl)))
 
 -- ---- expressions
 

@@ -51,6 +51,7 @@ following before t.Close s = ends_operand s
 following before (t.Name n) s = ends_operand s
 following before (t.Number n) s = ends_operand s
 following before (t.Quoted w) s = ends_operand s
+following before t.Null s = ends_operand s
 following before t.Count s = ends_call s
 following before t.Sum s = ends_call s
 following before t.Min s = ends_call s

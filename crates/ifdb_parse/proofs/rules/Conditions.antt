@@ -6,7 +6,7 @@ use Rattle.ifdb_syntax.specs.declared.lexeme.Lexeme.{Lexeme}
 use Rattle.ifdb_syntax.specs.declared.lexeme.Lexeme.TheVariants as t
 use Rattle.ifdb_syntax.specs.declared.condition.Cond.{Cond}
 use Rattle.ifdb_syntax.specs.declared.condition.Cond.TheVariants as c
-use Rattle.ifdb_syntax.specs.Words.{Lexemes, kind, is, DOT, AND, OR, NOT, WHERE, OPEN, CLOSE, EQUAL, NOT_EQUAL, LESS, AT_MOST, GREATER, AT_LEAST}
+use Rattle.ifdb_syntax.specs.Words.{Lexemes, kind, is, DOT, AND, OR, NOT, WHERE, IS, NULL, OPEN, CLOSE}
 use Rattle.ifdb_syntax.specs.Lang as lang
 use Rattle.ifdb_syntax.specs.Lang.{◌or◌}
 use Rattle.ifdb_syntax.specs.Reading.{bounded}
@@ -27,14 +27,11 @@ pub operand_reads : Reads (g.operand bounded) p.operand in_atom false on_factor
 unfolding p.operand
 operand_reads = branch_reads (then_reads ref_reads (λ c. nothing_reads _) refl) (then_reads literal_reads (λ v. nothing_reads _) refl) refl
 
-abbrev in_compare : Kinds
-in_compare = EQUAL ∷ NOT_EQUAL ∷ LESS ∷ AT_MOST ∷ GREATER ∷ AT_LEAST ∷ []
-
-pub compare_reads : Reads g.compare p.compare in_compare false []
+pub compare_reads : Reads g.compare p.compare p.in_compare false []
 unfolding p.compare
-compare_reads = take_reads g.compare_of t.Equal how.Equal refl in_compare go
+compare_reads = take_reads g.compare_of t.Equal how.Equal refl p.in_compare go
   where
-    go : (x : Lexeme) (a : Compare) → g.compare_of x ≡ Some a → mem (kind x) in_compare ≡ true
+    go : (x : Lexeme) (a : Compare) → g.compare_of x ≡ Some a → mem (kind x) p.in_compare ≡ true
     go t.Equal a h = refl
     go t.NotEqual a h = refl
     go t.Less a h = refl
@@ -43,11 +40,18 @@ compare_reads = take_reads g.compare_of t.Equal how.Equal refl in_compare go
     go t.AtLeast a h = refl
     go _ a h = absurd cc
 
+negates_reads : Reads g.negation p.negates (NOT ∷ []) true (NOT ∷ [])
+unfolding p.negates
+negates_reads = branch_reads (then_reads (token_reads NOT t.Not refl) (λ _. nothing_reads _) refl) (nothing_reads _) refl
+
 pub comparison_reads : Reads (g.comparison bounded) p.comparison in_atom false on_factor
-unfolding p.comparison
+unfolding p.comparison p.compared_with p.null_test p.null_word
 comparison_reads =
     widen in_atom on_factor
-    (then_reads operand_reads (λ left. then_reads compare_reads (λ how. then_reads operand_reads (λ right. nothing_reads _) refl) refl) refl) refl refl
+    (then_reads operand_reads (λ left. branch_reads
+    (then_reads compare_reads (λ how. then_reads operand_reads (λ right. nothing_reads _) refl) refl)
+    (then_reads (token_reads IS t.Is refl) (λ _. then_reads negates_reads (λ negated.
+    then_reads (token_reads NULL t.Null refl) (λ _. nothing_reads _) refl) refl) refl) refl) refl) refl refl
 
 -- ---- what begins a condition, and what goes on with it
 

@@ -3,7 +3,7 @@ use Rattle.std.proofs.Common.{◌≡◌, ℕ, zero, suc, ◌+◌, ◌-◌, false
 use Rattle.ifdb_syntax.specs.declared.lexeme.Lexeme.TheVariants as t
 use Rattle.ifdb_syntax.specs.declared.expression.Expr.{Expr}
 use Rattle.ifdb_syntax.specs.declared.expression.Expr.TheVariants as e
-use Rattle.ifdb_syntax.specs.Words.{Lexemes, is, DOT, PLUS, MINUS, STAR, OPEN, CLOSE, NAME, NUMBER, QUOTED}
+use Rattle.ifdb_syntax.specs.Words.{Lexemes, is, DOT, PLUS, MINUS, STAR, OPEN, CLOSE, NAME, NUMBER, QUOTED, NULL}
 use Rattle.ifdb_syntax.specs.Lang as lang
 use Rattle.ifdb_syntax.specs.Reading.{bounded, joined}
 use Rattle.ifdb_syntax.specs.Expressions as g
@@ -24,13 +24,15 @@ ref_reads =
     then_reads name_reads (λ n.
     branch_reads (then_reads (token_reads DOT t.Dot refl) (λ _. then_reads name_reads (λ c. nothing_reads _) refl) refl) (nothing_reads _) refl) refl
 
-pub literal_reads : Reads (g.literal bounded) p.literal (NUMBER ∷ MINUS ∷ QUOTED ∷ []) false []
+pub literal_reads : Reads (g.literal bounded) p.literal (NUMBER ∷ MINUS ∷ QUOTED ∷ NULL ∷ []) false []
 unfolding p.literal p.negative
 literal_reads =
     branch_reads
+    (branch_reads
     (branch_reads (then_reads number_reads (λ n. nothing_reads _) refl)
     (then_reads (token_reads MINUS t.Minus refl) (λ _. then_reads number_reads (λ n. nothing_reads _) refl) refl) refl)
-    (then_reads text_reads (λ w. nothing_reads _) refl) refl
+    (then_reads text_reads (λ w. nothing_reads _) refl) refl)
+    (then_reads (token_reads NULL t.Null refl) (λ _. nothing_reads _) refl) refl
 
 pub atom_reads : Reads (g.atom bounded) p.atom p.in_atom false (DOT ∷ [])
 unfolding p.atom

@@ -59,6 +59,10 @@ pub cond_fits-Compare : (a : Operand) (how : Compare) (b : Operand) → cond_fit
 unfolding cond_fits
 cond_fits-Compare a how b = ap (fold-Cond Bool cond_fits_step) (sym (c.rolls-Compare a how b)) ∙ fold-roll-Cond Bool cond_fits_step (Cond-F.Compare a how b)
 
+pub cond_fits-IsNull : (a : Operand) (negated : Bool) → cond_fits (c.IsNull a negated) ≡ operand_fits a
+unfolding cond_fits
+cond_fits-IsNull a negated = ap (fold-Cond Bool cond_fits_step) (sym (c.rolls-IsNull a negated)) ∙ fold-roll-Cond Bool cond_fits_step (Cond-F.IsNull a negated)
+
 pub cond_fits-and_of : (parts : List Cond) → cond_fits (and_of parts) ≡ list_all cond_fits parts
 cond_fits-and_of [] = cond_fits-And []
 cond_fits-and_of (a ∷ []) = sym (and_true (cond_fits a))

@@ -10,7 +10,7 @@ use Rattle.ifdb_syntax.specs.declared.lexeme.Lexeme.TheVariants as t
 use Rattle.ifdb_syntax.specs.declared.expression.Expr.{Expr}
 use Rattle.ifdb_syntax.specs.declared.expression.Expr.TheVariants as e
 use Rattle.ifdb_syntax.specs.declared.condition.Cond.{Cond}
-use Rattle.ifdb_syntax.specs.Words.{AND, CLOSE, COMMA, DOT, MINUS, NOT, OPEN, OR, PLUS, STAR, WHERE}
+use Rattle.ifdb_syntax.specs.Words.{AND, CLOSE, COMMA, DOT, IS, MINUS, NOT, NULL, OPEN, OR, PLUS, STAR, WHERE}
 use Rattle.ifdb_syntax.specs.Lang.{Lang, Then, nothing, token, parens, next_member, separated, commas, repeat}
 use Rattle.ifdb_syntax.specs.Reading.{written}
 use Rattle.ifdb_syntax.specs.Expressions as g
@@ -20,7 +20,7 @@ use Rattle.ifdb_parse.specs.declared.limits.Before.TheVariants as before
 use Rattle.ifdb_parse.specs.TreeLimits.{behind}
 use Rattle.ifdb_syntax.specs.Within.{value_fits, expr_fits, operand_fits, cond_fits, condition_fits}
 use Rattle.ifdb_parse.proofs.written.Tally.{Tallies, other, operand, sign, fits_behind, all_fit, and_assoc, nothing_tallies, then_tallies, or_tallies, some_tallies, repeat_tallies, token_tallies, name_tallies, text_tallies, number_tallies, negated_tallies, and_true}
-use Rattle.ifdb_parse.proofs.written.Forms.{expr_fits-Column, expr_fits-Literal, expr_fits-Add, expr_fits-Sub, expr_fits-Mul, cond_fits-Not, cond_fits-Compare, cond_fits-and_of, cond_fits-or_of, all-last, all-one}
+use Rattle.ifdb_parse.proofs.written.Forms.{expr_fits-Column, expr_fits-Literal, expr_fits-Add, expr_fits-Sub, expr_fits-Mul, cond_fits-Not, cond_fits-Compare, cond_fits-IsNull, cond_fits-and_of, cond_fits-or_of, all-last, all-one}
 
 -- ---- parentheses
 
@@ -65,11 +65,12 @@ negated_fits (suc n) = grind (arith, nat_tests)
 
 pub literal_tallies : (known : Bool) → Tallies (g.literal written) other known (λ v. known && value_fits v) operand
 literal_tallies known =
-    or_tallies (or_tallies
+    or_tallies (or_tallies (or_tallies
     (then_tallies number_tallies (λ n. nothing_tallies _ refl))
     (then_tallies (token_tallies {Q = sign} MINUS t.Minus refl refl (λ last p. (refl, rw p refl))) (λ _.
     then_tallies negated_tallies (λ n. nothing_tallies _ (ap (λ z. known && z) (negated_fits n))))))
-    (then_tallies text_tallies (λ w. nothing_tallies _ (sym (and_true known))))
+    (then_tallies text_tallies (λ w. nothing_tallies _ (sym (and_true known)))))
+    (then_tallies (token_tallies {Q = operand} NULL t.Null refl refl (λ last p. (refl, refl))) (λ _. nothing_tallies _ (sym (and_true known))))
 
 abbrev Known : Lang Expr → Type 0
 Known l = (known : Bool) → Tallies l other known (λ x. known && expr_fits x) operand
@@ -128,10 +129,19 @@ compare_tallies {known} = record { tells = λ u a last k p. rw k.1 (compare_tell
 abbrev Knows : Lang Cond → Type 0
 Knows l = (known : Bool) → Tallies l other known (λ x. known && cond_fits x) operand
 
+negation_tallies : {known : Bool} → Tallies h.negation other known (λ _. known) other
+negation_tallies =
+    or_tallies (then_tallies (token_tallies {Q = other} NOT t.Not refl refl (λ last p. (refl, refl))) (λ _. nothing_tallies _ refl))
+    (nothing_tallies _ refl)
+
 comparison_tallies : Knows (h.comparison written)
 comparison_tallies known =
-    then_tallies (operand_tallies known) (λ a. then_tallies compare_tallies (λ how. then_tallies (operand_tallies (known && operand_fits a)) (λ b.
+    then_tallies (operand_tallies known) (λ a. or_tallies
+    (then_tallies compare_tallies (λ how. then_tallies (operand_tallies (known && operand_fits a)) (λ b.
     nothing_tallies _ (sym (and_assoc known (operand_fits a) (operand_fits b)) ∙ ap (λ z. known && z) (sym (cond_fits-Compare a how b))))))
+    (then_tallies (token_tallies {Q = other} IS t.Is refl refl (λ last p. (refl, refl))) (λ _. then_tallies negation_tallies (λ n.
+    then_tallies (token_tallies {Q = operand} NULL t.Null refl refl (λ last p. (refl, refl))) (λ _.
+    nothing_tallies _ (ap (λ z. known && z) (sym (cond_fits-IsNull a n))))))))
 
 negated_tally : (l : Lang Cond) → Knows l → Knows (h.negated l)
 negated_tally l tl known = some_tallies (h.negated_upto l) (λ n. upto n known)

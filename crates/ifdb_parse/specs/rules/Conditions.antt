@@ -1,12 +1,13 @@
 -- Conditions.
-use Rattle.std.specs.Prelude.{ℕ, zero, suc, [], ◌∷◌, length, Option}
+use Rattle.std.specs.Prelude.{ℕ, Bool, true, false, zero, suc, [], ◌∷◌, length, Option}
 use Rattle.ifdb_value.specs.declared.value.Compare.{Compare}
 use Rattle.ifdb_syntax.specs.declared.expression.Operand.{Operand}
 use Rattle.ifdb_syntax.specs.declared.expression.Operand.TheVariants as o
 use Rattle.ifdb_syntax.specs.declared.condition.Cond.{Cond}
 use Rattle.ifdb_syntax.specs.declared.condition.Cond.TheVariants as c
-use Rattle.ifdb_syntax.specs.Words.{NOT, AND, OR, WHERE, OPEN, NAME}
+use Rattle.ifdb_syntax.specs.Words.{NOT, AND, OR, WHERE, IS, NULL, OPEN, NAME, EQUAL, NOT_EQUAL, LESS, AT_MOST, GREATER, AT_LEAST}
 use Rattle.ifdb_syntax.specs.Conditions.{compare_of, and_of, or_of}
+use Rattle.ifdb_parse.specs.theory.Kinds.{Kinds}
 use Rattle.ifdb_parse.specs.theory.Parser.{Parser, ◌>>=◌, ◌>>◌, pure, take, branch}
 use Rattle.ifdb_parse.specs.rules.Shared.{token, parens, optional, separated}
 use Rattle.ifdb_parse.specs.rules.Expressions.{column_ref, literal}
@@ -19,13 +20,39 @@ operand = branch (NAME ∷ []) (do c ← column_ref; pure (o.Column c)) (do v �
 unfoldable pub compare : Parser Compare
 compare = take compare_of
 
--- operand compare operand
-unfoldable pub comparison : Parser Cond
-comparison = do
-  left ← operand
+-- what begins a comparison behind its left operand
+abbrev pub in_compare : Kinds
+in_compare = EQUAL ∷ NOT_EQUAL ∷ LESS ∷ AT_MOST ∷ GREATER ∷ AT_LEAST ∷ []
+
+-- compare operand, behind the left one
+unfoldable pub compared_with : Operand → Parser Cond
+compared_with left = do
   how ← compare
   right ← operand
   pure (c.Compare left how right)
+
+-- [NOT], which negates
+unfoldable pub negates : Parser Bool
+negates = branch (NOT ∷ []) (do token NOT; pure true) (pure false)
+
+-- NULL, behind IS or IS NOT
+unfoldable pub null_word : Operand → Bool → Parser Cond
+null_word x negated = do
+  token NULL
+  pure (c.IsNull x negated)
+
+-- IS [NOT] NULL, behind the operand
+unfoldable pub null_test : Operand → Parser Cond
+null_test x = do
+  token IS
+  negated ← negates
+  null_word x negated
+
+-- operand compare operand | operand IS [NOT] NULL
+unfoldable pub comparison : Parser Cond
+comparison = do
+  left ← operand
+  branch in_compare (compared_with left) (null_test left)
 
 -- NOT before what follows it
 unfoldable pub negation : Parser Cond → Parser Cond
@@ -43,11 +70,11 @@ negated_upto p (suc n) = branch (NOT ∷ []) (negation (negated_upto p n)) p
 unfoldable pub negated : Parser Cond → Parser Cond
 negated p = λ s. negated_upto p (length s) s
 
--- ( cond ) | operand compare operand
+-- ( cond ) | operand compare operand | operand IS [NOT] NULL
 unfoldable pub basic : Parser Cond → Parser Cond
 basic cond = branch (OPEN ∷ []) (parens cond) comparison
 
--- prim = NOT prim | ( cond ) | operand compare operand
+-- prim = NOT prim | ( cond ) | operand compare operand | operand IS [NOT] NULL
 unfoldable pub prim : Parser Cond → Parser Cond
 prim cond = negated (basic cond)
 

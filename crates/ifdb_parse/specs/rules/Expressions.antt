@@ -5,7 +5,7 @@ use Rattle.ifdb_value.specs.declared.value.Value.TheVariants as value
 use Rattle.ifdb_syntax.specs.declared.expression.ColumnRef.{ColumnRef}
 use Rattle.ifdb_syntax.specs.declared.expression.Expr.{Expr}
 use Rattle.ifdb_syntax.specs.declared.expression.Expr.TheVariants as e
-use Rattle.ifdb_syntax.specs.Words.{DOT, PLUS, MINUS, STAR, OPEN, NAME, NUMBER, QUOTED}
+use Rattle.ifdb_syntax.specs.Words.{DOT, PLUS, MINUS, STAR, OPEN, NAME, NUMBER, QUOTED, NULL}
 use Rattle.ifdb_syntax.specs.Reading.{bounded, joined}
 use Rattle.ifdb_parse.specs.theory.Kinds.{Kinds}
 use Rattle.ifdb_parse.specs.theory.Parser.{Parser, ◌>>=◌, ◌>>◌, pure, branch, repeat_by}
@@ -24,19 +24,21 @@ negative = do
   n ← number
   pure (value.Int (bounded.negated n))
 
--- literal = number | - number | text
+-- literal = number | - number | text | NULL
 unfoldable pub literal : Parser Value
 literal =
-    branch (NUMBER ∷ MINUS ∷ []) (branch (NUMBER ∷ []) (do n ← number; pure (value.Int (bounded.plain n))) (do token MINUS; negative))
-    (do w ← text; pure (value.Text w))
+    branch (NUMBER ∷ MINUS ∷ QUOTED ∷ [])
+    (branch (NUMBER ∷ MINUS ∷ []) (branch (NUMBER ∷ []) (do n ← number; pure (value.Int (bounded.plain n))) (do token MINUS; negative))
+    (do w ← text; pure (value.Text w)))
+    (do token NULL; pure value.Null)
 
 -- what begins a column or a literal
 abbrev pub in_atom : Kinds
-in_atom = NAME ∷ NUMBER ∷ MINUS ∷ QUOTED ∷ []
+in_atom = NAME ∷ NUMBER ∷ MINUS ∷ QUOTED ∷ NULL ∷ []
 
 -- what begins an expression
 abbrev pub in_expr : Kinds
-in_expr = NAME ∷ NUMBER ∷ MINUS ∷ QUOTED ∷ OPEN ∷ []
+in_expr = NAME ∷ NUMBER ∷ MINUS ∷ QUOTED ∷ NULL ∷ OPEN ∷ []
 
 -- ref | literal
 unfoldable pub atom : Parser Expr

@@ -82,7 +82,7 @@ pub static LISTS: [Built; 26] = [
 ];
 
 /// Expressions and conditions.
-pub static DEPTHS: [Built; 11] = [
+pub static DEPTHS: [Built; 13] = [
     (b"SELECT a", b"+a", 64, b" FROM t", "request"),
     (b"SELECT a", b"+a", 65, b" FROM t", "Limit"),
     (b"SELECT a", b"*a", 65, b" FROM t", "Limit"),
@@ -90,6 +90,20 @@ pub static DEPTHS: [Built; 11] = [
     (b"SELECT a", b"-(a+b)", 33, b" FROM t", "Limit"),
     (b"DELETE FROM t WHERE ", b"NOT ", 64, b"a = 1", "request"),
     (b"DELETE FROM t WHERE ", b"NOT ", 65, b"a = 1", "Limit"),
+    (
+        b"DELETE FROM t WHERE ",
+        b"NOT ",
+        63,
+        b"a IS NOT NULL",
+        "request",
+    ),
+    (
+        b"DELETE FROM t WHERE ",
+        b"NOT ",
+        64,
+        b"a IS NOT NULL",
+        "Limit",
+    ),
     (
         b"DELETE FROM t WHERE a = 1",
         b" AND a = 1",

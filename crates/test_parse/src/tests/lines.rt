@@ -124,7 +124,7 @@ pub static SELECTS: [(&[u8], &str); 13] = [
 ];
 
 /// Expressions, and the parentheses of their canonical text.
-pub static EXPRESSIONS: [(&[u8], &str); 13] = [
+pub static EXPRESSIONS: [(&[u8], &str); 14] = [
     (b"SELECT a+b*c FROM t", "SELECT a + b * c FROM t"),
     (b"SELECT (a+b)*c FROM t", "SELECT (a + b) * c FROM t"),
     (b"SELECT a-b-c FROM t", "SELECT a - b - c FROM t"),
@@ -141,13 +141,17 @@ pub static EXPRESSIONS: [(&[u8], &str); 13] = [
         "SELECT a - 1, a - 1, a - -1, a - -1 FROM t",
     ),
     (
+        b"SELECT null+a, -1 - NULL, NULL-1, (NULL) FROM t",
+        "SELECT NULL + a, -1 - NULL, NULL - 1, NULL FROM t",
+    ),
+    (
         b"SELECT -1 - a, -1*-2 FROM t",
         "SELECT -1 - a, -1 * -2 FROM t",
     ),
 ];
 
 /// Conditions, and the parentheses of their canonical text.
-pub static CONDITIONS: [(&[u8], &str); 13] = [
+pub static CONDITIONS: [(&[u8], &str); 17] = [
     (
         b"SELECT a FROM t WHERE a = 1 AND b <> 2 AND c < 3",
         "SELECT a FROM t WHERE a = 1 AND b <> 2 AND c < 3",
@@ -193,6 +197,22 @@ pub static CONDITIONS: [(&[u8], &str); 13] = [
         "SELECT a FROM t WHERE NOT NOT (a = 1 OR b = 2)",
     ),
     (
+        b"SELECT a FROM t WHERE a is null",
+        "SELECT a FROM t WHERE a IS NULL",
+    ),
+    (
+        b"SELECT a FROM t WHERE t.a IS NOT NULL AND NULL IS NULL",
+        "SELECT a FROM t WHERE t.a IS NOT NULL AND NULL IS NULL",
+    ),
+    (
+        b"SELECT a FROM t WHERE NOT (a IS NOT NULL) OR NOT ('x' IS NULL)",
+        "SELECT a FROM t WHERE NOT a IS NOT NULL OR NOT 'x' IS NULL",
+    ),
+    (
+        b"SELECT a FROM t WHERE a=null OR NULL != 'x'",
+        "SELECT a FROM t WHERE a = NULL OR NULL <> 'x'",
+    ),
+    (
         b"SELECT a FROM t WHERE ((a = 1))",
         "SELECT a FROM t WHERE a = 1",
     ),
@@ -203,7 +223,7 @@ pub static CONDITIONS: [(&[u8], &str); 13] = [
 ];
 
 /// INSERT, UPDATE and DELETE.
-pub static WRITES: [(&[u8], &str); 11] = [
+pub static WRITES: [(&[u8], &str); 13] = [
     (b"INSERT INTO t VALUES (1)", "INSERT INTO t VALUES (1)"),
     (
         b"insert into T(b,A) values(1,'x'),(-2,'y') declassifying(a,b);",
@@ -220,6 +240,14 @@ pub static WRITES: [(&[u8], &str); 11] = [
     (
         b"INSERT INTO t (a) VALUES (1)",
         "INSERT INTO t (a) VALUES (1)",
+    ),
+    (
+        b"INSERT INTO t VALUES (NULL, 'NULL')",
+        "INSERT INTO t VALUES (NULL, 'NULL')",
+    ),
+    (
+        b"UPDATE t SET a = null WHERE b IS NULL",
+        "UPDATE t SET a = NULL WHERE b IS NULL",
     ),
     (b"UPDATE t SET a = 1", "UPDATE t SET a = 1"),
     (
@@ -378,7 +406,7 @@ pub static SOURCE_PLACES: [(&[u8], &str); 6] = [
 ];
 
 /// The same in conditions.
-pub static CONDITION_PLACES: [(&[u8], &str); 14] = [
+pub static CONDITION_PLACES: [(&[u8], &str); 20] = [
     (b"SELECT a FROM t WHERE a", "Syntax(23)"),
     (b"SELECT a FROM t WHERE a = ", "Syntax(26)"),
     (b"SELECT a FROM t WHERE a + 1 = 2", "Syntax(24)"),
@@ -392,7 +420,13 @@ pub static CONDITION_PLACES: [(&[u8], &str); 14] = [
     (b"SELECT a FROM t WHERE a NOT = 1", "Syntax(24)"),
     (b"SELECT a FROM t WHERE (a = 1", "Syntax(28)"),
     (b"SELECT a FROM t WHERE a = 1)", "Syntax(27)"),
-    (b"SELECT a FROM t WHERE a IS NULL", "Syntax(24)"),
+    (b"SELECT a FROM t WHERE a IS", "Syntax(26)"),
+    (b"SELECT a FROM t WHERE a IS 1", "Syntax(27)"),
+    (b"SELECT a FROM t WHERE a IS NOT", "Syntax(30)"),
+    (b"SELECT a FROM t WHERE a IS NOT 1", "Syntax(31)"),
+    (b"SELECT a FROM t WHERE a IS NULL NULL", "Syntax(32)"),
+    (b"SELECT a FROM t WHERE a NULL", "Syntax(24)"),
+    (b"SELECT a FROM t WHERE a + 1 IS NULL", "Syntax(24)"),
 ];
 
 /// The same in groups and orders.
@@ -418,7 +452,7 @@ pub static INSERT_PLACES: [(&[u8], &str); 12] = [
     (b"INSERT INTO t VALUES (1),", "Syntax(25)"),
     (b"INSERT INTO t VALUES (1) (2)", "Syntax(25)"),
     (b"INSERT INTO t VALUES (1,)", "Syntax(24)"),
-    (b"INSERT INTO t VALUES (NULL)", "Syntax(22)"),
+    (b"INSERT INTO t VALUES (-NULL)", "Syntax(23)"),
     (b"INSERT INTO t VALUES (1) DECLASSIFYING a", "Syntax(39)"),
 ];
 
@@ -463,7 +497,7 @@ pub static LAST_PLACES: [(&[u8], &str); 16] = [
 ];
 
 /// Numbers at the end of a value's range.
-pub static LIMITS: [(&[u8], &str); 15] = [
+pub static LIMITS: [(&[u8], &str); 16] = [
     (
         b"SELECT -9223372036854775808 FROM t",
         "SELECT -9223372036854775808 FROM t",
@@ -477,6 +511,7 @@ pub static LIMITS: [(&[u8], &str); 15] = [
     (b"SELECT (a) -9223372036854775808 FROM t", "Limit"),
     (b"SELECT 'x' -9223372036854775808 FROM t", "Limit"),
     (b"SELECT 1 -9223372036854775808 FROM t", "Limit"),
+    (b"SELECT NULL -9223372036854775808 FROM t", "Limit"),
     (
         b"SELECT a + -9223372036854775808 FROM t",
         "SELECT a + -9223372036854775808 FROM t",
