@@ -16,7 +16,8 @@ use Rattle.ifdb_row.proofs.LiveLaws.{put_all}
 use Rattle.ifdb_bound.specs.declared.schema.Schema.{Schema}
 use Rattle.ifdb_wire.specs.declared.fault.Fault.{Fault}
 use Rattle.ifdb_wire.specs.declared.fault.Fault.TheVariants as fault
-use Rattle.ifdb_model.specs.Writes.{Scene, values_at, bound_parents, new_slot, new_write, inserted, insert_one, insert_all}
+use Rattle.ifdb_catalog.specs.Statements.{values_at}
+use Rattle.ifdb_model.specs.Writes.{Scene, binding_keys, bound_parents, new_slot, new_write, inserted, insert_one, insert_all}
 use Rattle.std.proofs.lemmas.Cmp.{nat_list_cmp_total, tied_itself}
 use Rattle.std.specs.Ordering.{is_eq}
 use Rattle.ifdb_txn.specs.Inserted.{is_new, are_new}
@@ -26,15 +27,15 @@ module _ (x : Scene) (t : ℕ) (schema : Schema) (earlier : List Write) (values 
   abbrev its_clash : Bool
   its_clash = clash x.tags (after x.rows earlier) t (values_at values schema.key) x.label
 
-  pub inserted_put : (refs : List Slot) → its_clash ≡ false → bound_parents x values schema.foreign ≡ Some refs
+  pub inserted_put : (refs : List Slot) → its_clash ≡ false → bound_parents x values (binding_keys values schema.foreign) ≡ Some refs
       → insert_one x t schema earlier values ≡ Ok (put (new_write (new_slot t schema values x.label) values refs) earlier)
-  inserted_put refs h b = ap (λ c. cond c (Err fault.DuplicateKey) (inserted x t schema earlier values (bound_parents x values schema.foreign))) h ∙ ap (inserted x t schema earlier values) b
+  inserted_put refs h b = ap (λ c. cond c (Err fault.DuplicateKey) (inserted x t schema earlier values (bound_parents x values (binding_keys values schema.foreign)))) h ∙ ap (inserted x t schema earlier values) b
 
   pub key_refused : its_clash ≡ true → insert_one x t schema earlier values ≡ Err fault.DuplicateKey
-  key_refused h = ap (λ c. cond c (Err fault.DuplicateKey) (inserted x t schema earlier values (bound_parents x values schema.foreign))) h
+  key_refused h = ap (λ c. cond c (Err fault.DuplicateKey) (inserted x t schema earlier values (bound_parents x values (binding_keys values schema.foreign)))) h
 
-  pub parent_refused : its_clash ≡ false → bound_parents x values schema.foreign ≡ None → insert_one x t schema earlier values ≡ Err fault.NoReference
-  parent_refused h b = ap (λ c. cond c (Err fault.DuplicateKey) (inserted x t schema earlier values (bound_parents x values schema.foreign))) h ∙ ap (inserted x t schema earlier values) b
+  pub parent_refused : its_clash ≡ false → bound_parents x values (binding_keys values schema.foreign) ≡ None → insert_one x t schema earlier values ≡ Err fault.NoReference
+  parent_refused h b = ap (λ c. cond c (Err fault.DuplicateKey) (inserted x t schema earlier values (bound_parents x values (binding_keys values schema.foreign)))) h ∙ ap (inserted x t schema earlier values) b
 
 label_same : (l : List ℕ) → is_same_label l l ≡ true
 label_same l = ap is_eq (tied_itself nat_list_cmp_total l)

@@ -49,7 +49,7 @@ module _ (x : Scene) (schema : Schema) (sets : List BoundAssignment) where
   -- ---- the writes stand as their rows
   one_slot : (r : Row) (w : Write) (o : Option (List Value)) → update_to x schema sets r o ≡ Ok w → (w.slot ≡ r.slot) × (is_fitting w.slot w.row ≡ true)
   one_slot r w None e = cc
-  one_slot r w (Some values) e = by (rebound x sets values schema.foreign r.refs) e where
+  one_slot r w (Some values) e = by (rebound x sets r.values values schema.foreign r.refs) e where
     by : (o : Option (List Slot)) → updated r.slot values o ≡ Ok w → (w.slot ≡ r.slot) × (is_fitting w.slot w.row ≡ true)
     by None k = cc
     by (Some refs) k =

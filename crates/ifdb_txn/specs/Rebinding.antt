@@ -1,5 +1,5 @@
 -- Parents one by one.
-use Rattle.std.specs.Prelude.{Option, Some, None, Result, Ok, Err, List, ◌++◌, if◌then◌else◌}
+use Rattle.std.specs.Prelude.{Bool, true, false, Option, Some, None, Result, Ok, Err, List, ◌++◌, if◌then◌else◌}
 use Rattle.ifdb_value.specs.declared.value.Value.{Value}
 use Rattle.ifdb_row.specs.declared.slot.Slot.{Slot}
 use Rattle.ifdb_row.specs.declared.write.Write.{Write}
@@ -21,6 +21,12 @@ kept_of sets f bound = if is_assigned sets f then None else bound
 abbrev pub kept_or_bound : Scene → List Value → Foreign → Option Slot → Option Slot
 kept_or_bound x values f None = bound_parent x values f
 kept_or_bound x values f (Some s) = Some s
+
+-- the parent by a foreign key, or none where it doesn't bind; nothing where it has to bind one and none is there
+abbrev pub parent_where : Bool → Option Slot → Option (Option Slot)
+parent_where true None = None
+parent_where true (Some s) = Some (Some s)
+parent_where false parent = Some None
 
 -- some writes before the others, if these aren't refused
 abbrev pub before : List Write → Result (List Write) Fault → Result (List Write) Fault

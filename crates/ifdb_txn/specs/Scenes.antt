@@ -8,7 +8,7 @@ use Rattle.ifdb_row.specs.Seen.{clash}
 use Rattle.ifdb_bound.specs.declared.condition.BoundCond.{BoundCond}
 use Rattle.ifdb_bound.specs.declared.request.BoundAssignment.{BoundAssignment}
 use Rattle.ifdb_wire.specs.declared.fault.Fault.{Fault}
-use Rattle.ifdb_model.specs.Writes.{Scene, bound_parents, rebound, new_slot, insert_one, insert_all, matched, update_one, update_all}
+use Rattle.ifdb_model.specs.Writes.{Scene, binding_keys, bound_parents, rebound, new_slot, insert_one, insert_all, matched, update_one, update_all}
 use Rattle.ifdb_txn.specs.Inserted.{are_new}
 use Rattle.ifdb_txn.specs.Keyed.{are_keyed}
 use Rattle.ifdb_txn.specs.declared.target.Target.{Target}
@@ -17,13 +17,13 @@ use Rattle.ifdb_txn.specs.declared.target.Target.{Target}
 abbrev pub scene_of : Target → List Row → Scene
 scene_of x rows = record { tags = x.from.tags.now; rows = rows; label = x.from.label.now; given = x.from.given.now }
 
--- the parents of a row with these values, if all are there
+-- the parents of a row with these values, by the foreign keys that bind, if all are there
 abbrev pub parents_of : Target → List Row → List Value → Option (List Slot)
-parents_of x rows values = bound_parents (scene_of x rows) values x.schema.now.foreign
+parents_of x rows values = bound_parents (scene_of x rows) values (binding_keys values x.schema.now.foreign)
 
 -- the parents of a row that is updated to these values, if all are there
-abbrev pub rebound_of : Target → List Row → List BoundAssignment → List Value → List Slot → Option (List Slot)
-rebound_of x rows assignments values refs = rebound (scene_of x rows) assignments values x.schema.now.foreign refs
+abbrev pub rebound_of : Target → List Row → List BoundAssignment → Row → List Value → Option (List Slot)
+rebound_of x rows assignments r values = rebound (scene_of x rows) assignments r.values values x.schema.now.foreign r.refs
 
 -- ---- INSERT
 

@@ -1,11 +1,12 @@
 // The parents that a row is bound to.
-ghost use Rattle.std.specs.Prelude.{◌≡◌, IfOk};
+ghost use Rattle.std.specs.Prelude.{◌≡◌, ◌++◌, IfOk, OnOk, option_to_list};
 ghost use Rattle.std.specs.Option.{option_copied};
 ghost use Rattle.ifdb_bound.specs.Expressions.{value_at};
-ghost use Rattle.ifdb_model.specs.Writes.{bound_parent, values_at};
+ghost use Rattle.ifdb_catalog.specs.Statements.{are_given, values_at};
+ghost use Rattle.ifdb_model.specs.Writes.{binds, bound_parent, refs_behind};
 ghost use Rattle.ifdb_foreign.specs.Parents.{Binds, IsMade};
 ghost use Rattle.ifdb_txn.specs.Scenes.{parents_of, rebound_of, scene_of};
-ghost use Rattle.ifdb_txn.specs.Rebinding.{kept_of, kept_or_bound};
+ghost use Rattle.ifdb_txn.specs.Rebinding.{kept_of, kept_or_bound, parent_where};
 
 use crate::OutOfMemory;
 use crate::assigned::is_assigned;
@@ -13,12 +14,12 @@ use crate::target::Target;
 use ifdb_bound::{BoundAssignment, Foreign};
 use ifdb_expr::value_in;
 use ifdb_foreign::bind_parent;
-use ifdb_row::{Refs, Rows, Slot, Values};
+use ifdb_row::{Refs, Row, Rows, Slot, Values};
 use ifdb_value::Value;
 use ifdb_wire::Fault;
 use std::alloc::Global;
 
-/// The parents of a row with these values, by each of the table's foreign keys in their order.
+/// The parents of a row with these values, by each of the table's foreign keys that binds, in their order.
 #[tactic(auto, using(crate::proofs::Binding::with_parent, crate::proofs::Binding::without_parent))]
 pub(crate) fn bind_parents<R: Rows>(
     target: &Target<'_>,
@@ -30,29 +31,95 @@ pub(crate) fn bind_parents<R: Rows>(
 {
     let mut refs = Refs::new(target.alloc);
     for foreign in target.schema.foreign.items() {
-        refs.push(parent_by(target, rows, values, foreign)?)?;
+        let parent = parent_where(target, rows, values, foreign, None)?;
+        push(&mut refs, parent)?;
     }
     Ok(refs)
 }
 
-/// The parents of a row that is updated: those of the foreign keys with an assigned column are bound anew, and the others stay.
+/// The parents of a row that is updated to these values: those of the foreign keys with an assigned column are bound anew, and the
+/// others stay. A row has a reference for each foreign key that its old values bind, so the old values tell which one is whose.
+#[tactic(auto, using(crate::proofs::Binding::rebound_with, crate::proofs::Binding::rebound_without))]
 pub(crate) fn rebind_parents<R: Rows>(
     target: &Target<'_>,
     rows: &R,
     assignments: &[BoundAssignment],
+    row: &Row,
     values: &[Value],
-    refs: &[Slot],
 ) -> Result<Refs, Fault>
     requires made { IsMade target.now.from (R.rows rows.now) }
-    ensures { Binds (rebound_of target.now (R.rows rows.now) assignments.now values.now refs.now)
+    ensures { Binds (rebound_of target.now (R.rows rows.now) assignments.now row.now values.now)
         result }
 {
     let mut found = Refs::new(target.alloc);
-    for (at, foreign) in target.schema.foreign.items().iter().enumerate() {
-        let kept = kept(assignments, foreign, refs.get(at));
-        found.push(kept_or_bound(target, rows, values, foreign, kept)?)?;
+    let mut refs = row.refs.items();
+    for foreign in target.schema.foreign.items() {
+        let kept = kept(assignments, foreign, refs.first());
+        let parent = parent_where(target, rows, values, foreign, kept)?;
+        push(&mut found, parent)?;
+        refs = behind(refs, binds(row.values.items(), foreign));
     }
     Ok(found)
+}
+
+/// The parent of a row with these values by a foreign key: the slot that is kept, or else one that is found; none where the
+/// foreign key doesn't bind.
+fn parent_where<R: Rows>(
+    target: &Target<'_>,
+    rows: &R,
+    values: &[Value],
+    foreign: &Foreign,
+    kept: Option<&Slot>,
+) -> Result<Option<Slot>, Fault>
+    requires made { IsMade target.now.from (R.rows rows.now) }
+    ensures { Binds (parent_where (binds values.now foreign.now)
+        (kept_or_bound (scene_of target.now (R.rows rows.now)) values.now foreign.now
+        (option_copied kept.entry))) result }
+{
+    if !binds(values, foreign) {
+        return Ok(None);
+    }
+    let slot = kept_or_bound(target, rows, values, foreign, kept)?;
+    Ok(Some(slot))
+}
+
+/// Whether a foreign key binds a row with these values: none of its columns is NULL.
+fn binds(values: &[Value], foreign: &Foreign) -> bool
+    ensures { result ≡ binds values.now foreign.now }
+{
+    are_given(values, foreign.columns.items())
+}
+
+/// Whether none of the values at some places is NULL.
+pub(crate) fn are_given(values: &[Value], places: &[usize]) -> bool
+    ensures { result ≡ are_given (values_at values.now places.now) }
+{
+    for place in places {
+        if value_in(values, *place).is_null() {
+            return false;
+        }
+    }
+    true
+}
+
+/// One parent more, where there is one.
+fn push(refs: &mut Refs, parent: Option<Slot>) -> Result<(), OutOfMemory>
+    ensures { OnOk result (refs.new ≡ refs.old ++ option_to_list parent) }
+{
+    match parent {
+        Some(slot) => refs.push(slot),
+        None => Ok(()),
+    }
+}
+
+/// The references behind that of a foreign key, which has one where it bound.
+fn behind(refs: &[Slot], bound: bool) -> &[Slot]
+    ensures { result.now ≡ refs_behind bound refs.now }
+{
+    match refs {
+        [_, rest @ ..] if bound => rest,
+        _ => refs,
+    }
 }
 
 /// The slot that a row was bound to, if no column of the foreign key is assigned.

@@ -69,7 +69,7 @@ fn update_one<R: Rows>(
     ensures { Gives (one_updated target.now (R.rows rows.now) assignments.now row.now) result }
 {
     let values = assigned(target.alloc, row.values.items(), assignments)?;
-    let refs = rebind_parents(target, rows, assignments, values.items(), row.refs.items())?;
+    let refs = rebind_parents(target, rows, assignments, row, values.items())?;
     let write = write_of(target.alloc, &row.slot, values, refs)?;
     Ok(write)
 }

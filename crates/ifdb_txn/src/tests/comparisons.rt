@@ -16,6 +16,8 @@ use std::test::Fail;
 pub(super) enum Wrote {
     /// A row with this number that is bound to rows of these labels.
     Row(i64, i64, &'static [At]),
+    /// A row with NULL for its number that is bound to rows of these labels.
+    Null(i64, &'static [At]),
     /// No row.
     Gone(i64),
 }
@@ -92,13 +94,14 @@ fn is_refused_as(rt: &impl Abort, place: usize, fault: Fault, want: &Comes) -> R
 /// Whether a write is this one.
 fn is_write(write: &Write, want: &Wrote) -> bool {
     match want {
-        Wrote::Row(id, number, parents) => puts(write, *id, *number, parents),
+        Wrote::Row(id, number, parents) => puts(write, *id, Some(*number), parents),
+        Wrote::Null(id, parents) => puts(write, *id, None, parents),
         Wrote::Gone(id) => write.row.is_none() && is_id(write.slot.key.items(), *id),
     }
 }
 
-/// Whether a write puts a row of these numbers into the slot of its id, bound to rows of these labels.
-fn puts(write: &Write, id: i64, number: i64, parents: &[At]) -> bool {
+/// Whether a write puts a row of these numbers, the second of which may be NULL, into the slot of its id, bound to rows of these labels.
+fn puts(write: &Write, id: i64, number: Option<i64>, parents: &[At]) -> bool {
     match &write.row {
         Some(row) => {
             is_id(write.slot.key.items(), id)
@@ -115,9 +118,13 @@ fn is_id(key: &[Value], id: i64) -> bool {
     matches!(key, [Value::Int(found)] if *found == id)
 }
 
-/// Whether values are these two numbers.
-fn are_numbers(values: &[Value], id: i64, number: i64) -> bool {
-    matches!(values, [Value::Int(first), Value::Int(second)] if *first == id && *second == number)
+/// Whether values are these two numbers, the second of which may be NULL.
+fn are_numbers(values: &[Value], id: i64, number: Option<i64>) -> bool {
+    match values {
+        [Value::Int(first), Value::Int(second)] => *first == id && number == Some(*second),
+        [Value::Int(first), Value::Null] => *first == id && number.is_none(),
+        _ => false,
+    }
 }
 
 /// Whether slots are at these labels.

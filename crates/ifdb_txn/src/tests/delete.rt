@@ -24,7 +24,7 @@ static CASES: [Case; 4] = [
         Low,
         Low,
         Delete(All),
-        Writes(2, &[Gone(10), Gone(12)]),
+        Writes(3, &[Gone(10), Gone(12), Gone(13)]),
     ),
 ];
 

@@ -1,16 +1,16 @@
 //! What INSERTs write.
 use super::comparisons::Comes::{Refused, Writes};
-use super::comparisons::Wrote::Row;
+use super::comparisons::Wrote::{Null, Row};
 use super::comparisons::{Case, all_come};
 use super::rows::At::{High, Low};
 use super::rows::Which::{Note, Pair, Visit};
 use super::rows::one_tag;
-use super::statements::Does::Insert;
+use super::statements::Does::{Insert, InsertNull};
 use super::statements::came_of;
 use ifdb_wire::Fault;
 use std::test::Fail;
 
-static CASES: [Case; 17] = [
+static CASES: [Case; 20] = [
     // New keys: what a label sees decides, the statement's own rows too.
     Case(
         Note,
@@ -127,6 +127,16 @@ static CASES: [Case; 17] = [
         Insert(&[(12, 1)]),
         Refused(Fault::NoReference),
     ),
+    // NULL needs no parent, and the other foreign key does.
+    Case(Visit, Low, Low, InsertNull(20), Writes(1, &[Null(20, &[])])),
+    Case(
+        Pair,
+        Low,
+        Low,
+        InsertNull(10),
+        Writes(1, &[Null(10, &[Low])]),
+    ),
+    Case(Pair, Low, Low, InsertNull(20), Refused(Fault::NoReference)),
 ];
 
 #[test]

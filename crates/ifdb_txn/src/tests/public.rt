@@ -3,11 +3,11 @@ ghost use Rattle.std.specs.Prelude.{◌≡◌, ◌∷◌, [], IfOk, IsTrue};
 ghost use Rattle.ifdb_bound.specs.declared.request.Bound.TheVariants as bound;
 ghost use Rattle.ifdb_catalog.specs.Fits.{bound_fits, is_table};
 ghost use Rattle.ifdb_catalog.specs.Public.{table_at};
-ghost use Rattle.ifdb_catalog.specs.Scope.{kinds_of};
-ghost use Rattle.ifdb_catalog.specs.Statements.{values_fit};
+ghost use Rattle.ifdb_catalog.specs.Statements.{fills};
 
 use super::rows::values_of;
 use super::tables::{are_of_kinds, note_of};
+use crate::parents::are_given;
 use crate::statement::{Writer, writes_of};
 use crate::written::Written;
 use ifdb_bound::{Bound, Change};
@@ -46,7 +46,7 @@ fn with_notes(rt: &impl Abort, alloc: Global) -> Result<Catalog, Fail> {
 
 /// What an INSERT of one note writes, where there is none.
 fn first_note(rt: &impl Abort, alloc: Global, catalog: &Catalog) -> Result<Written, Fail> {
-    let values = values_of(alloc, 1, 2)?;
+    let values = values_of(alloc, 1, Value::Int(2))?;
     assert!(rt; takes(catalog, TableId(0), values.items()));
     let insert = insert_of(alloc, values)?;
     let written = written_by(alloc, catalog, &insert);
@@ -83,10 +83,12 @@ fn written_by(alloc: Global, catalog: &Catalog, found: &Bound) -> Result<Written
 #[tactic(auto, using(crate::proofs::TableAt::table_is))]
 fn takes(catalog: &Catalog, table: TableId, values: &[Value]) -> bool
     ensures { IsTrue result → IsTrue (is_table catalog.now table)
-        × IsTrue (values_fit (kinds_of (table_at catalog.now table).columns) values.now) }
+        × IsTrue (fills (table_at catalog.now table) values.now) }
 {
     match catalog.table(table) {
-        Some(schema) => are_of_kinds(schema.columns.items(), values),
+        Some(schema) => {
+            are_of_kinds(schema.columns.items(), values) && are_given(values, schema.key.items())
+        }
         None => false,
     }
 }

@@ -23,20 +23,22 @@ pub(super) enum Which {
     Pair,
 }
 
-/// A row: its table, its id, its other number, its label, and the label of the rows that it is bound to.
-struct One(Which, i64, i64, At, At);
+/// A row: its table, its id, its other number or NULL, its label, and the label of the rows that it is bound to.
+struct One(Which, i64, Option<i64>, At, At);
 
-static ROWS: [One; 10] = [
-    One(Which::Note, 1, 5, At::Low, At::Low),
-    One(Which::Note, 1, 6, At::High, At::Low),
-    One(Which::Note, 2, 7, At::Low, At::Low),
-    One(Which::Note, 3, i64::MAX, At::Low, At::Low),
-    One(Which::Note, 4, 8, At::Low, At::Low),
-    One(Which::Note, 9, 9, At::High, At::Low),
-    One(Which::Visit, 10, 1, At::Low, At::Low),
-    One(Which::Visit, 11, 1, At::High, At::High),
-    One(Which::Visit, 12, 2, At::Low, At::Low),
-    One(Which::Pair, 10, 1, At::High, At::Low),
+static ROWS: [One; 12] = [
+    One(Which::Note, 1, Some(5), At::Low, At::Low),
+    One(Which::Note, 1, Some(6), At::High, At::Low),
+    One(Which::Note, 2, Some(7), At::Low, At::Low),
+    One(Which::Note, 3, Some(i64::MAX), At::Low, At::Low),
+    One(Which::Note, 4, Some(8), At::Low, At::Low),
+    One(Which::Note, 9, Some(9), At::High, At::Low),
+    One(Which::Visit, 10, Some(1), At::Low, At::Low),
+    One(Which::Visit, 11, Some(1), At::High, At::High),
+    One(Which::Visit, 12, Some(2), At::Low, At::Low),
+    One(Which::Visit, 13, Some(1), At::Low, At::Low),
+    One(Which::Pair, 10, Some(1), At::High, At::Low),
+    One(Which::Pair, 13, None, At::High, At::Low),
 ];
 
 /// One plain tag.
@@ -87,33 +89,44 @@ fn row_of(alloc: Global, tags: &Tags, one: &One) -> Result<Shared<Row>, OutOfMem
 {
     let row = Row {
         slot: slot_of(alloc, tags, one.0, one.1, one.3)?,
-        values: values_of(alloc, one.1, one.2)?,
+        values: values_of(alloc, one.1, number_of(one.2))?,
         refs: refs_of(alloc, tags, one)?,
     };
     Shared::new(alloc, row)
 }
 
-/// The rows that a row is bound to: none, a note, or a note and a visit.
+/// A number, or NULL where there is none.
+fn number_of(number: Option<i64>) -> Value {
+    match number {
+        Some(number) => Value::Int(number),
+        None => Value::Null,
+    }
+}
+
+/// The rows that a row is bound to: none, a note, or a note and a visit; no note where its number is NULL.
 fn refs_of(alloc: Global, tags: &Tags, one: &One) -> Result<Refs, OutOfMemory>
     requires { length tags.now ≡ 1 }
 {
     let One(which, id, number, _, parent) = one;
     match which {
         Which::Note => Ok(Refs::new(alloc)),
-        Which::Visit => note_ref(alloc, tags, *number, *parent),
+        Which::Visit => note_refs(alloc, tags, *number, *parent),
         Which::Pair => {
-            let mut refs = note_ref(alloc, tags, *number, *parent)?;
+            let mut refs = note_refs(alloc, tags, *number, *parent)?;
             refs.push(slot_of(alloc, tags, Which::Visit, *id, *parent)?)?;
             Ok(refs)
         }
     }
 }
 
-/// A note.
-fn note_ref(alloc: Global, tags: &Tags, id: i64, at: At) -> Result<Refs, OutOfMemory>
+/// A note, if there is its id.
+fn note_refs(alloc: Global, tags: &Tags, id: Option<i64>, at: At) -> Result<Refs, OutOfMemory>
     requires { length tags.now ≡ 1 }
 {
-    Refs::single(alloc, slot_of(alloc, tags, Which::Note, id, at)?)
+    match id {
+        Some(id) => Refs::single(alloc, slot_of(alloc, tags, Which::Note, id, at)?),
+        None => Ok(Refs::new(alloc)),
+    }
 }
 
 /// A slot.
@@ -129,9 +142,9 @@ fn slot_of(alloc: Global, tags: &Tags, which: Which, id: i64, at: At) -> Result<
 }
 
 /// The values of a row.
-pub(super) fn values_of(alloc: Global, id: i64, number: i64) -> Result<ValueRow, OutOfMemory> {
+pub(super) fn values_of(alloc: Global, id: i64, number: Value) -> Result<ValueRow, OutOfMemory> {
     let mut values = ValueRow::with_capacity(alloc, 2)?;
     values.push(Value::Int(id))?;
-    values.push(Value::Int(number))?;
+    values.push(number)?;
     Ok(values)
 }

@@ -35,8 +35,12 @@ pub(super) enum Where {
 #[derive(Clone, Copy)]
 pub(super) enum Does<'a> {
     Insert(&'a [(i64, i64)]),
+    /// Inserts a row with NULL for its number.
+    InsertNull(i64),
     /// Sets the number.
     Set(i64, Where),
+    /// Sets the number to NULL.
+    Clear(Where),
     /// Adds to the number.
     Add(i64, Where),
     /// Sets each row's number to what it is.
@@ -113,8 +117,14 @@ fn did(
     requires keyed { IsTrue (are_keyed target.now.table target.now.schema.now.key rows.now) }
 {
     match does {
-        Does::Insert(given) => inserted(target, rows, given),
+        Does::Insert(given) => inserted(target, rows, all_values(target.alloc, given)?),
+        Does::InsertNull(id) => inserted(
+            target,
+            rows,
+            ValueRows::single(target.alloc, values_of(target.alloc, id, Value::Null)?)?,
+        ),
         Does::Set(number, cond) => updated(target, rows, literal(number), cond),
+        Does::Clear(cond) => updated(target, rows, BoundExpr::Literal(Value::Null), cond),
         Does::Add(number, cond) => updated(target, rows, sum_with(target.alloc, number)?, cond),
         Does::Keep(cond) => updated(target, rows, BoundExpr::Column(number_column()), cond),
         Does::Delete(cond) => Ok(deleted(target, rows, cond)),
@@ -125,11 +135,10 @@ fn did(
 fn inserted(
     target: &Target<'_>,
     rows: &ListRows,
-    given: &[(i64, i64)],
+    values: ValueRows,
 ) -> Result<Result<Written, Fault>, OutOfMemory>
     requires { IsMade target.now.from rows.now }
 {
-    let values = all_values(target.alloc, given)?;
     Ok(insert_counted(target, rows, values.items()))
 }
 
@@ -205,7 +214,7 @@ fn compared(column: usize, how: Compare, number: i64) -> BoundCond {
 fn all_values(alloc: Global, given: &[(i64, i64)]) -> Result<ValueRows, OutOfMemory> {
     let mut rows = ValueRows::new(alloc);
     for (id, number) in given {
-        rows.push(values_of(alloc, *id, *number)?)?;
+        rows.push(values_of(alloc, *id, Value::Int(*number))?)?;
     }
     Ok(rows)
 }

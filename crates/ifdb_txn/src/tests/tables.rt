@@ -1,13 +1,13 @@
 //! The tables `note (id, number)`, `visit (id, note)` and `pair (id, note)`, each keyed by id. A pair's id is also a visit's.
 ghost use Rattle.std.specs.Prelude.{◌≡◌, ◌∷◌, [], IfOk, length};
-ghost use Rattle.ifdb_bound.specs.Kinds.{same_kind};
+ghost use Rattle.ifdb_bound.specs.Kinds.{takes};
 ghost use Rattle.ifdb_catalog.specs.Scope.{kinds_of};
 ghost use Rattle.ifdb_catalog.specs.Statements.{values_fit};
 
 use super::rows::Which;
 use ifdb_bound::{Foreign, Foreigns, Places, Schema};
 use ifdb_row::OutOfMemory;
-use ifdb_value::{Column, Columns, Name, TableId, Value, ValueKind};
+use ifdb_value::{Column, Columns, Name, TableId, TermKind, Value, ValueKind};
 use std::alloc::Global;
 use std::test::Fail;
 
@@ -89,7 +89,7 @@ fn name_of(alloc: Global, name: &str) -> Result<Name, Fail> {
     }
 }
 
-/// Whether there is a value for each column, of its kind.
+/// Whether there is a value for each column, which takes it.
 pub(super) fn are_of_kinds(columns: &[Column], values: &[Value]) -> bool
     ensures { result ≡ values_fit (kinds_of columns.now) values.now }
 {
@@ -101,18 +101,20 @@ pub(super) fn are_of_kinds(columns: &[Column], values: &[Value]) -> bool
         [column, columns @ ..] => match values {
             [] => false,
             [value, values @ ..] => {
-                is_of_kind(column.kind, value.kind()) && are_of_kinds(columns, values)
+                takes(column.kind, value.kind()) && are_of_kinds(columns, values)
             }
         },
     }
 }
 
-/// Whether two kinds are one.
-fn is_of_kind(kind: ValueKind, other: ValueKind) -> bool
-    ensures { result ≡ same_kind kind other }
+/// Whether a column of a kind takes what stands for these kinds.
+fn takes(kind: ValueKind, term: TermKind) -> bool
+    ensures { result ≡ takes kind term }
 {
-    match (kind, other) {
-        (ValueKind::Int, ValueKind::Int) | (ValueKind::Text, ValueKind::Text) => true,
+    match (kind, term) {
+        (_, TermKind::Any) => true,
+        (ValueKind::Int, TermKind::Of(ValueKind::Int)) => true,
+        (ValueKind::Text, TermKind::Of(ValueKind::Text)) => true,
         _ => false,
     }
 }

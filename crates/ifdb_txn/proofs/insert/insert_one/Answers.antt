@@ -4,7 +4,7 @@ use Rattle.ifdb_row.specs.Content.{after}
 use Rattle.ifdb_row.specs.Seen.{clash}
 use Rattle.ifdb_row.specs.Writes.{is_fitting}
 use Rattle.ifdb_row.proofs.SlotOrder.{slot_itself}
-use Rattle.ifdb_model.specs.Writes.{values_at}
+use Rattle.ifdb_catalog.specs.Statements.{values_at}
 use Rattle.ifdb_txn.specs.Scenes.{scene_of}
 use Rattle.ifdb_txn.proofs.Inserting.{key_refused}
 use Rattle.ifdb_txn.proofs.insert.insert_one.Goals as goal

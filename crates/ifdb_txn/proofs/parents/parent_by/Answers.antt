@@ -1,6 +1,6 @@
 use Rattle.std.proofs.Common.{subst, ◌∙◌, ap}
 use Rattle.ifdb_row.specs.Seen.{parent_of}
-use Rattle.ifdb_model.specs.Writes.{values_at}
+use Rattle.ifdb_catalog.specs.Statements.{values_at}
 use Rattle.ifdb_foreign.specs.Parents.{Binds}
 use Rattle.ifdb_txn.proofs.parents.parent_by.Goals as goal
 

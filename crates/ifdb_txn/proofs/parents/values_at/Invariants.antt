@@ -1,5 +1,5 @@
 use Rattle.std.proofs.Common.{◌≡◌, take}
-use Rattle.ifdb_model.specs.Writes.{values_at}
+use Rattle.ifdb_catalog.specs.Statements.{values_at}
 use Rattle.ifdb_txn.proofs.parents.values_at.Given as goal
 
 abbrev pub invariant-loop-place : goal.invariant-loop-place
