@@ -15,3 +15,4 @@ pub mod Bridge
 pub mod ReadBack
 pub mod ToldBack
 pub mod Stamps
+pub mod NullRowsPlayed

@@ -19,13 +19,12 @@ use Rattle.ifdb_bound.specs.declared.request.Change.TheVariants as change
 use Rattle.ifdb_syntax.specs.declared.request.Request.{Request}
 use Rattle.ifdb_wire.specs.declared.fault.Fault.{Fault}
 use Rattle.ifdb_catalog.specs.Public.{Public, tags_of, table_at, no_table, changed}
-use Rattle.ifdb_catalog.specs.Scope.{kinds_of}
-use Rattle.ifdb_catalog.specs.Statements.{values_fit}
+use Rattle.ifdb_catalog.specs.Statements.{values_at, fills}
 use Rattle.ifdb_catalog.proofs.BoundRequestsFit.{bound_is_fitting}
 use Rattle.ifdb_catalog.proofs.Made as made_by_binding
 use Rattle.ifdb_model.specs.Log.{Entry, changes, commits, public_from, public_of, all_tags, content_of}
 use Rattle.ifdb_model.specs.Session.{Txn, Session, new_session, no_session, closed, seen_in, seen}
-use Rattle.ifdb_model.specs.Writes.{values_at}
+use Rattle.ifdb_model.specs.Writes.{binding_keys}
 use Rattle.ifdb_model.specs.Step.{Reader, Outcome, ask}
 use Rattle.ifdb_model.specs.Run.{State, opening, session_of, Step, opens, asks, refused, long, stray, leaves, with_outcome, with_session, next, run}
 use Rattle.ifdb_model.proofs.LogLaws.{public_from-append, content_from-append}
@@ -41,7 +40,7 @@ use Rattle.ifdb_laws.proofs.rows.Fits.{write_fits, statement_fits}
 
 abbrev fits_as : ℕ → ℕ → Schema → Row → Bool
 fits_as tables tags t r =
-    ltb r.slot.table tables && (values_fit (kinds_of t.columns) r.values && (is_same_key r.slot.key (values_at r.values t.key) && (refs_fit r.values t.foreign r.refs && are_made tags r.slot.label)))
+    ltb r.slot.table tables && (fills t r.values && (is_same_key r.slot.key (values_at r.values t.key) && (refs_fit r.values (binding_keys r.values t.foreign) r.refs && are_made tags r.slot.label)))
 
 more_tables : (ts : List Schema) (x : Schema) (tags : ℕ) (r : Row) → fits_as (length ts) tags (Rattle.std.specs.Prelude.slice_index_or ts r.slot.table no_table) r ≡ true
     → fits_as (length (ts ++ x ∷ [])) tags (Rattle.std.specs.Prelude.slice_index_or (ts ++ x ∷ []) r.slot.table no_table) r ≡ true
