@@ -7,7 +7,7 @@ ghost use Rattle.ifdb_exec.specs.Given.{are_given_keyed};
 
 use crate::checks::are_public;
 use crate::requests::{groups, join, look_up, order, scan};
-use crate::tables::{all_rows, scattered};
+use crate::tables::{all_rows, apart_rows, scattered};
 use ifdb_bound::BoundSelect;
 use ifdb_exec::{Given, Reading, answer};
 use ifdb_label::{Label, Tags};
@@ -29,13 +29,15 @@ const LOOK_UPS: u32 = 20_000;
 /// Prints how many rows each SELECT answers, of so many in a table.
 pub(crate) fn show(rt: &HostRuntime, count: u32) -> io::Result<()> {
     println!(rt; "{count} rows")?;
-    ask_all(rt, count, false)
+    ask_all(rt, count, false)?;
+    ask_apart(rt, count, false)
 }
 
 /// Prints what each SELECT takes, over so many rows in a table.
 pub(crate) fn time(rt: &HostRuntime, count: u32) -> io::Result<()> {
     println!(rt; "{count} rows")?;
-    ask_all(rt, count, true)
+    ask_all(rt, count, true)?;
+    ask_apart(rt, count, true)
 }
 
 /// Asks each SELECT.
@@ -66,6 +68,35 @@ fn ask_all(rt: &HostRuntime, count: u32, is_timed: bool) -> io::Result<()> {
     };
     ask_one(rt, &asked, count)?;
     ask_both(rt, &asked)
+}
+
+/// Asks the joins that find nothing.
+fn ask_apart(rt: &HostRuntime, count: u32, is_timed: bool) -> io::Result<()> {
+    let alloc = rt.alloc();
+    let rows = apart_rows(alloc, count)?;
+    if !are_public(&rows) {
+        return Ok(());
+    }
+    if !are_keyed(TableId(0), &KEY, &rows) || !are_keyed(TableId(1), &KEY, &rows) {
+        return Ok(());
+    }
+    let Some(rows) = ListRows::try_new(rows) else {
+        return Ok(());
+    };
+    let tags = Tags::new(alloc);
+    let label = Label::empty(alloc);
+    let reading = Reading {
+        alloc,
+        tags: &tags,
+        names: &[],
+        label: &label,
+    };
+    let asked = Asked {
+        reading: &reading,
+        rows: &rows,
+        is_timed,
+    };
+    ask_nothing(rt, &asked)
 }
 
 /// Who asks, and of which rows.
@@ -165,6 +196,30 @@ fn ask_both(rt: &HostRuntime, asked: &Asked<'_, '_>) -> io::Result<()>
         &join(alloc, 2)?,
         &given,
     )
+}
+
+/// Asks the joins over both tables whose rows don't join: on numbers, and on NULL, which equals nothing.
+fn ask_nothing(rt: &HostRuntime, asked: &Asked<'_, '_>) -> io::Result<()>
+    requires made { IsTrue
+        (are_rows_made (length asked.now.reading.now.tags.now) asked.now.rows.now) }
+    requires label { AreMade
+        (length asked.now.reading.now.tags.now) asked.now.reading.now.label.now }
+    requires first { IsTrue (are_keyed 0 KEY asked.now.rows.now) }
+    requires second { IsTrue (are_keyed 1 KEY asked.now.rows.now) }
+{
+    let alloc = rt.alloc();
+    let given = [
+        Given::Keyed(TableId(0), &KEY),
+        Given::Keyed(TableId(1), &KEY),
+    ];
+    told(
+        rt,
+        asked,
+        "join that finds nothing",
+        &join(alloc, 1)?,
+        &given,
+    )?;
+    told(rt, asked, "join on NULL", &join(alloc, 2)?, &given)
 }
 
 /// Asks a SELECT, and prints its time or how many rows it answers.

@@ -5,6 +5,7 @@ mod ends;
 mod faults;
 mod generate;
 mod keeps;
+mod nulls;
 mod rows;
 mod serve;
 mod spellings;
