@@ -15,8 +15,8 @@ A connection is one session of one principal, from its HELLO to its BYE. Beyond 
 **Transactions.** Unless `Connection.autocommit` is set, the first SELECT, INSERT, UPDATE or DELETE opens one, and `commit` or
 `rollback` ends it. Public changes (CREATE, GRANT, REVOKE) are steps of their own, and are refused inside a transaction.
 
-**Parameters** are written `?` and stand for values, each an `int` or a `str`. A name can't be one: `name` says whether a text is
-a name.
+**Parameters** are written `?` and stand for values, each an `int`, a `str`, or None, which is NULL. A name can't be one: `name`
+says whether a text is a name.
 
 **Kinds.** The server sends rows as texts, and no request tells the columns of a table. So whether a column is INT or TEXT is
 known, in this order, by its item's form (LABEL OF is a text; counts, sums and arithmetic are numbers), by `Connection.columns`,
@@ -45,7 +45,8 @@ paramstyle = "qmark"
 LONGEST_LINE = 65_535
 """The most bytes of a request, without its newline. The server ends a connection that sends more."""
 
-Value = Union[int, str]
+Value = Union[int, str, None]
+"""A number, a text, or NULL."""
 Row = Tuple[Value, ...]
 Kind = Union[Type[int], Type[str]]
 Columns = Dict[str, Dict[str, Kind]]
@@ -191,7 +192,9 @@ def name(text: str) -> str:
 
 def literal(value: object) -> str:
     """A value as it stands in a request. Raises DataError for a number of more than 64 bits and for a text that no request can
-    hold, and NotSupportedError for what is neither a number nor a text."""
+    hold, and NotSupportedError for what is neither a number nor a text nor None, which is NULL."""
+    if value is None:
+        return "NULL"
     if isinstance(value, int):
         if not -(2**63) <= value < 2**63:
             raise DataError(f"{value} is no 64-bit number")
@@ -200,7 +203,7 @@ def literal(value: object) -> str:
         if "\n" in value:
             raise DataError("a text can't hold a newline")
         return "'" + value.replace("'", "''") + "'"
-    raise NotSupportedError(f"a value is an int or a str, and not of {type(value).__name__}")
+    raise NotSupportedError(f"a value is an int, a str or None, and not of {type(value).__name__}")
 
 
 def request_of(operation: str, parameters: Sequence[object] = ()) -> str:
@@ -265,10 +268,10 @@ class Label(NamedTuple):
 
 
 class Rows(NamedTuple):
-    """`ROWS n c`, and the values of each row."""
+    """`ROWS n c`, and the values of each row, None for NULL."""
 
     columns: int
-    rows: Sequence[Tuple[str, ...]]
+    rows: Sequence[Tuple[Optional[str], ...]]
 
 
 Reply = Union[Done, Count, Label, Rows]
@@ -288,8 +291,10 @@ def _strange(line: str) -> InterfaceError:
     return InterfaceError(f"this is no reply of ifdb: {line[:80]!r}")
 
 
-def _unescaped(value: str) -> str:
-    """A value as it was before the reply wrote backslashes, tabs and carriage returns as two characters each."""
+def _unescaped(value: str) -> Optional[str]:
+    """A value as it was before the reply wrote backslashes, tabs and carriage returns as two characters each, and NULL as `\\N`."""
+    if value == r"\N":
+        return None
     try:
         return _ESCAPE.sub(lambda escape: _ESCAPED[escape[1]], value) if "\\" in value else value
     except KeyError:
@@ -398,7 +403,7 @@ class Session:
             return Label(tuple(filter(None, head["tags"].split(","))))
         return Done() if head["count"] is None else Count(int(head["count"]))
 
-    def _read_row(self, columns: int) -> Tuple[str, ...]:
+    def _read_row(self, columns: int) -> Tuple[Optional[str], ...]:
         line = self._read_line()
         values = line.split("\t")
         if len(values) != columns:
@@ -470,7 +475,7 @@ def _members(tokens: Iterable[_Token]) -> list[list[_Token]]:
 
 def _ref(words: Sequence[str]) -> Optional[_Ref]:
     """The column that these words name, if they are nothing else."""
-    if len(words) == 1 and _NAME.fullmatch(words[0]):
+    if len(words) == 1 and _NAME.fullmatch(words[0]) and words[0] != "null":
         return _Ref(None, words[0])
     if len(words) == 3 and words[1] == ".":
         return _Ref(words[0], words[2])
@@ -842,14 +847,16 @@ class Cursor:
         self.description, self.rowcount, self.request, self._rows, self._next = None, -1, None, None, 0
 
     def _take(self, reply: Rows) -> None:
-        """Takes the rows of a SELECT, each value by its column's kind."""
+        """Takes the rows of a SELECT, each value by its column's kind, but NULL, which is None."""
         assert self.request is not None
         described = self.connection._described(self.request)
         kinds = [kind for _, kind in described]
         if len(kinds) != reply.columns:
             raise InterfaceError(f"{reply.columns} columns came, and {len(kinds)} were to come: see the connection's columns")
         try:
-            self._rows = [tuple(kind(value) for kind, value in zip(kinds, row)) for row in reply.rows]
+            self._rows = [
+                tuple(None if value is None else kind(value) for kind, value in zip(kinds, row)) for row in reply.rows
+            ]
         except ValueError as fault:
             raise InterfaceError(f"a column isn't what the connection's columns say: {fault}") from None
         self.description = [(column, kind, None, None, None, None, None) for column, kind in described]

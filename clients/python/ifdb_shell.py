@@ -70,11 +70,12 @@ def _padded(text: str, to: int, is_number: bool) -> str:
     return blanks + text if is_number else text + blanks
 
 
-def table(names: Sequence[str], rows: Sequence[Sequence[str]]) -> Iterator[str]:
-    """The lines of a table. A column stands on the right where each value of it reads as a number."""
-    columns = [[shown(value) for value in column] for column in zip(names, *rows)]
+def table(names: Sequence[str], rows: Sequence[Sequence[Optional[str]]]) -> Iterator[str]:
+    """The lines of a table. A column stands on the right where each value of it reads as a number. NULL is shown as nothing."""
+    values = [[value or "" for value in row] for row in rows]
+    columns = [[shown(value) for value in column] for column in zip(names, *values)]
     widths = [max(map(width, column)) for column in columns]
-    numeric = [len(column) > 1 and all(map(_NUMBER.fullmatch, column[1:])) for column in columns]
+    numeric = [any(column[1:]) and all(not it or _NUMBER.fullmatch(it) for it in column[1:]) for column in columns]
     lines = [" | ".join(map(_padded, line, widths, numeric)) for line in zip(*columns)]
     yield f" {lines[0]}".rstrip()
     yield "-+-".join("-" * it for it in widths).join(("-", "-"))

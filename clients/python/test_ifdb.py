@@ -82,6 +82,7 @@ REPLIES: List[Tuple[bytes, ifdb.Reply]] = [
     (b"ROWS 2 2\n-7\tOK\n8\tERR 1 Syntax 0\n", ifdb.Rows(2, [("-7", "OK"), ("8", "ERR 1 Syntax 0")])),
     ("ROWS 1 2\n\u00e9\U0001f600\u2028\x0b\x85\t\0\n".encode(), ifdb.Rows(2, [("\u00e9\U0001f600\u2028\x0b\x85", "\0")])),
     (rb"ROWS 1 1" + b"\n" + rb"\\t\t\r\\\\r" + b"\n", ifdb.Rows(1, [("\\t\t\r\\\\r",)])),
+    (rb"ROWS 1 4" + b"\n" + b"\\N\t\\\\N\tN\t" + b"\n", ifdb.Rows(4, [(None, "\\N", "N", "")])),
 ]
 
 
@@ -127,6 +128,7 @@ class Framing(unittest.TestCase):
         strange = [
             b"\n", b"ok\n", b"OK \n", b"OK -1\n", b"OK 1 2\n", b"OK\r\n", b"LABEL a\n", b"LABEL (a, b)\n", b"ROWS 1\n", b"ERR 13\n",
             b"HTTP/1.1 400 Bad Request\n", b"\xff\n", b"ROWS 1 2\na\n", b"ROWS 1 1\na\tb\n", b"ROWS 1 1\n\\x\n", b"ROWS 1 1\n\\\n",
+            b"ROWS 1 1\n\\Na\n", b"ROWS 1 1\na\\N\n",
         ]  # fmt: skip
         for text in strange:
             session, _ = scripted(text, b"OK\n" * 4)
@@ -310,6 +312,7 @@ class Requests(unittest.TestCase):
             ("WHERE a = ?", (7,), "WHERE a =  7 "),
             ("VALUES (?,?)", (-(2**63), "it's"), "VALUES ( -9223372036854775808 , 'it''s' )"),
             ("VALUES ('?', ?)", (True,), "VALUES ('?',  1 )"),
+            ("VALUES (?, ?)", (None, "NULL"), "VALUES ( NULL ,  'NULL' )"),
             ("'it''s ?' ?'?'", ("?",), "'it''s ?'  '?' '?'"),
             ("1?2", (3,), "1 3 2"),
             ("SELECT id\n\tFROM note\r\n;", (), "SELECT id \tFROM note  ;"),
@@ -327,7 +330,6 @@ class Requests(unittest.TestCase):
             (ifdb.ProgrammingError, "'?'", (1,)),
             (ifdb.ProgrammingError, "?", "x"),
             (ifdb.ProgrammingError, "?", {"a": 1}),
-            (ifdb.NotSupportedError, "?", (None,)),
             (ifdb.NotSupportedError, "?", (1.5,)),
             (ifdb.NotSupportedError, "?", (b"x",)),
             (ifdb.NotSupportedError, "?", (datetime.date(2026, 1, 1),)),
@@ -421,6 +423,20 @@ class Served(unittest.TestCase):
             self.assertEqual({type(value) for [value] in got}, {int})
             got = cursor.execute("SELECT id - ? FROM visit WHERE pence = ?", (-3, -7)).fetchall()
             self.assertEqual(got, [(5,)])
+
+    def test_null(self) -> None:
+        texts = [None, "", "NULL", "\\N", "N"]
+        with self.connect() as connection:
+            cursor = connection.cursor()
+            cursor.executemany("INSERT INTO note VALUES (?, ?)", list(enumerate(texts)))
+            self.assertEqual(cursor.execute("SELECT id, body FROM note").fetchall(), list(enumerate(texts)))
+            self.assertEqual(cursor.execute("SELECT id FROM note WHERE body IS NULL").fetchall(), [(0,)])
+            self.assertEqual(cursor.execute("SELECT id FROM note WHERE body = ?", (None,)).fetchall(), [])
+            self.assertEqual(cursor.execute("SELECT SUM(id), MIN(body) FROM note WHERE id > 9").fetchall(), [(None, None)])
+            cursor.execute("SELECT NULL, NULL AS n, id + NULL FROM note WHERE id = 0")
+            assert cursor.description is not None
+            self.assertEqual([it[:2] for it in cursor.description], [("NULL", int), ("n", int), ("id + NULL", int)])
+            self.assertEqual(cursor.fetchall(), [(None, None, None)])
 
     def test_kinds_and_names_of_columns(self) -> None:
         cases: List[Tuple[str, List[Tuple[str, ifdb.Kind]]]] = [

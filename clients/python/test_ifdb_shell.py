@@ -40,6 +40,8 @@ class Showing(unittest.TestCase):
     def test_a_table_without_rows_or_values(self) -> None:
         self.assertEqual(list(ifdb_shell.table(["id", "b"], [])), [" id | b", "----+---"])
         self.assertEqual(list(ifdb_shell.table(["b"], [("",), ("x",)])), [" b", "---", "", " x"])
+        self.assertEqual(list(ifdb_shell.table(["n"], [(None,), ("7",), ("-12",)])), ["   n", "-----", "", "   7", " -12"])
+        self.assertEqual(list(ifdb_shell.table(["nn"], [(None,)])), [" nn", "----", ""])
 
     def test_a_terminal_obeys_nothing_that_is_shown(self) -> None:
         for text, told in (("a\tb\r", r"a\tb\r"), ("\x1b\x07", r"\x1b\x07"), ("\u202e\0", r"\u202e\x00"), ("a \\ b", r"a \ b")):
