@@ -41,8 +41,9 @@ use Rattle.ifdb_laws.specs.Bytes.{is_line}
 
 -- ---- values and rows
 
--- a number, or a text without a newline
+-- NULL, a number, or a text without a newline
 abbrev pub is_clean : Value → Bool
+is_clean value.Null = true
 is_clean (value.Int n) = true
 is_clean (value.Text text) = is_line text
 

@@ -20,7 +20,9 @@ use Rattle.ifdb_framing.proofs.Passes.{Passes, done, part, past, either, in_some
 -- ---- expressions
 
 literal_passes : Passes (literal written) is_clean
-literal_passes = either (either (past _ (λ n. done _ refl)) (past _ (λ _. past _ (λ n. done _ refl)))) (part _ text_passes (λ w c. done (value.Text w) c))
+literal_passes =
+    either (either (either (past _ (λ n. done _ refl)) (past _ (λ _. past _ (λ n. done _ refl)))) (part _ text_passes (λ w c. done (value.Text w) c)))
+    (past _ (λ _. done value.Null refl))
 
 atom_passes : Passes (atom written) is_clean_expr
 atom_passes = either (past _ (λ c. done (e.Column c) (clean-Column c))) (part _ literal_passes (λ v c. done (e.Literal v) (clean-Literal v ∙ c)))

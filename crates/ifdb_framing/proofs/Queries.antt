@@ -1,12 +1,12 @@
 -- A SELECT gives clean rows of clean ones, where its items and the names of tags are clean.
-use Rattle.std.proofs.Common.{◌≡◌, ℕ, Bool, true, List, [], ◌∷◌, ◌++◌, length, refl, pos, Some, None, Option}
-use Rattle.std.specs.Prelude.{map, codes, slice_index_or, option_map}
+use Rattle.std.proofs.Common.{◌≡◌, ℕ, ℤ, Bool, true, List, [], ◌∷◌, ◌++◌, length, refl, pos, Some, None, Option}
+use Rattle.std.specs.Prelude.{map, not, codes, slice_index_or, option_map}
 use Rattle.std.specs.List.{list_all, list_any, fold}
 use Rattle.std.specs.Ordering.{is_lt}
 use Rattle.std.proofs.lemmas.Bool.{and_parts}
 use Rattle.ifdb_catalog.proofs.Tests.{both_of}
 use Rattle.ifdb_value.specs.declared.value.Value.{Value}
-use Rattle.ifdb_value.specs.Value.{value_cmp}
+use Rattle.ifdb_value.specs.Value.{value_cmp, is_null}
 use Rattle.ifdb_value.proofs.Lists.{all-filter}
 use Rattle.ifdb_bound.specs.declared.expression.BoundColumn.{BoundColumn}
 use Rattle.ifdb_bound.specs.declared.select.BoundItem.{BoundItem}
@@ -15,7 +15,7 @@ use Rattle.ifdb_bound.specs.declared.select.BoundSelect.{BoundSelect}
 use Rattle.ifdb_bound.specs.declared.select.OrderKey.{OrderKey}
 use Rattle.ifdb_bound.specs.Expressions.{column_value}
 use Rattle.ifdb_bound.specs.Conditions.{passes}
-use Rattle.ifdb_bound.specs.Query.{SourceRow, Combination, values_of, no_row, combinations, matching, group_key, same_values, Group, with_member, groups_by, is_count, answer_groups, label_names, label_text, column_of, sum, lesser, greater, best, first_of, item_value, both, all_some, answer_row, order_cmp, with_row, sorted_by, select}
+use Rattle.ifdb_bound.specs.Query.{SourceRow, Combination, values_of, no_row, combinations, matching, group_key, same_values, Group, with_member, groups_by, is_aggregate, answer_groups, label_names, label_text, column_of, given, total, sum_value, lesser, greater, best, or_null, first_of, item_value, both, all_some, answer_row, order_cmp, with_row, sorted_by, select}
 use Rattle.ifdb_expr.proofs.Views.{combined}
 use Rattle.ifdb_laws.specs.Bytes.{is_line}
 use Rattle.ifdb_framing.proofs.Lists.{pick, all_push, all_map, at_or}
@@ -76,7 +76,7 @@ groups_clean columns all h = all_map is_clean_group are_clean_combinations (λ (
 
 answered_clean : (s : BoundSelect) (columns : List BoundColumn) (all : List Combination) → are_clean_combinations all ≡ true → list_all are_clean_combinations (answer_groups s columns all) ≡ true
 answered_clean s [] all h =
-    pick (list_all are_clean_combinations) (list_any is_count s.items) (all ∷ []) (map (λ rows. rows ∷ []) all) (both_of _ _ h refl)
+    pick (list_all are_clean_combinations) (list_any is_aggregate s.items) (all ∷ []) (map (λ rows. rows ∷ []) all) (both_of _ _ h refl)
     (all_map is_clean_combination are_clean_combinations (λ rows. rows ∷ []) all (λ rows e. both_of _ _ e refl) h)
 answered_clean s (c ∷ columns) all h = groups_clean (c ∷ columns) all h
 
@@ -111,6 +111,21 @@ best_clean : (choose : Value → Value → Value) → Chooses choose → (values
 best_clean choose c [] h = refl
 best_clean choose c (v ∷ values) h = let parts = and_parts (is_clean v) (are_clean values) h in chosen_clean choose c v values parts.0 parts.1
 
+given_clean : (values : List Value) → are_clean values ≡ true → are_clean (given values) ≡ true
+given_clean values h = all-filter (λ v. not (is_null v)) is_clean values h
+
+sum_clean : (n : Option ℤ) → if_there is_clean (sum_value n) ≡ true
+sum_clean None = refl
+sum_clean (Some n) = in_range_clean n
+
+or_null_clean : (o : Option Value) → if_there is_clean o ≡ true → is_clean (or_null o) ≡ true
+or_null_clean None h = refl
+or_null_clean (Some v) h = h
+
+-- MIN or MAX of the values that aren't NULL
+end_clean : (choose : Value → Value → Value) → Chooses choose → (values : List Value) → are_clean values ≡ true → is_clean (or_null (best choose (given values))) ≡ true
+end_clean choose c values h = or_null_clean (best choose (given values)) (best_clean choose c (given values) (given_clean values h))
+
 label_clean : (names : List (List ℕ)) (label : List ℕ) → list_all is_line names ≡ true → is_clean (label_text names label) ≡ true
 label_clean names label h = line_append (codes "{") (label_names names label ++ codes "}") refl (line_append (label_names names label) (codes "}") (names_line names label h) refl)
 
@@ -119,9 +134,9 @@ module _ (names : List (List ℕ)) (lines : list_all is_line names ≡ true) whe
   item_clean members h (item.Expr e) k = value_clean (values_of (first_of members)) (values_clean (first_of members) (first_clean members h)) e k
   item_clean members h (item.LabelOf source) k = label_clean names (slice_index_or (first_of members) source no_row).label lines
   item_clean members h item.CountAll k = in_range_clean (pos (length members))
-  item_clean members h (item.Sum c) k = in_range_clean (sum (column_of c members))
-  item_clean members h (item.Min c) k = best_clean lesser lesser_clean (column_of c members) (column_of_clean c members h)
-  item_clean members h (item.Max c) k = best_clean greater greater_clean (column_of c members) (column_of_clean c members h)
+  item_clean members h (item.Sum c) k = sum_clean (total (given (column_of c members)))
+  item_clean members h (item.Min c) k = end_clean lesser lesser_clean (column_of c members) (column_of_clean c members h)
+  item_clean members h (item.Max c) k = end_clean greater greater_clean (column_of c members) (column_of_clean c members h)
 
   pub answer_row_clean : (items : List BoundItem) (members : List Combination) → list_all is_clean_bound_item items ≡ true → are_clean_combinations members ≡ true
       → if_there are_clean (answer_row names items members) ≡ true

@@ -6,7 +6,7 @@ use Rattle.ifdb_value.specs.declared.value.Value.{Value}
 use Rattle.ifdb_value.specs.declared.value.Value.TheVariants as value
 use Rattle.ifdb_bound.specs.declared.expression.BoundColumn.{BoundColumn}
 use Rattle.ifdb_bound.specs.declared.expression.BoundExpr.{BoundExpr}
-use Rattle.ifdb_bound.specs.Expressions.{no_value, value_at, column_value, is_in_range, operate, in_range, value_of}
+use Rattle.ifdb_bound.specs.Expressions.{no_value, value_at, column_value, is_in_range, operate_on, operate, in_range, value_of}
 use Rattle.ifdb_bound.proofs.Meanings.{value_of-Column, value_of-Literal, value_of-Add, value_of-Sub, value_of-Mul}
 use Rattle.ifdb_bound.proofs.BoundExprs.{each_bound_expr}
 use Rattle.ifdb_wire.specs.Text.{value_text, row_text}
@@ -18,6 +18,7 @@ use Rattle.ifdb_framing.proofs.Clean.{is_clean, are_clean, if_there, is_clean_bo
 -- ---- lines
 
 value_line : (v : Value) → is_clean v ≡ true → is_line (value_text v) ≡ true
+value_line value.Null h = refl
 value_line (value.Int n) h = signed_line n
 value_line (value.Text text) h = escaped_line text h
 
@@ -39,12 +40,19 @@ range_clean false n = refl
 pub in_range_clean : (n : ℤ) → if_there is_clean (in_range n) ≡ true
 in_range_clean n = range_clean (is_in_range n) n
 
+operate_on_clean : (f : ℤ → ℤ → ℤ) (a b : Value) → if_there is_clean (operate_on f a b) ≡ true
+operate_on_clean f value.Null b = refl
+operate_on_clean f (value.Int m) value.Null = refl
+operate_on_clean f (value.Int m) (value.Int n) = in_range_clean (f m n)
+operate_on_clean f (value.Int m) (value.Text t) = refl
+operate_on_clean f (value.Text s) value.Null = refl
+operate_on_clean f (value.Text s) (value.Int n) = refl
+operate_on_clean f (value.Text s) (value.Text t) = refl
+
 operate_clean : (f : ℤ → ℤ → ℤ) (a b : Option Value) → if_there is_clean (operate f a b) ≡ true
 operate_clean f None b = refl
-operate_clean f (Some (value.Text t)) b = refl
-operate_clean f (Some (value.Int m)) None = refl
-operate_clean f (Some (value.Int m)) (Some (value.Text t)) = refl
-operate_clean f (Some (value.Int m)) (Some (value.Int n)) = in_range_clean (f m n)
+operate_clean f (Some a) None = refl
+operate_clean f (Some a) (Some b) = operate_on_clean f a b
 
 module _ (rows : List (List Value)) (all : list_all are_clean rows ≡ true) where
   abbrev GivesClean : BoundExpr → Type 0
