@@ -6,9 +6,10 @@ use Rattle.std.proofs.lemmas.List.{map-id}
 use Rattle.std.proofs.lemmas.Bool.Decides.{nat_tests}
 use Rattle.ifdb_value.specs.declared.value.Value.{Value}
 use Rattle.ifdb_value.specs.declared.column.Column.{Column}
+use Rattle.ifdb_bound.specs.declared.schema.Schema.{Schema}
 use Rattle.ifdb_bound.specs.Expressions.{value_at}
-use Rattle.ifdb_catalog.specs.Statements.{are_listed, arranged, listed_at, values_at, values_fit}
-use Rattle.ifdb_bind.specs.Listed.{each_once, fill, listed_fills, places_in, row_fills}
+use Rattle.ifdb_catalog.specs.Statements.{are_listed, arranged, listed_at, row_fits, values_at, values_fit}
+use Rattle.ifdb_bind.specs.Listed.{all_fit, each_once, fill, listed_fills, places_in, row_fills}
 
 -- ---- with a list
 
@@ -44,6 +45,13 @@ pub whole_rows : (columns : List Column) (names : List (List ℕ)) (rows : List 
     → rows ≡ map (arranged columns names) rows
 whole_rows columns [] rows h = sym (map-id rows)
 whole_rows columns (n ∷ names) rows h = absurd (grind (arith, nat_tests))
+
+-- ---- in a table
+
+-- rows fit the columns and the key of a table as they fit the table
+pub all_fit_in : (t : Schema) (columns : List Column) (key : List ℕ) (names : List (List ℕ)) (rows : List (List Value)) → columns ≡ t.columns → key ≡ t.key
+    → all_fit columns key names rows ≡ are_listed t.columns names && list_all (row_fits t names) rows
+all_fit_in t columns key names rows c k = λ j. are_listed (c j) names && list_all (row_fills (c j) (k j) names) rows
 
 -- as many values as columns
 pub no_columns : (values : List Value) → values_fit [] values ≡ (length values == 0)

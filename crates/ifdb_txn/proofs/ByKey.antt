@@ -1,7 +1,6 @@
 -- Rows that match, found by the key that the condition gives.
 use Rattle.std.proofs.Common.{◌≡◌, ℕ, Bool, true, false, List, [], ◌∷◌, ◌++◌, refl, sym, ap, ◌∙◌, arith, None, Option}
-use Rattle.std.specs.Prelude.{IsTrue, filter, find, map, Some, ◌==◌, ◌||◌, ◌&&◌, not}
-use Rattle.std.specs.List.{list_all}
+use Rattle.std.specs.Prelude.{filter, find, Some, ◌==◌}
 use Rattle.std.proofs.lemmas.Bool.Decides.{nat_tests}
 use Rattle.std.proofs.lemmas.List.{append_assoc, append-nil}
 use Rattle.ifdb_value.specs.declared.value.Value.{Value}

@@ -1,7 +1,6 @@
 -- The rows that match, and their deletions, stand in order.
 use Rattle.std.proofs.Common.{◌≡◌, ℕ, Bool, true, List, [], ◌∷◌, refl, arith, Option}
 use Rattle.std.specs.Prelude.{filter, map}
-use Rattle.std.specs.List.{list_all}
 use Rattle.std.proofs.lemmas.Bool.Decides.{nat_tests}
 use Rattle.std.proofs.lemmas.List.Folds.{list_all-map}
 use Rattle.ifdb_label.specs.Tags.{MadeTag}

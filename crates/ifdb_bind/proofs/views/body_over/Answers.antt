@@ -1,4 +1,4 @@
-use Rattle.std.proofs.Common.{◌≡◌, ℕ, Bool, true, false, List, inr, Ok, ap, sym, subst, ◌∙◌, ◌&&◌}
+use Rattle.std.proofs.Common.{◌≡◌, ℕ, true, false, List, inr, Ok, ap, sym, subst, ◌∙◌, ◌&&◌}
 use Rattle.std.specs.Prelude.{Option}
 use Rattle.std.specs.Option.{IfSome, is_some}
 use Rattle.std.specs.List.{list_any}
