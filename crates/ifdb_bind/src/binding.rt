@@ -4,7 +4,7 @@ ghost use Rattle.ifdb_wire.specs.Refused.{RefusedAs};
 ghost use Rattle.ifdb_catalog.specs.Binding.{bound};
 
 use crate::inserts::{NewRows, insert};
-use crate::names::{NewTag, create_principal, create_tag, grant, revoke, set_label};
+use crate::names::{NewPrincipal, NewTag, create_principal, create_tag, grant, revoke, set_label};
 use crate::tables::{NewTable, create_table};
 use crate::views::{NewView, create_view};
 use crate::writes::{Changes, delete, update};
@@ -33,7 +33,20 @@ pub fn bind(
     ensures refused { RefusedAs (bound catalog.now asker request) result }
 {
     match request {
-        Request::CreatePrincipal { name, key } => create_principal(catalog, asker, name, key),
+        Request::CreatePrincipal {
+            name,
+            key,
+            clearance,
+        } => create_principal(
+            alloc,
+            catalog,
+            asker,
+            NewPrincipal {
+                name,
+                key,
+                clearance,
+            },
+        ),
         Request::CreateTag {
             name,
             compound,

@@ -6,14 +6,13 @@ ghost use Rattle.ifdb_wire.specs.Refused.{RefusedAs};
 ghost use Rattle.ifdb_bound.specs.Expressions.{value_at};
 ghost use Rattle.ifdb_catalog.specs.Binding.{insert};
 ghost use Rattle.ifdb_catalog.specs.Scope.{kinds_of};
-ghost use Rattle.ifdb_value.specs.Value.{is_null};
-ghost use Rattle.ifdb_catalog.specs.Statements.{are_given, arranged, is_column_of, listed_at, values_at, values_fit};
+ghost use Rattle.ifdb_catalog.specs.Statements.{arranged, is_column_of, listed_at, values_at, values_fit};
 ghost use Rattle.ifdb_bind.specs.Listed.{MismatchedUnless, all_fit, all_listed, all_listed_fit, each_once, fill, places_in, row_fills};
 
 use crate::OutOfMemory;
 use crate::names::label_named;
 use ifdb_bound::{Bound, Places, Relation};
-use ifdb_catalog::Catalog;
+use ifdb_catalog::{Catalog, are_given};
 use ifdb_select::{
     ScopeSource, columns_of, key_places, place_named, relation_named, source, takes, times,
 };
@@ -206,28 +205,6 @@ fn fill(columns: &[Column], key: &[usize], values: &[Value]) -> bool
     ensures { result ≡ fill columns.now key.now values.now }
 {
     values_fit(columns, values) && are_given(values, key)
-}
-
-/// Whether none of the values at some places is NULL.
-fn are_given(values: &[Value], places: &[usize]) -> bool
-    ensures { result ≡ are_given (values_at values.now places.now) }
-{
-    for place in places {
-        if is_null_at(values, *place) {
-            return false;
-        }
-    }
-    true
-}
-
-/// Whether the value at a place is NULL; where there is none it isn't.
-fn is_null_at(values: &[Value], place: usize) -> bool
-    ensures { result ≡ is_null (value_at values.now place) }
-{
-    match values.get(place) {
-        Some(value) => value.is_null(),
-        None => false,
-    }
 }
 
 /// Whether there is a value for each column, which takes it.

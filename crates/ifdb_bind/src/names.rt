@@ -6,7 +6,7 @@ ghost use Rattle.ifdb_wire.specs.declared.fault.Fault.TheVariants.{UnknownName};
 ghost use Rattle.ifdb_wire.specs.Refused.{RefusedAs};
 ghost use Rattle.ifdb_catalog.specs.Public.{principal_named, tag_named};
 ghost use Rattle.ifdb_catalog.specs.Definitions.{tag_kind};
-ghost use Rattle.ifdb_catalog.specs.Statements.{are_tags, label_named, tags_named};
+ghost use Rattle.ifdb_catalog.specs.Statements.{are_tags, clearance_named, is_clearance, label_named, tags_named};
 ghost use Rattle.ifdb_select.specs.Lacks.{RefusedUnless};
 ghost use Rattle.ifdb_catalog.specs.Binding.{create_principal, create_tag, grant, revoke, set_label};
 
@@ -16,6 +16,17 @@ use ifdb_label::{Label, Tag, TagKind, Tags};
 use ifdb_value::{Name, Names, Principal, Word};
 use ifdb_wire::Fault;
 use std::alloc::Global;
+
+/// A principal that is to be made.
+#[derive(Drop)]
+pub(crate) struct NewPrincipal {
+    /// Its name.
+    pub(crate) name: Name,
+    /// The text that HELLO proves it by.
+    pub(crate) key: Word,
+    /// The tags of its clearance, if it has one.
+    pub(crate) clearance: Option<Names>,
+}
 
 /// A tag that is to be made.
 #[derive(Drop)]
@@ -31,17 +42,31 @@ pub(crate) struct NewTag {
 /// CREATE PRINCIPAL.
 #[tactic(auto, unfolding(ifdb_catalog::specs::Check::judged))]
 pub(crate) fn create_principal(
+    alloc: Global,
     catalog: &Catalog,
     asker: Principal,
-    name: Name,
-    key: Word,
+    principal: NewPrincipal,
 ) -> Result<Bound, Fault>
-    ensures { result ≡ create_principal catalog.now asker name key }
+    ensures bound { IfOk result (λ b. create_principal catalog.now asker
+        principal.name principal.key principal.clearance ≡ Ok b) }
+    ensures refused { RefusedAs (create_principal catalog.now asker
+        principal.name principal.key principal.clearance) result }
 {
+    let NewPrincipal {
+        name,
+        key,
+        clearance,
+    } = principal;
     if catalog.principal(&name).is_some() {
         return Err(Fault::Taken);
     }
-    Ok(Bound::Change(Change::Principal { asker, name, key }))
+    let clearance = clearance_named(alloc, catalog, &clearance)?;
+    Ok(Bound::Change(Change::Principal {
+        asker,
+        name,
+        key,
+        clearance,
+    }))
 }
 
 /// CREATE TAG and CREATE COMPOUND TAG.
@@ -125,6 +150,26 @@ pub(crate) fn label_named(alloc: Global, catalog: &Catalog, names: &[Name]) -> R
 {
     let tags = tags_named(alloc, catalog, names)?;
     Ok(Label::reduce(alloc, catalog.tags(), tags.items())?)
+}
+
+/// The clearance of the names, if there is one.
+fn clearance_named(
+    alloc: Global,
+    catalog: &Catalog,
+    names: &Option<Names>,
+) -> Result<Option<Label>, Fault>
+    ensures known { IfOk result (λ _. is_clearance catalog.now names.now ≡ true) }
+    ensures clearance { IfOk result
+        (λ clearance. clearance ≡ clearance_named catalog.now names.now) }
+    ensures lacks { RefusedUnless (is_clearance catalog.now names.now) result }
+{
+    match names {
+        Some(names) => {
+            let label = label_named(alloc, catalog, names.items())?;
+            Ok(Some(label))
+        }
+        None => Ok(None),
+    }
 }
 
 /// The tag of a name.

@@ -1,5 +1,5 @@
 -- INSERT, UPDATE and DELETE: what they may name, which of their forms fit, and their bound trees.
-use Rattle.std.specs.Prelude.{ℕ, Bool, true, false, not, ◌&&◌, ◌==◌, List, [], ◌∷◌, map, length, slice_get, position, bytes_eq, Option}
+use Rattle.std.specs.Prelude.{ℕ, Bool, true, false, not, ◌&&◌, ◌==◌, List, [], ◌∷◌, map, length, slice_get, position, bytes_eq, Option, Some, None}
 use Rattle.std.specs.Option.{is_some}
 use Rattle.std.specs.List.{list_all, list_any}
 use Rattle.ifdb_value.specs.Value.{kind_of, is_null}
@@ -38,6 +38,16 @@ tags_named p names = map (tag_at p) names
 -- the reduction of the tags of the names
 abbrev pub label_named : Public → List (List ℕ) → List ℕ
 label_named p names = reduce (tags_of p) (tags_named p names)
+
+-- a clearance's names, if there is one, are those of tags
+abbrev pub is_clearance : Public → Option (List (List ℕ)) → Bool
+is_clearance p None = true
+is_clearance p (Some names) = are_tags p names
+
+-- the clearance of these names
+abbrev pub clearance_named : Public → Option (List (List ℕ)) → Option (List ℕ)
+clearance_named p None = None
+clearance_named p (Some names) = Some (label_named p names)
 
 -- ---- a table and its columns by their names
 

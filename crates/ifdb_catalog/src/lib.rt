@@ -2,9 +2,11 @@
 #![tactic(auto)]
 
 mod catalog;
+mod given;
 mod laws;
 
-pub use catalog::Catalog;
+pub use catalog::{Catalog, Credentials};
+pub use given::are_given;
 pub use ifdb_bound::Relation;
 pub use laws::{
     bound_changes_are_new, bound_requests_fit, bound_requests_stay_fitting, names_mean_one_column,

@@ -14,7 +14,7 @@ use Rattle.ifdb_model.specs.Log.{Entry}
 use Rattle.ifdb_model.specs.Session.{Txn, Session, Seen, no_session, seen_in, seen}
 use Rattle.ifdb_model.specs.Step.{Form, greets, publishes, relabels, shows_label, begins, ends, rolls_back, leaves_us, looks, writes, form_of, Outcome, tells, refuses, ask, ask_read, ask_by, ask_as, answered_as}
 use Rattle.ifdb_model.specs.Run.{State, session_of, with_outcome, asks, next}
-use Rattle.ifdb_db.specs.Client.{Open, Client, client_of, session_at, txn_at}
+use Rattle.ifdb_db.specs.Client.{Open, Client, Standing, at_label, client_of, session_at, txn_at}
 use Rattle.ifdb_db.specs.Inside.{is_end, Inside, IsReplied, IsLeft, IsDenied}
 use Rattle.ifdb_db.specs.Kept.{IsLabelKept, IsKept, Outgrows}
 use Rattle.ifdb_db.specs.Lent.{IsLabelInside, IsLent, GoesOn, Answers, EndsTransaction, with_client, MayComeBack}
@@ -43,8 +43,8 @@ over_further log (Some x) (Some y) p o = subst (λ (z : ℕ × Seen). (z.0 ≤ l
 
 -- ---- a line that a session answers by itself
 
-module _ (asker : ℕ) (l : List ℕ) (x : Open) (r : Request) where
-  as_inside : (log : List Entry) (z : Seen) (s : Session) (f : Form) → is_end f ≡ false → ask_as log s z asker r f ≡ answered_as (length log) z None s asker r f
+module _ (who : Standing) (x : Open) (r : Request) where
+  as_inside : (log : List Entry) (z : Seen) (s : Session) (f : Form) → is_end f ≡ false → ask_as log s z who.principal r f ≡ answered_as (length log) z None s who.principal r f
   as_inside log z s (greets name key) h = refl
   as_inside log z s publishes h = refl
   as_inside log z s relabels h = refl
@@ -57,44 +57,44 @@ module _ (asker : ℕ) (l : List ℕ) (x : Open) (r : Request) where
   as_inside log z s writes h = refl
 
   abbrev there : Client
-  there = client_of asker l (Some x)
+  there = client_of who (Some x)
 
-  inside_asked : (o : Outcome) (log : List Entry) → is_end (form_of r) ≡ false → Inside asker l x r o → IsOver log (Some x) → ask_by log (session_at there) (Some asker) r ≡ o
+  inside_asked : (o : Outcome) (log : List Entry) → is_end (form_of r) ≡ false → Inside who x r o → IsOver log (Some x) → ask_by log (session_at there) (Some who.principal) r ≡ o
   inside_asked o log g h over =
       as_inside log (seen log (session_at there)) (session_at there) (form_of r) g
-      ∙ ap (λ (z : Seen). answered_as (length log) z None (session_at there) asker r (form_of r))
+      ∙ ap (λ (z : Seen). answered_as (length log) z None (session_at there) who.principal r (form_of r))
       (ap (λ (z : Seen). record { public = z.public; rows = after z.rows x.own }) (sym over.1))
       ∙ h (length log) None
 
   -- a line that is left to the database ends the transaction
-  pub room_so : (line : List ℕ) → read_line line ≡ Ok r → (m : List ℕ) (y : Open) (end : Form) → is_end end ≡ true → IsLeft end l m x y r → EndsTransaction line
+  pub room_so : (line : List ℕ) → read_line line ≡ Ok r → (m : List ℕ) (y : Open) (end : Form) → is_end end ≡ true → IsLeft end who.label m x y r → EndsTransaction line
   room_so line found m y end is d = (r, found, ap is_end d.form ∙ is)
 
   module _ (line : List ℕ) (found : read_line line ≡ Ok r) (c : Client) (is : c ≡ there) where
-    asked_so : (o : Outcome) (log : List Entry) → is_end (form_of r) ≡ false → Inside asker l x r o → IsOver log c.txn → ask read_line log (session_at c) line ≡ o
+    asked_so : (o : Outcome) (log : List Entry) → is_end (form_of r) ≡ false → Inside who x r o → IsOver log c.txn → ask read_line log (session_at c) line ≡ o
     asked_so o log g h over =
         ap (ask_read log (session_at c)) found
         ∙ ap (λ (z : Client). ask_by log (session_at z) z.principal r) is
         ∙ inside_asked o log g h (subst (λ (z : Client). IsOver log z.txn) is over)
 
-    pub answers_so : (e : Client) (m : List ℕ) (y : Open) (told : Reply) → e ≡ record c { label = m; txn = Some y } → AreMade (length y.base.public.tags) m → IsReplied asker l m x y r told
+    pub answers_so : (e : Client) (m : List ℕ) (y : Open) (told : Reply) → e ≡ record c { label = m; txn = Some y } → AreMade (length y.base.public.tags) m → IsReplied who m x y r told
         → Answers line c e told
     answers_so e m y told k made h = record {
       told = λ log o. asked_so _ log h.goes_on h.told o ∙ ap (λ (z : Client). tells (session_at z) told) (sym same);
       goes_on = subst (λ (z : Client). GoesOn z.txn e.txn) (sym is) (subst (λ (z : Client). GoesOn (Some x) z.txn) (sym same) (h.begin, h.base));
       lent = subst IsLent (sym same) (record { is_open = refl; greeted = refl; label = made });
-      still = λ u. let q = h.still u in same ∙ (λ i. client_of asker (q.0 i) (Some (q.1 i))) ∙ sym is;
+      still = λ u. let q = h.still u in same ∙ (λ i. client_of (at_label who (q.0 i)) (Some (q.1 i))) ∙ sym is;
     } where
-      same : e ≡ client_of asker m (Some y)
+      same : e ≡ client_of (at_label who m) (Some y)
       same = k ∙ ap (λ (z : Client). record z { label = m; txn = Some y }) is
 
-    pub denied_so : (e : Client) (m : List ℕ) (y : Open) (f : Fault) → e ≡ record c { label = m; txn = Some y } → AreMade (length x.base.public.tags) l → IsDenied asker l m x y r f
+    pub denied_so : (e : Client) (m : List ℕ) (y : Open) (f : Fault) → e ≡ record c { label = m; txn = Some y } → AreMade (length x.base.public.tags) who.label → IsDenied who m x y r f
         → (e ≡ c) × ((f ≡ fault.OutOfMemory) ⊎ Answers line c c (reply.Refused f))
     denied_so e m y f k made d = (same, by d.cause) where
       same : e ≡ c
-      same = k ∙ ap (λ (z : Client). record z { label = m; txn = Some y }) is ∙ (λ i. client_of asker (d.label i) (Some (d.txn i))) ∙ sym is
+      same = k ∙ ap (λ (z : Client). record z { label = m; txn = Some y }) is ∙ (λ i. client_of (at_label who (d.label i)) (Some (d.txn i))) ∙ sym is
 
-      by : (f ≡ fault.OutOfMemory) ⊎ Inside asker l x r (refuses (Rattle.ifdb_db.specs.Inside.session_of asker l (txn_at (Some x))) f) → (f ≡ fault.OutOfMemory) ⊎ Answers line c c (reply.Refused f)
+      by : (f ≡ fault.OutOfMemory) ⊎ Inside who x r (refuses (Rattle.ifdb_db.specs.Inside.session_of who (txn_at (Some x))) f) → (f ≡ fault.OutOfMemory) ⊎ Answers line c c (reply.Refused f)
       by (inl o) = inl o
       by (inr h) = inr (record {
         told = λ log o. asked_so _ log d.goes_on h o ∙ ap (λ (z : Client). tells (session_at z) (reply.Refused f)) (sym is);
@@ -104,8 +104,8 @@ module _ (asker : ℕ) (l : List ℕ) (x : Open) (r : Request) where
       })
 
     -- it is left to the database
-    pub left_so : (e : Client) (m : List ℕ) (y : Open) (end : Form) → e ≡ record c { label = m; txn = Some y } → IsLeft end l m x y r → e ≡ c
-    left_so e m y end k d = k ∙ ap (λ (z : Client). record z { label = m; txn = Some y }) is ∙ (λ i. client_of asker (d.label i) (Some (d.txn i))) ∙ sym is
+    pub left_so : (e : Client) (m : List ℕ) (y : Open) (end : Form) → e ≡ record c { label = m; txn = Some y } → IsLeft end who.label m x y r → e ≡ c
+    left_so e m y end k d = k ∙ ap (λ (z : Client). record z { label = m; txn = Some y }) is ∙ (λ i. client_of (at_label who (d.label i)) (Some (d.txn i))) ∙ sym is
 
 -- a line that isn't read
 pub unread_so : (line : List ℕ) (c : Client) (f : Fault) → IsLent c → (f ≡ fault.OutOfMemory) ⊎ (read_line line ≡ Err f)
@@ -220,6 +220,7 @@ client_same : (log : List Entry) (c d : Client) → session_at c ≡ session_at 
 client_same log c d e o p = λ i. record {
   is_open = (ap (λ (s : Session). s.is_open) e) i;
   principal = (ap (λ (s : Session). s.principal) e) i;
+  ceiling = (ap (λ (s : Session). s.ceiling) e) i;
   label = (ap (λ (s : Session). s.label) e) i;
   txn = (by c.txn d.txn (ap (λ (s : Session). s.txn) e) o p) i;
 } where

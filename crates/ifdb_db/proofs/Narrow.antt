@@ -31,7 +31,7 @@ within : (r : Request) → exceeds_request r ≡ false → is_narrow r ≡ true
 within (q.Select s) h = within_select s h
 within (q.CreateView name s tags) h = within_select s (grind (arith, nat_tests))
 within (q.Hello name key) h = refl
-within (q.CreatePrincipal name key) h = refl
+within (q.CreatePrincipal name key clearance) h = refl
 within (q.CreateTag name compound parents) h = refl
 within (q.CreateTable name columns key foreign) h = refl
 within (q.Grant tag to) h = refl

@@ -1,5 +1,5 @@
 -- CREATE, GRANT and REVOKE outside a transaction, by what they are bound to.
-use Rattle.std.proofs.Common.{◌≡◌, ℕ, true, false, List, ◌∙◌, refl, ap, Some, None, inl, inr}
+use Rattle.std.proofs.Common.{◌≡◌, ℕ, true, false, List, ◌∙◌, refl, ap, Option, Some, None, inl, inr}
 use Rattle.std.specs.Prelude.{◌⊎◌, Ok, Err}
 use Rattle.ifdb_bound.specs.declared.request.Bound.{Bound}
 use Rattle.ifdb_bound.specs.declared.request.Bound.TheVariants as b
@@ -13,6 +13,7 @@ use Rattle.ifdb_catalog.specs.Laws.{BoundIsNew}
 use Rattle.ifdb_model.specs.Session.{Session}
 use Rattle.ifdb_model.specs.Step.{refuses, is_empty, form_of, publishes, publish, publish_bound, publish_it}
 use Rattle.ifdb_db.specs.Desk.{Desk, with_entry, settled}
+use Rattle.ifdb_db.specs.Client.{standing}
 use Rattle.ifdb_db.specs.Inside.{session_of}
 use Rattle.ifdb_db.specs.Outside.{outside, IsAdded, IsNotAdded}
 use Rattle.ifdb_db.specs.Publishing.{entry_of, is_new_bound, refusal_of}
@@ -46,36 +47,41 @@ refused_by p s (b.Delete t cond) g r = cc
 refused_by p s b.Other g r = cc
 
 module _ (x y : Desk) (asker : ℕ) (l : List ℕ) (r : Request) (f : form_of r ≡ publishes) where
-  abbrev there : Session
-  there = session_of asker l None
+  -- who asks, under any ceiling
+  abbrev there : Option (List ℕ) → Session
+  there c = session_of (standing asker c l) None
 
-  by_form : outside x asker l r ≡ publish x.seen.public there (bound x.seen.public asker r)
-  by_form = ap (Rattle.ifdb_model.specs.Step.answered_as x.count x.seen None there asker r) f
+  by_form : (c : Option (List ℕ)) → outside x (standing asker c l) r ≡ publish x.seen.public (there c) (bound x.seen.public asker r)
+  by_form c = ap (Rattle.ifdb_model.specs.Step.answered_as x.count x.seen None (there c) asker r) f
 
   pub labelled : is_empty l ≡ false → y ≡ x → IsNotAdded asker l r x y fault.LabelNotEmpty
-  labelled e k = record { cause = inr (by_form ∙ rw e refl); desk = k }
+  labelled e k = record { cause = inr (λ c. by_form c ∙ rw e refl); desk = k }
 
   module _ (e : is_empty l ≡ true) where
-    unlabelled : outside x asker l r ≡ publish_bound x.seen.public there (bound x.seen.public asker r)
-    unlabelled = by_form ∙ rw e refl
+    unlabelled : (c : Option (List ℕ)) → outside x (standing asker c l) r ≡ publish_bound x.seen.public (there c) (bound x.seen.public asker r)
+    unlabelled c = by_form c ∙ rw e refl
+
+    -- the refusal, or that there was no memory
+    abbrev Refuses : Fault → Type 0
+    Refuses g = (g ≡ fault.OutOfMemory) ⊎ ((c : Option (List ℕ)) → outside x (standing asker c l) r ≡ refuses (there c) g)
 
     pub unbound : (g : Fault) → (g ≡ fault.OutOfMemory) ⊎ (bound x.seen.public asker r ≡ Err g) → y ≡ x → IsNotAdded asker l r x y g
     unbound g h k = record { cause = by h; desk = k } where
-      by : (g ≡ fault.OutOfMemory) ⊎ (bound x.seen.public asker r ≡ Err g) → (g ≡ fault.OutOfMemory) ⊎ (outside x asker l r ≡ refuses there g)
+      by : (g ≡ fault.OutOfMemory) ⊎ (bound x.seen.public asker r ≡ Err g) → Refuses g
       by (inl m) = inl m
-      by (inr i) = inr (unlabelled ∙ ap (publish_bound x.seen.public there) i)
+      by (inr i) = inr (λ c. unlabelled c ∙ ap (publish_bound x.seen.public (there c)) i)
 
     module _ (found : Bound) (i : bound x.seen.public asker r ≡ Ok found) where
       pub published : refusal_of x.seen.public found ≡ None → y ≡ settled (with_entry x (entry_of found)) → IsAdded asker l r x y reply.Done
       published n k = record {
         added = entry_of found;
-        outcome = unlabelled ∙ ap (publish_bound x.seen.public there) i ∙ added_by x.seen.public there found n;
+        outcome = λ c. unlabelled c ∙ ap (publish_bound x.seen.public (there c)) i ∙ added_by x.seen.public (there c) found n;
         desk = k;
         bounded = λ u. u;
       }
 
       pub refused : (g : Fault) → (g ≡ fault.OutOfMemory) ⊎ (refusal_of x.seen.public found ≡ Some g) → y ≡ x → IsNotAdded asker l r x y g
       refused g h k = record { cause = by h; desk = k } where
-        by : (g ≡ fault.OutOfMemory) ⊎ (refusal_of x.seen.public found ≡ Some g) → (g ≡ fault.OutOfMemory) ⊎ (outside x asker l r ≡ refuses there g)
+        by : (g ≡ fault.OutOfMemory) ⊎ (refusal_of x.seen.public found ≡ Some g) → Refuses g
         by (inl m) = inl m
-        by (inr n) = inr (unlabelled ∙ ap (publish_bound x.seen.public there) i ∙ refused_by x.seen.public there found g n)
+        by (inr n) = inr (λ c. unlabelled c ∙ ap (publish_bound x.seen.public (there c)) i ∙ refused_by x.seen.public (there c) found g n)

@@ -129,11 +129,11 @@ follows_none n (Some x) = tt
 
 follows_shape : (log : List Entry) (s : Session) (line : Result Request Fault) (o : Outcome) → Shape log s line o → Follows (length log) s.txn o.session.txn
 follows_shape log s line _ (stayed r) = follows_itself (length log) s.txn
-follows_shape log s line _ (greeted_as n) = follows_itself (length log) s.txn
-follows_shape log s line _ (relabelled_to asker r label e h) = follows_itself (length log) s.txn
+follows_shape log s line _ (greeted_as n g lt) = follows_itself (length log) s.txn
+follows_shape log s line _ (relabelled_to asker r label p e h) = follows_itself (length log) s.txn
 follows_shape log s line _ (begun t) = subst (λ o. Follows (length log) o (Some (record { begin = length log; own = [] }))) (sym t) refl
 follows_shape log s line _ (ended is_open r why) = follows_none (length log) s.txn
-follows_shape log s line _ (published asker r c t e b f) = follows_itself (length log) s.txn
+follows_shape log s line _ (published asker r c line_is t e b f) = follows_itself (length log) s.txn
 follows_shape log s line _ (joined asker r b x w i t e) = subst (λ o. Follows (length log) o (Some (record { begin = x.begin; own = merged x.own w.writes }))) (sym t) refl
 follows_shape log s line _ (wrote asker r b w i t e f) = follows_itself (length log) s.txn
 follows_shape log s line _ (done x t j) = follows_none (length log) s.txn

@@ -1,5 +1,5 @@
 -- INSERT, UPDATE and DELETE outside a transaction.
-use Rattle.std.proofs.Common.{◌≡◌, ℕ, Bool, true, false, List, ◌∙◌, refl, ap, cond, Some, None, inl, inr}
+use Rattle.std.proofs.Common.{◌≡◌, ℕ, Bool, true, false, List, ◌∙◌, refl, ap, cond, Option, Some, None, inl, inr}
 use Rattle.std.specs.Prelude.{◌⊎◌, Result, Ok, Err, IfOk, IsTrue}
 use Rattle.ifdb_row.specs.declared.row.Row.{Row}
 use Rattle.ifdb_row.specs.Content.{are_rooted}
@@ -14,9 +14,10 @@ use Rattle.ifdb_catalog.specs.Binding.{bound}
 use Rattle.ifdb_model.specs.Log.{commits}
 use Rattle.ifdb_model.specs.Session.{Session}
 use Rattle.ifdb_model.specs.Writes.{Written, is_delete, writes_of}
-use Rattle.ifdb_model.specs.Step.{adds, refuses, form_of, writes, land, write_bound}
+use Rattle.ifdb_model.specs.Step.{Outcome, adds, refuses, form_of, writes, land, write_bound}
 use Rattle.ifdb_snapshot.specs.Writing.{orphans}
 use Rattle.ifdb_db.specs.Desk.{Desk, with_entry, settled}
+use Rattle.ifdb_db.specs.Client.{standing}
 use Rattle.ifdb_db.specs.Inside.{session_of}
 use Rattle.ifdb_laws.proofs.Statements.{writes_good}
 use Rattle.ifdb_laws.proofs.rows.Rooted.{writes_rooted}
@@ -25,8 +26,9 @@ use Rattle.ifdb_db.specs.Kept.{keeps_parents}
 use Rattle.ifdb_db.specs.Outside.{outside, unless_orphaned, IsAdded, IsNotAdded, Writes}
 
 module _ (x : Desk) (asker : ℕ) (l : List ℕ) (r : Request) where
-  abbrev there : Session
-  there = session_of asker l None
+  -- who asks, under any ceiling
+  abbrev there : Option (List ℕ) → Session
+  there c = session_of (standing asker c l) None
 
   pub landed : (y : Desk) (w : Written) → Writes asker l r x (Ok w) → y ≡ settled (with_entry x (Some (commits w.writes))) → IsAdded asker l r x y (reply.Count w.count)
   landed y w h k = record { added = Some (commits w.writes); outcome = h; desk = k; bounded = λ u. u }
@@ -35,30 +37,33 @@ module _ (x : Desk) (asker : ℕ) (l : List ℕ) (r : Request) where
   not_landed y g h k = record { cause = h; desk = k }
 
   module _ (f : form_of r ≡ writes) where
-    by_form : outside x asker l r ≡ write_bound x.seen.public x.seen.rows asker there (bound x.seen.public asker r)
-    by_form = ap (Rattle.ifdb_model.specs.Step.answered_as x.count x.seen None there asker r) f
+    by_form : (c : Option (List ℕ)) → outside x (standing asker c l) r ≡ write_bound x.seen.public x.seen.rows asker (there c) (bound x.seen.public asker r)
+    by_form c = ap (Rattle.ifdb_model.specs.Step.answered_as x.count x.seen None (there c) asker r) f
 
     pub unbound : (g : Fault) → (g ≡ fault.OutOfMemory) ⊎ (bound x.seen.public asker r ≡ Err g) → Writes asker l r x (Err g)
     unbound g (inl m) = inl m
-    unbound g (inr e) = inr (by_form ∙ ap (write_bound x.seen.public x.seen.rows asker there) e)
+    unbound g (inr e) = inr (λ c. by_form c ∙ ap (write_bound x.seen.public x.seen.rows asker (there c)) e)
 
     module _ (found : Bound) (e : bound x.seen.public asker r ≡ Ok found) where
-      by_found : outside x asker l r ≡ land there x.seen.rows (is_delete found) (writes_of x.seen.public asker x.seen.rows l found)
-      by_found = by_form ∙ ap (write_bound x.seen.public x.seen.rows asker there) e
+      by_found : (c : Option (List ℕ)) → outside x (standing asker c l) r ≡ land (there c) x.seen.rows (is_delete found) (writes_of x.seen.public asker x.seen.rows l found)
+      by_found c = by_form c ∙ ap (write_bound x.seen.public x.seen.rows asker (there c)) e
 
       pub refused : (g : Fault) → (g ≡ fault.OutOfMemory) ⊎ (writes_of x.seen.public asker x.seen.rows l found ≡ Err g) → Writes asker l r x (Err g)
       refused g (inl m) = inl m
-      refused g (inr h) = inr (by_found ∙ ap (land there x.seen.rows (is_delete found)) h)
+      refused g (inr h) = inr (λ c. by_found c ∙ ap (land (there c) x.seen.rows (is_delete found)) h)
 
       module _ (w : Written) (h : writes_of x.seen.public asker x.seen.rows l found ≡ Ok w) where
-        by_writes : outside x asker l r ≡ cond (orphans (is_delete found) x.seen.rows w.writes) (refuses there fault.StillReferenced) (adds there (commits w.writes) (reply.Count w.count))
-        by_writes = by_found ∙ ap (land there x.seen.rows (is_delete found)) h
+        abbrev lands : Option (List ℕ) → Bool → Outcome
+        lands c orphaned = cond orphaned (refuses (there c) fault.StillReferenced) (adds (there c) (commits w.writes) (reply.Count w.count))
+
+        by_writes : (c : Option (List ℕ)) → outside x (standing asker c l) r ≡ lands c (orphans (is_delete found) x.seen.rows w.writes)
+        by_writes c = by_found c ∙ ap (land (there c) x.seen.rows (is_delete found)) h
 
         pub clear : orphans (is_delete found) x.seen.rows w.writes ≡ false → Writes asker l r x (Ok w)
-        clear o = by_writes ∙ ap (λ c. cond c (refuses there fault.StillReferenced) (adds there (commits w.writes) (reply.Count w.count))) o
+        clear o = λ c. by_writes c ∙ ap (lands c) o
 
         pub orphaned : orphans (is_delete found) x.seen.rows w.writes ≡ true → Writes asker l r x (Err fault.StillReferenced)
-        orphaned o = inr (by_writes ∙ ap (λ c. cond c (refuses there fault.StillReferenced) (adds there (commits w.writes) (reply.Count w.count))) o)
+        orphaned o = inr (λ c. by_writes c ∙ ap (lands c) o)
 
       pub answered : (o : Result Written Fault) → Gives (writes_of x.seen.public asker x.seen.rows l found) o → Writes asker l r x (unless_orphaned (is_delete found) x.seen.rows o)
       answered (Err g) h = refused g h

@@ -14,20 +14,34 @@ pub record Open : Type 0 where
 pub record Client : Type 0 where
   pub is_open : Bool
   pub principal : Option ℕ
+  pub ceiling : Option (List ℕ)
   pub label : List ℕ
   pub txn : Option Open
 
+-- who asks in a session that said HELLO, up to which label it may raise its own, and its label
+pub record Standing : Type 0 where
+  pub principal : ℕ
+  pub ceiling : Option (List ℕ)
+  pub label : List ℕ
+
+abbrev pub standing : ℕ → Option (List ℕ) → List ℕ → Standing
+standing principal ceiling label = record { principal = principal; ceiling = ceiling; label = label }
+
+-- the same at another label
+abbrev pub at_label : Standing → List ℕ → Standing
+at_label who label = record who { label = label }
+
 -- a client that was just opened
 abbrev pub new_client : Client
-new_client = record { is_open = true; principal = None; label = []; txn = None }
+new_client = record { is_open = true; principal = None; ceiling = None; label = []; txn = None }
 
 -- a client that has left
 abbrev pub left_client : Client → Client
 left_client c = record c { is_open = false; txn = None }
 
--- an open client of a principal
-abbrev pub client_of : ℕ → List ℕ → Option Open → Client
-client_of asker label txn = record { is_open = true; principal = Some asker; label = label; txn = txn }
+-- an open client that stands so
+abbrev pub client_of : Standing → Option Open → Client
+client_of who txn = record { is_open = true; principal = Some who.principal; ceiling = who.ceiling; label = who.label; txn = txn }
 
 -- the machine's transaction
 abbrev pub txn_at : Option Open → Option Txn
@@ -36,7 +50,7 @@ txn_at (Some x) = Some (record { begin = x.begin; own = x.own })
 
 -- the machine's session
 abbrev pub session_at : Client → Session
-session_at c = record { is_open = c.is_open; principal = c.principal; label = c.label; txn = txn_at c.txn }
+session_at c = record { is_open = c.is_open; principal = c.principal; ceiling = c.ceiling; label = c.label; txn = txn_at c.txn }
 
 -- what is seen: in a transaction what all saw at its BEGIN, with its own writes; outside it what all see now
 abbrev pub seen_by : Seen → Option Open → Seen

@@ -57,7 +57,7 @@ pub record StandsFor (room : Hall) (st : State) : Type 0 where
 
 -- a client that was never opened
 abbrev pub no_client : Client
-no_client = record { is_open = Rattle.std.specs.Prelude.false; principal = None; label = []; txn = None }
+no_client = record { is_open = Rattle.std.specs.Prelude.false; principal = None; ceiling = None; label = []; txn = None }
 
 -- the number is that of a client that was opened
 abbrev pub was_opened : Hall → ℕ → Bool

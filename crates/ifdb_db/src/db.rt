@@ -100,7 +100,7 @@ impl Db {
     pub(crate) fn sight(&self, session: &Session) -> Option<Sight>
         requires open { IsTrue session.now.is_open }
         requires kept { IsKept self.now.seen.public session.now }
-        ensures client { IfSome result (λ sight. session.now ≡ client_of_sight sight) }
+        ensures client { IfSome result (λ sight. session.now ≡ client_of_sight session.now.ceiling sight) }
         ensures seen { IfSome result (λ sight. sight.seen ≡ self.now.seen) }
     {
         self.is_sound();

@@ -1,5 +1,5 @@
 // A session in a transaction that is lent: it answers its lines by itself.
-ghost use Rattle.std.specs.Prelude.{◌≡◌, true, IfSome};
+ghost use Rattle.std.specs.Prelude.{◌≡◌, true, IfOk, IfSome};
 ghost use Rattle.std.specs.Option.{is_some};
 ghost use Rattle.ifdb_db.specs.Lent.{IsAnsweredAlone, IsFoundAlone, IsLent};
 
@@ -8,7 +8,9 @@ use crate::reading::read_line;
 use crate::room::refusal_of;
 use crate::session::Session;
 use crate::told::Told;
+use ifdb_label::Label;
 use ifdb_wire::{Fault, Reply};
+use std::alloc::Global;
 
 impl Session {
     /// Answers a line in the session's transaction, from that alone: what others do meanwhile can't matter. `None` where the
@@ -40,7 +42,7 @@ impl Session {
             return Ok(None);
         };
         let request = read_line(txn.alloc(), line)?;
-        match txn.ask(asker, &mut self.label, request)? {
+        match txn.ask(asker, self.ceiling.as_ref(), &mut self.label, request)? {
             Told::Replies(reply) => Ok(Some(reply)),
             Told::Commits => Ok(None),
             Told::RollsBack => Ok(None),
@@ -67,11 +69,28 @@ impl Session {
         let Ok(label) = self.label.copy(begun.alloc()) else {
             return None;
         };
+        let Ok(ceiling) = copied(begun.alloc(), &self.ceiling) else {
+            return None;
+        };
         Some(Session {
             is_open: self.is_open,
             principal: self.principal,
+            ceiling,
             label,
             txn: Some(txn),
         })
+    }
+}
+
+/// A copy of a ceiling, if there is one.
+fn copied(alloc: Global, ceiling: &Option<Label>) -> Result<Option<Label>, OutOfMemory>
+    ensures { IfOk result (λ copy. copy ≡ ceiling.now) }
+{
+    match ceiling {
+        Some(label) => {
+            let label = label.copy(alloc)?;
+            Ok(Some(label))
+        }
+        None => Ok(None),
     }
 }

@@ -9,13 +9,15 @@ use ifdb_value::Principal;
 use std::alloc::Global;
 use std::marker::Model;
 
-/// A session: whether it is open, the principal that it said HELLO for, its label, which it keeps once it is closed, and its transaction.
+/// A session: whether it is open, the principal that it said HELLO for, that principal's clearance as its ceiling, its label, which it
+/// keeps once it is closed, and its transaction.
 ///
 /// Contracts see a client: the machine's session, and what its transaction began with.
 #[derive(Drop)]
 pub struct Session {
     pub(crate) is_open: bool,
     pub(crate) principal: Option<Principal>,
+    pub(crate) ceiling: Option<Label>,
     pub(crate) label: Label,
     pub(crate) txn: Option<Txn>,
 }
@@ -34,19 +36,21 @@ impl Model for Session {
     ghost view = { λ s. record {
       is_open = s.is_open;
       principal = s.principal;
+      ceiling = s.ceiling;
       label = s.label;
       txn = s.txn;
     } };
 }
 
 impl Session {
-    /// An open session without a principal, at the empty label. Takes no memory.
+    /// An open session without a principal and a ceiling, at the empty label. Takes no memory.
     pub fn new(alloc: Global) -> Self
         ensures { result ≡ new_client }
     {
         Session {
             is_open: true,
             principal: None,
+            ceiling: None,
             label: Label::empty(alloc),
             txn: None,
         }

@@ -70,7 +70,7 @@ arranged_clean columns (n ∷ names) row h =
 
 pub bound_clean : (p : Public) (asker : ℕ) (r : Request) (x : Bound) → is_clean_request r ≡ true → bound p asker r ≡ Ok x → is_clean_tree x ≡ true
 unfolding bound
-bound_clean p asker (q.CreatePrincipal name key) x h e = accepted is_clean_tree _ _ x e (λ k. refl)
+bound_clean p asker (q.CreatePrincipal name key clearance) x h e = accepted is_clean_tree _ _ x e (λ k. refl)
 bound_clean p asker (q.CreateTag name compound parents) x h e = accepted is_clean_tree _ _ x e (λ k. h)
 bound_clean p asker (q.CreateTable name columns key foreign) x h e = accepted is_clean_tree _ _ x e (λ k. refl)
 bound_clean p asker (q.CreateView name s tags) x h e = accepted is_clean_tree _ _ x e (λ k. query_clean (scope_of p s.sources) p s h)

@@ -106,7 +106,7 @@ view_passes =
     past _ (λ _. past _ (λ n. past _ (λ _. part _ plain_passes (λ shown c. past _ (λ _. past _ (λ _. past _ (λ tags. done (q.CreateView n shown tags) c)))))))
 
 principal_passes : Passes request.principal is_clean_request
-principal_passes = past _ (λ _. past _ (λ n. past _ (λ _. past _ (λ key. done (q.CreatePrincipal n key) refl))))
+principal_passes = past _ (λ _. past _ (λ n. past _ (λ _. past _ (λ key. past _ (λ tags. done (q.CreatePrincipal n key tags) refl)))))
 
 create_passes : Passes (request.create written) is_clean_request
 create_passes = past _ (λ _. either (either (either (either principal_passes (tag_passes false)) (past _ (λ _. tag_passes true))) table_passes) view_passes)

@@ -73,6 +73,8 @@ name_line fault.NotCompound = refl
 name_line fault.NotATable = refl
 name_line fault.ViewAuthority = refl
 name_line fault.NoSession = refl
+name_line fault.OverClearance = refl
+name_line fault.ClosureLabel = refl
 
 place_line : (f : Fault) → is_line (place_text f) ≡ true
 place_line (fault.Syntax at) = line_append (codes " ") (decimal at) refl (decimal_line at)

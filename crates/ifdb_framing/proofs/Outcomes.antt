@@ -23,7 +23,7 @@ use Rattle.ifdb_catalog.specs.Binding.{bound as bound_request}
 use Rattle.ifdb_model.specs.Log.{Entry, commits, public_of}
 use Rattle.ifdb_model.specs.Session.{Txn, Session, closed, in_txn, seen}
 use Rattle.ifdb_model.specs.Writes.{Written, writes_of, is_delete}
-use Rattle.ifdb_model.specs.Step.{Reader, Outcome, tells, refuses, adds, greeted, set_label, publish_it, publish_bound, is_empty, publish, look_reply, land_in, land, write_bound, committed, commit_fault, ended, begin, rollback, Form, greets, publishes, relabels, shows_label, begins, ends, rolls_back, leaves_us, looks, writes, form_of, ask_as, ask_new, ask_by, ask_read, ask}
+use Rattle.ifdb_model.specs.Step.{Reader, Outcome, tells, refuses, adds, welcomed, greeted, label_refusal, relabelled_as, set_label, publish_it, publish_bound, is_empty, publish, look_reply, land_in, land, write_bound, committed, commit_fault, ended, begin, rollback, Form, greets, publishes, relabels, shows_label, begins, ends, rolls_back, leaves_us, looks, writes, form_of, ask_as, ask_new, ask_by, ask_read, ask}
 use Rattle.ifdb_laws.specs.Bytes.{is_line}
 use Rattle.ifdb_laws.proofs.Sided.{written_all}
 use Rattle.ifdb_laws.proofs.Logs.{txn_all}
@@ -70,11 +70,13 @@ module _ (s : Session) (own : has_clean_own s.txn ≡ true) where
   pub refused_keeps : (f : Fault) → Keeps (refuses s f)
   refused_keeps f = told (reply.Refused f) (refused_framed f)
 
+  relabelled_keeps : (label : List ℕ) (refusal : Option Fault) → Keeps (relabelled_as s label refusal)
+  relabelled_keeps label None = record { reply = refl; own = own; added = refl }
+  relabelled_keeps label (Some f) = refused_keeps f
+
   set_label_keeps : (p : Public) (asker : ℕ) (o : Result Bound Fault) → Keeps (set_label p asker s o)
   set_label_keeps p asker (Err f) = refused_keeps f
-  set_label_keeps p asker (Ok (bound.SetLabel label)) =
-      pick (has_tags p asker (strip (tags_of p) s.label label)) (tells (record s { label = label }) reply.Done) (refuses s fault.NoAuthority)
-      (record { reply = refl; own = own; added = refl }) (refused_keeps fault.NoAuthority)
+  set_label_keeps p asker (Ok (bound.SetLabel label)) = relabelled_keeps label (label_refusal p asker s label)
   set_label_keeps p asker (Ok (bound.Change c)) = told reply.Done refl
   set_label_keeps p asker (Ok (bound.Select q)) = told reply.Done refl
   set_label_keeps p asker (Ok (bound.Insert t rows given)) = told reply.Done refl
@@ -147,7 +149,7 @@ module _ (s : Session) (own : has_clean_own s.txn ≡ true) where
   greeted_keeps : (p : Public) (key : List ℕ) (o : Option ℕ) → Keeps (greeted p s key o)
   greeted_keeps p key None = refused_keeps fault.BadKey
   greeted_keeps p key (Some n) =
-      pick (is_key p n key) (tells (record s { principal = Some n }) reply.Done) (refuses s fault.BadKey) (record { reply = refl; own = own; added = refl }) (refused_keeps fault.BadKey)
+      pick (is_key p n key) (tells (welcomed p s n) reply.Done) (refuses s fault.BadKey) (record { reply = refl; own = own; added = refl }) (refused_keeps fault.BadKey)
 
   bye_keeps : Keeps (tells (closed s) reply.Done)
   bye_keeps = free (closed s) reply.Done refl refl

@@ -17,7 +17,7 @@ use Rattle.ifdb_framing.proofs.Lists.{all_push, all_take}
 use Rattle.ifdb_framing.proofs.Clean.{is_clean_row, is_clean_write, is_clean_change, is_clean_tag, is_clean_view, is_clean_public, is_clean_entry}
 
 changed_clean : (p : Public) (c : Change) → is_clean_public p ≡ true → is_clean_change c ≡ true → is_clean_public (changed p c) ≡ true
-changed_clean p (change.Principal asker name key) h k = h
+changed_clean p (change.Principal asker name key clearance) h k = h
 changed_clean p (change.Tag asker name kind parents) h k =
     let parts = and_parts (list_all is_clean_tag p.tags) (list_all is_clean_view p.views) h in
     both_of _ _ (all_push is_clean_tag p.tags (record { name = name; made = made_tag kind parents; owner = asker }) parts.0 k) parts.1

@@ -1,4 +1,3 @@
-mod ScriptLines
 mod Numbers
 mod Flags
 mod Batches

@@ -18,7 +18,7 @@ use Rattle.ifdb_keep.specs.Numbered.{told_from}
 use Rattle.ifdb_keep.specs.Resumed.{begun, base_of}
 use Rattle.ifdb_keep.specs.Taken.{state_by, told_by, records_by, AreTaken}
 use Rattle.ifdb_keep.specs.Kept.{AreOfLines}
-use Rattle.ifdb_keep.proofs.ScriptLines.{steps_front, steps_last, steps_long, piece-append, piece_line, piece_long, skip, skip_all}
+use Rattle.ifdb_script.proofs.ScriptLines.{steps_front, steps_last, steps_long, piece-append, piece_line, piece_long, skip, skip_all}
 use Rattle.ifdb_keep.proofs.Numbers.{refusals_append}
 use Rattle.ifdb_keep.proofs.Flags.{Goes}
 

@@ -67,10 +67,8 @@ impl Label {
 
     /// Whether each tag of this label is below some tag of the other: what is at this label may go to the other.
     ///
-    /// Takes no memory, and at most a `Tags::below` for each pair of tags.
+    /// A tag that isn't made is below itself alone. Takes no memory, and at most a `Tags::below` for each pair of tags.
     pub fn flows(&self, tags: &Tags, other: &Label) -> bool
-        requires self_made { AreMade (length tags.now) self.now }
-        requires other_made { AreMade (length tags.now) other.now }
         ensures { result ≡ flows tags.now self.now other.now }
     {
         self.tags

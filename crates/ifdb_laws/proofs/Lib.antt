@@ -16,3 +16,4 @@ pub mod ReadBack
 pub mod ToldBack
 pub mod Stamps
 pub mod NullRowsPlayed
+pub mod CeilingRowsPlayed

@@ -181,6 +181,8 @@ fault_starts fault.NotCompound = refl
 fault_starts fault.NotATable = refl
 fault_starts fault.ViewAuthority = refl
 fault_starts fault.NoSession = refl
+fault_starts fault.OverClearance = refl
+fault_starts fault.ClosureLabel = refl
 
 is_rows : Reply → Bool
 is_rows (reply.Rows table) = true
@@ -343,6 +345,8 @@ fault_shows fault.NotCompound = refl
 fault_shows fault.NotATable = refl
 fault_shows fault.ViewAuthority = refl
 fault_shows fault.NoSession = refl
+fault_shows fault.OverClearance = refl
+fault_shows fault.ClosureLabel = refl
 
 reply_shows : (r : Reply) → shows_memory (reply_lines r) ≡ reads_memory r
 reply_shows reply.Done = refl

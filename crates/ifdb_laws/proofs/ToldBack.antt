@@ -55,6 +55,8 @@ fault_apart fault.NotCompound more h = refl
 fault_apart fault.NotATable more h = refl
 fault_apart fault.ViewAuthority more h = refl
 fault_apart fault.NoSession more h = refl
+fault_apart fault.OverClearance more h = refl
+fault_apart fault.ClosureLabel more h = refl
 
 line_apart : (r : Reply) (more : List ℕ) → reads_memory r ≡ false → says_memory (first_line r ++ more) ≡ false
 unfolding says_memory first_line

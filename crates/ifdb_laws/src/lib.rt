@@ -18,6 +18,6 @@ pub use line_laws::{
 };
 pub use row_laws::{keys_apart, parents_live, rows_fit};
 pub use worked::{
-    clinic_rows, commit_rows, crossing_rows, label_rows, null_rows, query_rows, reference_rows,
-    view_rows, world_rows,
+    ceiling_rows, clinic_rows, commit_rows, crossing_rows, label_rows, null_rows, query_rows,
+    reference_rows, view_rows, world_rows,
 };

@@ -7,6 +7,7 @@
 
 ghost use Rattle.ifdb_laws.specs.TwoWorlds.{OutsideStep, InsideStep, AloneIsHeard, AloneEndsAlike, TwoWorlds};
 ghost use Rattle.ifdb_laws.specs.OneSide.{QuietRunsAreOneSided, InsideSinceTheStart};
+ghost use Rattle.ifdb_laws.specs.Ceilings.{CeilingsAreClearances, CeilingsAreHeard, CeilingsKeepInside};
 ghost use Rattle.ifdb_laws.specs.Scripts.{TwoScripts};
 
 /// In a run, a step that is asked outside a level, and doesn't cross it, leaves what is inside as it is.
@@ -42,4 +43,12 @@ pub fn two_scripts()
 pub fn one_side()
     ensures states { QuietRunsAreOneSided }
     ensures sessions { InsideSinceTheStart }
+{}
+
+/// A session's ceiling is its principal's clearance. Where it flows to a level, the session is inside that in each state from its Open on,
+/// so all that it is told is heard there.
+pub fn ceilings()
+    ensures clearances { CeilingsAreClearances }
+    ensures inside { CeilingsKeepInside }
+    ensures heard { CeilingsAreHeard }
 {}

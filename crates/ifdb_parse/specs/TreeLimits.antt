@@ -1,5 +1,5 @@
 -- The limits that the lexemes of a line and its tree keep.
-use Rattle.std.specs.Prelude.{ℕ, ◌^◌, Bool, false, ◌||◌, ◌==◌, nat_lt, List, [], ◌∷◌, length}
+use Rattle.std.specs.Prelude.{ℕ, ◌^◌, Bool, false, ◌||◌, ◌==◌, nat_lt, List, [], ◌∷◌, length, Option, Some, None}
 use Rattle.std.specs.List.{list_any}
 use Rattle.ifdb_syntax.specs.declared.lexeme.Lexeme.{Lexeme}
 use Rattle.ifdb_syntax.specs.declared.lexeme.Lexeme.TheVariants as t
@@ -73,8 +73,13 @@ exceeds_foreign k = exceeds_list k.columns
 abbrev pub exceeds_assignment : Assignment → Bool
 exceeds_assignment a = exceeds_expr a.expr
 
+abbrev pub exceeds_clearance : Option (List (List ℕ)) → Bool
+exceeds_clearance None = false
+exceeds_clearance (Some tags) = exceeds_list tags
+
 -- INSERT has at most 256 rows
 abbrev pub exceeds_request : Request → Bool
+exceeds_request (q.CreatePrincipal name key clearance) = exceeds_clearance clearance
 exceeds_request (q.CreateTag name compound parents) = exceeds_list parents
 exceeds_request (q.CreateTable name columns key foreign) =
     exceeds_list columns || exceeds_list key || exceeds_list foreign || list_any exceeds_foreign foreign

@@ -3,7 +3,7 @@ ghost use Rattle.ifdb_parse.specs.theory.Gives.{IsRead};
 ghost use Rattle.ifdb_parse.specs.rules.Requests as spec;
 
 use crate::creations::create;
-use crate::names::some_names;
+use crate::names::some_names_in_parens;
 use crate::shared::{Read, name, text, token};
 use ifdb_syntax::{Lexeme, Request};
 use std::alloc::Global;
@@ -51,9 +51,7 @@ fn set_label(alloc: Global, lexemes: &[Lexeme]) -> Read<'_, Request>
 {
     let rest = token(lexemes, Lexeme::Set)?;
     let rest = token(rest, Lexeme::Label)?;
-    let rest = token(rest, Lexeme::Open)?;
-    let (tags, rest) = some_names(alloc, rest)?;
-    let rest = token(rest, Lexeme::Close)?;
+    let (tags, rest) = some_names_in_parens(alloc, rest)?;
     Ok((Request::SetLabel { tags }, rest))
 }
 

@@ -2,15 +2,29 @@
 ghost use Rattle.ifdb_parse.specs.theory.Gives.{IsRead};
 ghost use Rattle.ifdb_parse.specs.rules.Requests as spec;
 
-use crate::names::{names_behind, names_in_parens};
+use crate::names::{names_behind, names_in_parens, some_names_in_parens};
 use crate::queries::plain;
 use crate::shared::{Read, name, text, token};
 use crate::tables::table;
 use ifdb_syntax::{Lexeme, Request, Select};
-use ifdb_value::Name;
+use ifdb_value::{Name, Names};
 use std::alloc::Global;
 
-/// `PRINCIPAL name KEY text`.
+/// `[CLEARANCE ( [names] )]`.
+#[tactic(auto, unfolding(crate::specs::rules::Requests::clearance, crate::specs::rules::Shared::token))]
+fn clearance(alloc: Global, lexemes: &[Lexeme]) -> Read<'_, Option<Names>>
+    ensures { IsRead result (spec.clearance lexemes.now) }
+{
+    match lexemes {
+        [Lexeme::Clearance, rest @ ..] => {
+            let (tags, rest) = some_names_in_parens(alloc, rest)?;
+            Ok((Some(tags), rest))
+        }
+        _ => Ok((None, lexemes)),
+    }
+}
+
+/// `PRINCIPAL name KEY text [CLEARANCE ( [names] )]`.
 #[tactic(auto, unfolding(crate::specs::rules::Requests::principal))]
 fn principal(alloc: Global, lexemes: &[Lexeme]) -> Read<'_, Request>
     ensures { IsRead result (spec.principal lexemes.now) }
@@ -19,7 +33,15 @@ fn principal(alloc: Global, lexemes: &[Lexeme]) -> Read<'_, Request>
     let (name, rest) = name(alloc, rest)?;
     let rest = token(rest, Lexeme::Key)?;
     let (key, rest) = text(alloc, rest)?;
-    Ok((Request::CreatePrincipal { name, key }, rest))
+    let (clearance, rest) = clearance(alloc, rest)?;
+    Ok((
+        Request::CreatePrincipal {
+            name,
+            key,
+            clearance,
+        },
+        rest,
+    ))
 }
 
 /// `TAG name [IN ( names )]`.

@@ -204,6 +204,10 @@ fn exceeds_request(request: &Request) -> bool
         }
         Request::CreateView { select, tags, .. } => exceeds_select(select) || exceeds_list(tags),
         Request::SetLabel { tags } => exceeds_list(tags),
+        Request::CreatePrincipal {
+            clearance: Some(tags),
+            ..
+        } => exceeds_list(tags),
         Request::Select(select) => exceeds_select(select),
         Request::Insert {
             columns,

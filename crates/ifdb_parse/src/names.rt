@@ -33,13 +33,23 @@ pub(crate) fn names_in_parens(alloc: Global, lexemes: &[Lexeme]) -> Read<'_, Nam
 
 /// `[names]`.
 #[tactic(auto, unfolding(crate::specs::rules::Requests::some_names))]
-pub(crate) fn some_names(alloc: Global, lexemes: &[Lexeme]) -> Read<'_, Names>
+fn some_names(alloc: Global, lexemes: &[Lexeme]) -> Read<'_, Names>
     ensures { IsRead result (spec.some_names lexemes.now) }
 {
     match lexemes {
         [Lexeme::Name(_), ..] => names(alloc, lexemes),
         _ => Ok((Sequence::new(alloc), lexemes)),
     }
+}
+
+/// `( [names] )`.
+pub(crate) fn some_names_in_parens(alloc: Global, lexemes: &[Lexeme]) -> Read<'_, Names>
+    ensures { IsRead result (shared.parens spec.some_names lexemes.now) }
+{
+    let rest = token(lexemes, Lexeme::Open)?;
+    let (names, rest) = some_names(alloc, rest)?;
+    let rest = token(rest, Lexeme::Close)?;
+    Ok((names, rest))
 }
 
 /// `[word ( names )]`.

@@ -33,7 +33,7 @@ read_tells log s (Err f) quiet = record { session = refl; added = refl }
 read_tells log s (Ok (request.Select select)) quiet = select_tells log s s.principal select
 read_tells log s (Ok request.ShowLabel) quiet = show_tells log s s.principal
 read_tells log s (Ok (request.Hello name key)) quiet = absurd quiet
-read_tells log s (Ok (request.CreatePrincipal name key)) quiet = absurd quiet
+read_tells log s (Ok (request.CreatePrincipal name key clearance)) quiet = absurd quiet
 read_tells log s (Ok (request.CreateTag name compound parents)) quiet = absurd quiet
 read_tells log s (Ok (request.CreateTable name columns key foreign)) quiet = absurd quiet
 read_tells log s (Ok (request.CreateView name select tags)) quiet = absurd quiet

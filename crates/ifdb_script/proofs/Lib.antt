@@ -1,6 +1,6 @@
 mod Counting
 mod FirstLine
-mod ScriptLines
+pub mod ScriptLines
 mod Flags
 mod Stepping
 mod Progress

@@ -120,11 +120,11 @@ longer log e = let more = length-append log (e ∷ []) in grind (arith, nat_test
 commit_told : (log : List LogEntry) (s : Session) (line : Result Request Fault) (o : Outcome) → Shape log s line o
     → (nat_lt (length log) (length (log ++ option_to_list o.added)) && (in_txn s.txn || is_count o.reply)) ≡ is_commit o.added
 commit_told log s line _ (stayed r) = ap (λ b. b && (in_txn s.txn || is_count r)) (no_longer log)
-commit_told log s line _ (greeted_as n) = ap (λ b. b && (in_txn s.txn || false)) (no_longer log)
-commit_told log s line _ (relabelled_to asker r label e h) = ap (λ b. b && (in_txn s.txn || false)) (no_longer log)
+commit_told log s line _ (greeted_as n g lt) = ap (λ b. b && (in_txn s.txn || false)) (no_longer log)
+commit_told log s line _ (relabelled_to asker r label p e h) = ap (λ b. b && (in_txn s.txn || false)) (no_longer log)
 commit_told log s line _ (begun t) = ap (λ b. b && (in_txn s.txn || false)) (no_longer log)
 commit_told log s line _ (ended is_open r why) = ap (λ b. b && (in_txn s.txn || is_count r)) (no_longer log)
-commit_told log s line _ (published asker r c t e b f) = ap (λ b. b && (in_txn s.txn || false)) (longer log (changes c)) ∙ ap (λ (x : Option Txn). in_txn x || false) t
+commit_told log s line _ (published asker r c line_is t e b f) = ap (λ b. b && (in_txn s.txn || false)) (longer log (changes c)) ∙ ap (λ (x : Option Txn). in_txn x || false) t
 commit_told log s line _ (joined asker r b x w i t e) = ap (λ b. b && (in_txn s.txn || true)) (no_longer log)
 commit_told log s line _ (wrote asker r b w i t e f) = ap (λ b. b && (in_txn s.txn || true)) (longer log (commits w.writes)) ∙ ap (λ (x : Option Txn). in_txn x || true) t
 commit_told log s line _ (done x t j) = ap (λ b. b && (in_txn s.txn || false)) (longer log (commits x.own)) ∙ ap (λ (x : Option Txn). in_txn x || false) t

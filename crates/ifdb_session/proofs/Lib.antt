@@ -6,3 +6,4 @@ pub mod Hosting
 pub mod Counting
 pub mod Working
 pub mod Turned
+pub mod ClearedInside

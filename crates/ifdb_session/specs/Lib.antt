@@ -9,3 +9,4 @@ pub mod Links
 pub mod Talk
 pub mod Endings
 pub mod Hosts
+pub mod Cleared

@@ -1,6 +1,7 @@
 //! Sessions of connections: each connection is a session of one room, which all share by turns.
 #![tactic(auto)]
 
+mod cleared;
 mod counts;
 mod ending;
 mod host;
@@ -9,6 +10,7 @@ mod seat;
 mod shared;
 mod turns;
 
+pub use cleared::cleared_stay_inside;
 pub use counts::Counts;
 pub use ending::Ending;
 pub use host::SessionHost;

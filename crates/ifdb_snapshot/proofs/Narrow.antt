@@ -20,7 +20,7 @@ pub bound_narrow : (p : Public) (asker : ℕ) (r : Request) (x : Bound) → is_n
 unfolding bound
 bound_narrow p asker (q.Select s) x h e = accepted is_narrow_bound _ _ x e (λ k. as_many p s h)
 bound_narrow p asker (q.CreateView name s tags) x h e = accepted is_narrow_bound _ _ x e (λ k. as_many p s h)
-bound_narrow p asker (q.CreatePrincipal name key) x h e = accepted is_narrow_bound _ _ x e (λ k. refl)
+bound_narrow p asker (q.CreatePrincipal name key clearance) x h e = accepted is_narrow_bound _ _ x e (λ k. refl)
 bound_narrow p asker (q.CreateTag name compound parents) x h e = accepted is_narrow_bound _ _ x e (λ k. refl)
 bound_narrow p asker (q.CreateTable name columns key foreign) x h e = accepted is_narrow_bound _ _ x e (λ k. refl)
 bound_narrow p asker (q.Grant tag to) x h e = accepted is_narrow_bound _ _ x e (λ k. refl)

@@ -23,7 +23,7 @@ longer : {X : Type 0} (xs : List X) (x : X) → length xs ≤ length (xs ++ x �
 longer xs x = grind (arith, common_steps)
 
 pub tags_grow : (p : Public) (c : Change) → length p.tags ≤ length (changed p c).tags
-tags_grow p (change.Principal asker name key) = omega arith
+tags_grow p (change.Principal asker name key clearance) = omega arith
 tags_grow p (change.Tag asker name kind parents) = longer p.tags _
 tags_grow p (change.Table asker schema) = omega arith
 tags_grow p (change.View view) = omega arith
@@ -51,7 +51,7 @@ new_view_made p v h k = let made = view_is_made p v h in grind (arith, nat_tests
 
 views_changed : (p : Public) (c : Change) → change_fits p c ≡ true → is_narrow_change c ≡ true → are_views_made (length p.tags) p.views ≡ true
     → are_views_made (length (changed p c).tags) (changed p c).views ≡ true
-views_changed p (change.Principal asker name key) f n h = h
+views_changed p (change.Principal asker name key clearance) f n h = h
 views_changed p (change.Tag asker name kind parents) f n h = views_made_more (length p.tags) (length (changed p (change.Tag asker name kind parents)).tags) p.views (tags_grow p (change.Tag asker name kind parents)) h
 views_changed p (change.Table asker schema) f n h = h
 views_changed p (change.View v) f n h = all_push (is_view_made (length p.tags)) p.views v (new_view_made p v f n) h
@@ -59,7 +59,7 @@ views_changed p (change.Grant asker tag to) f n h = h
 views_changed p (change.Revoke asker tag from) f n h = h
 
 names_changed : (p : Public) (c : Change) → tag_names (changed p c) ≡ tag_names p ++ option_to_list (new_tag c)
-names_changed p (change.Principal asker name key) = sym (append-nil (tag_names p))
+names_changed p (change.Principal asker name key clearance) = sym (append-nil (tag_names p))
 names_changed p (change.Tag asker name kind parents) = map-append (λ (t : KnownTag). t.name) p.tags _
 names_changed p (change.Table asker schema) = sym (append-nil (tag_names p))
 names_changed p (change.View view) = sym (append-nil (tag_names p))

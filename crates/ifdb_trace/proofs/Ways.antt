@@ -120,6 +120,8 @@ fault_shows fault.NotCompound = refl
 fault_shows fault.NotATable = refl
 fault_shows fault.ViewAuthority = refl
 fault_shows fault.NoSession = refl
+fault_shows fault.OverClearance = refl
+fault_shows fault.ClosureLabel = refl
 
 reply_shows : (n : ℕ) (r : Reply) → shows_memory (first_text r ++ (10 ∷ more_text n r)) ≡ reads_memory r
 reply_shows n reply.Done = refl

@@ -2,7 +2,7 @@
 ghost use Rattle.std.specs.Prelude.{◌≡◌, ◌++◌, IfOk, OnOk, option_to_list};
 ghost use Rattle.std.specs.Option.{option_copied};
 ghost use Rattle.ifdb_bound.specs.Expressions.{value_at};
-ghost use Rattle.ifdb_catalog.specs.Statements.{are_given, values_at};
+ghost use Rattle.ifdb_catalog.specs.Statements.{values_at};
 ghost use Rattle.ifdb_model.specs.Writes.{binds, bound_parent, refs_behind};
 ghost use Rattle.ifdb_foreign.specs.Parents.{Binds, IsMade};
 ghost use Rattle.ifdb_txn.specs.Scenes.{parents_of, rebound_of, scene_of};
@@ -12,6 +12,7 @@ use crate::OutOfMemory;
 use crate::assigned::is_assigned;
 use crate::target::Target;
 use ifdb_bound::{BoundAssignment, Foreign};
+use ifdb_catalog::are_given;
 use ifdb_expr::value_in;
 use ifdb_foreign::bind_parent;
 use ifdb_row::{Refs, Row, Rows, Slot, Values};
@@ -88,18 +89,6 @@ fn binds(values: &[Value], foreign: &Foreign) -> bool
     ensures { result ≡ binds values.now foreign.now }
 {
     are_given(values, foreign.columns.items())
-}
-
-/// Whether none of the values at some places is NULL.
-pub(crate) fn are_given(values: &[Value], places: &[usize]) -> bool
-    ensures { result ≡ are_given (values_at values.now places.now) }
-{
-    for place in places {
-        if value_in(values, *place).is_null() {
-            return false;
-        }
-    }
-    true
 }
 
 /// One parent more, where there is one.

@@ -50,6 +50,8 @@ begins_with_number fault.NotCompound = refl
 begins_with_number fault.NotATable = refl
 begins_with_number fault.ViewAuthority = refl
 begins_with_number fault.NoSession = refl
+begins_with_number fault.OverClearance = refl
+begins_with_number fault.ClosureLabel = refl
 
 -- ---- replies
 

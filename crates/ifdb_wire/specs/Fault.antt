@@ -33,6 +33,8 @@ entry_of fault.NotCompound = (25, codes "NotCompound")
 entry_of fault.NotATable = (26, codes "NotATable")
 entry_of fault.ViewAuthority = (27, codes "ViewAuthority")
 entry_of fault.NoSession = (28, codes "NoSession")
+entry_of fault.OverClearance = (29, codes "OverClearance")
+entry_of fault.ClosureLabel = (30, codes "ClosureLabel")
 
 -- the number of a fault
 abbrev pub number_of : Fault → ℕ

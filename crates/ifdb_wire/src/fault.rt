@@ -65,10 +65,14 @@ pub enum Fault {
     ViewAuthority,
     /// A script's line is of a session that isn't open.
     NoSession,
+    /// A label doesn't flow to the session's ceiling.
+    OverClearance,
+    /// A closure's label doesn't flow to that of its caller.
+    ClosureLabel,
 }
 
 impl Fault {
-    /// The number of the fault in replies, from 1 to 28.
+    /// The number of the fault in replies, from 1 to 30.
     pub fn number(&self) -> u8
         ensures { result ≡ number_of self.now }
     {
@@ -117,6 +121,8 @@ impl Fault {
             Fault::NotATable => (26, "NotATable"),
             Fault::ViewAuthority => (27, "ViewAuthority"),
             Fault::NoSession => (28, "NoSession"),
+            Fault::OverClearance => (29, "OverClearance"),
+            Fault::ClosureLabel => (30, "ClosureLabel"),
         }
     }
 }

@@ -7,11 +7,11 @@ ghost use Rattle.ifdb_wire.specs.Refused.{RefusedFor};
 ghost use Rattle.ifdb_catalog.specs.Public.{changed, has_tags, refusal};
 ghost use Rattle.ifdb_catalog.specs.Fits.{change_fits, is_new};
 
-use super::Catalog;
+use super::{Catalog, Credentials};
 use crate::OutOfMemory;
 use ifdb_authority::GrantFault;
 use ifdb_bound::{Change, Schema, ViewDef};
-use ifdb_label::{Tag, TagKind};
+use ifdb_label::{Label, Tag, TagKind};
 use ifdb_value::{Name, Principal, Word};
 use ifdb_wire::Fault;
 
@@ -31,7 +31,12 @@ impl Catalog {
         ensures err { OnErr result (self.new ≡ self.old) }
     {
         match change {
-            Change::Principal { asker, name, key } => Ok(self.add_principal(asker, name, key)?),
+            Change::Principal {
+                asker,
+                name,
+                key,
+                clearance,
+            } => Ok(self.add_principal(asker, name, key, clearance)?),
             Change::Tag {
                 asker,
                 name,
@@ -46,13 +51,20 @@ impl Catalog {
     }
 
     /// The next principal.
-    fn add_principal(&mut self, _asker: Principal, name: Name, key: Word) -> Result<(), OutOfMemory>
-        requires { IsTrue (is_new self.old (change.Principal _asker name key)) }
+    fn add_principal(
+        &mut self,
+        _asker: Principal,
+        name: Name,
+        key: Word,
+        clearance: Option<Label>,
+    ) -> Result<(), OutOfMemory>
+        requires { IsTrue (is_new self.old (change.Principal _asker name key clearance)) }
         ensures done { OnOk result
-            (self.new ≡ changed self.old (change.Principal _asker name key)) }
+            (self.new ≡ changed self.old (change.Principal _asker name key clearance)) }
         ensures err { OnErr result (self.new ≡ self.old) }
     {
-        self.principals.insert(name, key)?;
+        let credentials = Credentials { key, clearance };
+        self.principals.insert(name, credentials)?;
         Ok(())
     }
 

@@ -53,7 +53,7 @@ impl Db {
         let Some(txn) = &mut session.txn else {
             return self.answer_outside(session, asker, request);
         };
-        match txn.ask(asker, &mut session.label, request)? {
+        match txn.ask(asker, session.ceiling.as_ref(), &mut session.label, request)? {
             Told::Replies(reply) => Ok(reply),
             Told::Commits => self.commit(session),
             Told::RollsBack => self.roll_back(session),

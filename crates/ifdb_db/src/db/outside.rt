@@ -34,8 +34,8 @@ impl Db {
         }
     }
 
-    /// HELLO of a session that didn't say it yet.
-    #[tactic(auto, using(crate::proofs::Answering::greets_so, crate::proofs::Answering::not_greeted))]
+    /// HELLO of a session that didn't say it yet, which takes the principal's clearance as its ceiling.
+    #[tactic(auto, using(crate::proofs::Answering::greets_so, crate::proofs::Answering::not_greeted, crate::proofs::Answering::not_welcomed))]
     fn greet(&mut self, session: &mut Session, name: &Name, key: &Word) -> Result<Reply, Fault>
         requires kept { IsKept self.old.seen.public session.old }
         ensures answered { IsAnswered
@@ -45,8 +45,11 @@ impl Db {
         ensures still { IsStill session.old session.new self.old self.new result }
     {
         self.is_settled();
-        let principal = self.seen().greeted(name, key)?;
+        let seen = self.seen();
+        let principal = seen.greeted(name, key)?;
+        let ceiling = seen.clearance(principal)?;
         session.principal = Some(principal);
+        session.ceiling = ceiling;
         Ok(Reply::Done)
     }
 
@@ -109,7 +112,13 @@ impl Db {
         ensures still { IsStill session.old session.new self.old self.new result }
     {
         self.is_sound();
-        set_label(&self.seen(), asker, &mut session.label, request)
+        set_label(
+            &self.seen(),
+            asker,
+            session.ceiling.as_ref(),
+            &mut session.label,
+            request,
+        )
     }
 
     /// SHOW LABEL outside a transaction.
@@ -129,7 +138,7 @@ impl Db {
     }
 
     /// SELECT outside a transaction.
-    #[tactic(auto, using(crate::proofs::Answering::said_so, crate::proofs::Answering::said_is_still, crate::proofs::Keeping::made_now, crate::proofs::Keeping::kept_outside))]
+    #[tactic(auto, using(crate::proofs::Answering::alike_so, crate::proofs::Answering::alike_is_still, crate::proofs::Keeping::made_now, crate::proofs::Keeping::kept_outside))]
     fn select(
         &mut self,
         session: &mut Session,

@@ -1,10 +1,11 @@
 // Requests in a transaction, answered from the transaction and the session alone.
-ghost use Rattle.std.specs.Prelude.{◌≡◌, ℕ, IfOk, IsTrue, length};
+ghost use Rattle.std.specs.Prelude.{◌≡◌, ℕ, IfOk, IsTrue, List, Option, length, option_copied};
 ghost use Rattle.ifdb_label.specs.Tags.{AreMade};
 ghost use Rattle.ifdb_syntax.specs.declared.request.Request.{Request as AnyRequest};
 ghost use Rattle.ifdb_model.specs.Step.{form_of, looks, relabels, shows_label, writes};
 ghost use Rattle.ifdb_snapshot.specs.Narrow.{is_narrow};
 ghost use Rattle.ifdb_snapshot.specs.Writing.{are_fit};
+ghost use Rattle.ifdb_db.specs.Client.{standing};
 ghost use Rattle.ifdb_db.specs.Inside.{Finds, IsTold};
 
 use super::Txn;
@@ -17,7 +18,7 @@ use ifdb_value::Principal;
 use ifdb_wire::{Fault, Reply};
 
 impl Txn {
-    /// Answers a request of a principal at a label, all but those that end the transaction.
+    /// Answers a request of a principal at a label, under its ceiling if it has one, all but those that end the transaction.
     ///
     /// No database is among the arguments: what others do meanwhile can't matter. An error is a refusal or want of memory, and changes
     /// nothing.
@@ -25,12 +26,14 @@ impl Txn {
     pub fn ask(
         &mut self,
         asker: Principal,
+        ceiling: Option<&Label>,
         label: &mut Label,
         request: Request,
     ) -> Result<Told, Fault>
         requires narrow { IsTrue (is_narrow request) }
         requires made { AreMade (length self.old.base.public.tags) label.old }
-        ensures told { IsTold asker label.old label.new self.old self.new request result }
+        ensures told { IsTold (standing asker (option_copied ceiling.entry) label.old) label.new
+            self.old self.new request result }
         ensures made { AreMade (length self.new.base.public.tags) label.new }
     {
         match &request {
@@ -42,7 +45,7 @@ impl Txn {
             Request::Grant { .. } => Err(Fault::InTransaction),
             Request::Revoke { .. } => Err(Fault::InTransaction),
             Request::Begin => Err(Fault::InTransaction),
-            Request::SetLabel { .. } => self.set_label(asker, label, request),
+            Request::SetLabel { .. } => self.set_label(asker, ceiling, label, request),
             Request::ShowLabel => self.show_label(label),
             Request::Select(_) => self.select(asker, label, request),
             Request::Insert { .. } => self.change_rows(asker, label, request),
@@ -59,24 +62,26 @@ impl Txn {
     fn set_label(
         &self,
         asker: Principal,
+        ceiling: Option<&Label>,
         label: &mut Label,
         request: Request,
     ) -> Result<Told, Fault>
         requires form { form_of request ≡ relabels }
         requires narrow { IsTrue (is_narrow request) }
         requires made { AreMade (length self.now.base.public.tags) label.old }
-        ensures told { IsTold asker label.old label.new self.now self.now request result }
+        ensures told { IsTold (standing asker (option_copied ceiling.entry) label.old) label.new
+            self.now self.now request result }
         ensures made { AreMade (length self.now.base.public.tags) label.new }
     {
-        let reply = set_label(&self.seen(), asker, label, request)?;
+        let reply = set_label(&self.seen(), asker, ceiling, label, request)?;
         Ok(Told::Replies(reply))
     }
 
-    /// SHOW LABEL, whoever asks.
+    /// SHOW LABEL, whoever asks and whatever the ceiling is.
     #[tactic(auto, using(crate::proofs::Inside::replied, crate::proofs::Inside::denied))]
     fn show_label(&self, label: &Label) -> Result<Told, Fault>
-        ensures { (asker : ℕ) (r : AnyRequest) → form_of r ≡ shows_label
-            → IsTold asker label.now label.now self.now self.now r result }
+        ensures { (asker : ℕ) (c : Option (List ℕ)) (r : AnyRequest) → form_of r ≡ shows_label
+            → IsTold (standing asker c label.now) label.now self.now self.now r result }
     {
         let reply = show_label(&self.seen(), label)?;
         Ok(Told::Replies(reply))
@@ -88,7 +93,8 @@ impl Txn {
         requires form { form_of request ≡ looks }
         requires narrow { IsTrue (is_narrow request) }
         requires made { AreMade (length self.now.base.public.tags) label.now }
-        ensures told { IsTold asker label.now label.now self.now self.now request result }
+        ensures { (c : Option (List ℕ)) → IsTold (standing asker c label.now) label.now
+            self.now self.now request result }
     {
         let reply = select(&self.seen(), asker, label, request)?;
         Ok(Told::Replies(reply))
@@ -105,7 +111,8 @@ impl Txn {
         requires form { form_of request ≡ writes }
         requires narrow { IsTrue (is_narrow request) }
         requires made { AreMade (length self.old.base.public.tags) label.now }
-        ensures told { IsTold asker label.now label.now self.old self.new request result }
+        ensures { (c : Option (List ℕ)) → IsTold (standing asker c label.now) label.now
+            self.old self.new request result }
     {
         let written = self.written(asker, label, request)?;
         let count = written.count();

@@ -58,7 +58,7 @@ more_labels tables n m t r le h =
     grind (arith, nat_tests)
 
 pub fits_changed : (p : Public) (c : Change) (r : Row) → row_fits p r ≡ true → row_fits (changed p c) r ≡ true
-fits_changed p (change.Principal asker name key) r h = h
+fits_changed p (change.Principal asker name key clearance) r h = h
 fits_changed p (change.Tag asker name kind parents) r h =
     more_labels (length p.tables) (length (tags_of p)) (length (tags_of (changed p (change.Tag asker name kind parents)))) (table_at p r.slot.table) r
     (simp (map-append, length-append) (omega arith)) h
@@ -175,8 +175,8 @@ module _ (log : List Entry) (s : Session) (line : Result Request Fault) (k : Fit
   -- the session beside the log of before
   session_fits : (o : Outcome) → Shape log s line o → outcome_all (write_fits (seen log s).public) o ≡ true → FitSession log o.session
   session_fits o (stayed r) h = k
-  session_fits o (greeted_as n) h = k
-  session_fits o (relabelled_to asker r label e i) h = record { own = k.own; made = made_by_binding.label_made (seen log s).public asker r label e }
+  session_fits o (greeted_as n g lt) h = k
+  session_fits o (relabelled_to asker r label v e i) h = record { own = k.own; made = made_by_binding.label_made (seen log s).public asker r label e }
   session_fits o (begun t) h = record {
     own = refl;
     made =
@@ -184,7 +184,7 @@ module _ (log : List Entry) (s : Session) (line : Result Request Fault) (k : Fit
         ap (λ l. are_made (length (all_tags l)) s.label) all ∙ (ap (λ u. are_made (length (tags_of (seen_in log u).public)) s.label) (sym t) ∙ k.made);
   }
   session_fits o (ended b r why) h = record { own = refl; made = label_later s.label k.made }
-  session_fits o (published asker r c t i e p) h = k
+  session_fits o (published asker r c line_is t i e p) h = k
   session_fits o (joined asker r b x w i t e) h = record {
     own = ap (λ u. are_fit (seen_in log u).public (Rattle.ifdb_row.specs.Writes.merged x.own w.writes)) (sym t) ∙ own_part o h;
     made = ap (λ u. are_made (length (tags_of (seen_in log u).public)) s.label) (sym t) ∙ k.made;

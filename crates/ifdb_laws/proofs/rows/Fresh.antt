@@ -107,11 +107,11 @@ module _ (log : List Entry) (s : Session) (line : Result Request Fault) (k : Fro
 
   pub outcome_fresh : (o : Outcome) → Shape log s line o → (txn_fresh log o.session.txn ≡ true) × (adds_fresh log o.added ≡ true)
   outcome_fresh o (stayed r) = (h, refl)
-  outcome_fresh o (greeted_as n) = (h, refl)
-  outcome_fresh o (relabelled_to asker r label x y) = (h, refl)
+  outcome_fresh o (greeted_as n g lt) = (h, refl)
+  outcome_fresh o (relabelled_to asker r label v x y) = (h, refl)
   outcome_fresh o (begun t) = (refl, refl)
   outcome_fresh o (ended b r why) = (refl, refl)
-  outcome_fresh o (published asker r c t i p z) = (h, refl)
+  outcome_fresh o (published asker r c line_is t i p z) = (h, refl)
   outcome_fresh o (joined asker r b x w a t e) = (
     merged_fresh (all_tags (take x.begin log)) (content_of (take x.begin log)) x.own w.writes (ap (txn_all are_fitting) (sym t) ∙ f) (ap (txn_fresh log) (sym t) ∙ h) (seen_fresh (Some x) asker b w t e),
     refl,

@@ -38,11 +38,11 @@ written_fits log s asker b w e =
 -- own writes have their slots
 pub own_fits : (log : List Entry) (s : Session) (line : Result Request Fault) (o : Outcome) → Shape log s line o → txn_all are_fitting s.txn ≡ true → txn_all are_fitting o.session.txn ≡ true
 own_fits log s line o (stayed r) h = h
-own_fits log s line o (greeted_as n) h = h
-own_fits log s line o (relabelled_to asker r label x y) h = h
+own_fits log s line o (greeted_as n g lt) h = h
+own_fits log s line o (relabelled_to asker r label v x y) h = h
 own_fits log s line o (begun t) h = refl
 own_fits log s line o (ended b r why) h = refl
-own_fits log s line o (published asker r c t i p z) h = h
+own_fits log s line o (published asker r c line_is t i p z) h = h
 own_fits log s line o (joined asker r b x w a t e) h =
     merged_all (λ (v : Write). is_fitting v.slot v.row) x.own w.writes (ap (txn_all are_fitting) (sym t) ∙ h) (written_fits log s asker b w e)
 own_fits log s line o (wrote asker r b w a t e d) h = h
@@ -51,11 +51,11 @@ own_fits log s line o (done x t j) h = refl
 -- and so has what is committed
 pub added_fits : (log : List Entry) (s : Session) (line : Result Request Fault) (o : Outcome) → Shape log s line o → txn_all are_fitting s.txn ≡ true → all_commits are_fitting (option_to_list o.added) ≡ true
 added_fits log s line o (stayed r) h = refl
-added_fits log s line o (greeted_as n) h = refl
-added_fits log s line o (relabelled_to asker r label x y) h = refl
+added_fits log s line o (greeted_as n g lt) h = refl
+added_fits log s line o (relabelled_to asker r label v x y) h = refl
 added_fits log s line o (begun t) h = refl
 added_fits log s line o (ended b r why) h = refl
-added_fits log s line o (published asker r c t i p z) h = refl
+added_fits log s line o (published asker r c line_is t i p z) h = refl
 added_fits log s line o (joined asker r b x w a t e) h = refl
 added_fits log s line o (wrote asker r b w a t e d) h = let one = written_fits log s asker b w e in grind (arith, nat_tests)
 added_fits log s line o (done x t j) h = let one = ap (txn_all are_fitting) (sym t) ∙ h in grind (arith, nat_tests)
@@ -75,11 +75,11 @@ written_rooted rows d w o e k f l = let h = ap (keeps rows d) (sym e) ∙ k in g
 
 added_rooted : (log : List Entry) (s : Session) (line : Result Request Fault) (o : Outcome) → Shape log s line o → txn_all are_fitting s.txn ≡ true → all_rooted (content_of log) ≡ true → adds_rooted (content_of log) o.added ≡ true
 added_rooted log s line o (stayed r) f h = refl
-added_rooted log s line o (greeted_as n) f h = refl
-added_rooted log s line o (relabelled_to asker r label x y) f h = refl
+added_rooted log s line o (greeted_as n g lt) f h = refl
+added_rooted log s line o (relabelled_to asker r label v x y) f h = refl
 added_rooted log s line o (begun t) f h = refl
 added_rooted log s line o (ended b r why) f h = refl
-added_rooted log s line o (published asker r c t i p z) f h = refl
+added_rooted log s line o (published asker r c line_is t i p z) f h = refl
 added_rooted log s line o (joined asker r b x w a t e) f h = refl
 added_rooted log s line o (wrote asker r b w a t e d) f h =
     let whole : (seen log s).rows ≡ content_of log = ap (λ (u : Option Txn). (seen_in log u).rows) t in

@@ -78,11 +78,11 @@ module _ (q : Write → Bool) (log : List Entry) (s : Session) (line : Result Re
 
   pub outcome_writes : (o : Outcome) → Shape log s line o → outcome_all q o ≡ true
   outcome_writes o (stayed r) = grind (arith, nat_tests)
-  outcome_writes o (greeted_as n) = grind (arith, nat_tests)
-  outcome_writes o (relabelled_to asker r label e h) = grind (arith, nat_tests)
+  outcome_writes o (greeted_as n g lt) = grind (arith, nat_tests)
+  outcome_writes o (relabelled_to asker r label v e h) = grind (arith, nat_tests)
   outcome_writes o (begun t) = refl
   outcome_writes o (ended b r why) = refl
-  outcome_writes o (published asker r c t i e p) = grind (arith, nat_tests)
+  outcome_writes o (published asker r c line_is t i e p) = grind (arith, nat_tests)
   outcome_writes o (joined asker r b x w i t e) =
       let all = merged_all q x.own w.writes (own_writes x t) (new_writes asker r b w i e) in grind (arith, nat_tests)
   outcome_writes o (wrote asker r b w i t e d) = let all = new_writes asker r b w i e in grind (arith, nat_tests)
@@ -97,7 +97,7 @@ is_made_change n _ = true
 
 change_made : (p : Public) (asker : ℕ) (r : Request) (c : Change) → bound_request p asker r ≡ Ok (bound.Change c) → is_made_change (length (tags_of p)) c ≡ true
 change_made p asker r (change.Tag maker name kind parents) e = parents_made p asker r maker name kind parents e
-change_made p asker r (change.Principal maker name key) e = refl
+change_made p asker r (change.Principal maker name key clearance) e = refl
 change_made p asker r (change.Table maker schema) e = refl
 change_made p asker r (change.View view) e = refl
 change_made p asker r (change.Grant maker tag to) e = refl
@@ -134,8 +134,8 @@ module _ (log : List Entry) (s : Session) (line : Result Request Fault) (begins 
     (made : are_made (tag_count log) s.label ≡ true) where
   pub outcome_tidy : (o : Outcome) → Shape log s line o → IsTidy (length log) (tag_count log) o
   outcome_tidy o (stayed r) = record { begins = begins; free = refl; entry_made = refl; label_made = made }
-  outcome_tidy o (greeted_as n) = record { begins = begins; free = refl; entry_made = refl; label_made = made }
-  outcome_tidy o (relabelled_to asker r label e h) = record {
+  outcome_tidy o (greeted_as n g lt) = record { begins = begins; free = refl; entry_made = refl; label_made = made }
+  outcome_tidy o (relabelled_to asker r label v e h) = record {
     begins = begins;
     free = refl;
     entry_made = refl;
@@ -145,7 +145,7 @@ module _ (log : List Entry) (s : Session) (line : Result Request Fault) (begins 
   }
   outcome_tidy o (begun t) = record { begins = grind (arith, nat_tests); free = refl; entry_made = refl; label_made = made }
   outcome_tidy o (ended b r why) = record { begins = refl; free = refl; entry_made = refl; label_made = made }
-  outcome_tidy o (published asker r c t i e p) = record {
+  outcome_tidy o (published asker r c line_is t i e p) = record {
     begins = begins;
     free = ap (λ x. not (in_txn x)) t;
     entry_made = ap (λ x. is_made_change (length (tags_of (seen_in log x).public)) c) (sym t) ∙ change_made (seen log s).public asker r c e;
@@ -178,11 +178,11 @@ module _ (level : List ℕ) (log : List Entry) (s : Session) (line : Result Requ
 
   pub outcome_hidden : (o : Outcome) → Shape log s line o → is_hidden (side_by log level) o.added ≡ true
   outcome_hidden o (stayed r) = refl
-  outcome_hidden o (greeted_as n) = refl
-  outcome_hidden o (relabelled_to asker r label e h) = refl
+  outcome_hidden o (greeted_as n g lt) = refl
+  outcome_hidden o (relabelled_to asker r label v e h) = refl
   outcome_hidden o (begun t) = refl
   outcome_hidden o (ended b r why) = refl
-  outcome_hidden o (published asker r c t i e p) = absurd (false≢true (sym out ∙ empty_inside s.label i))
+  outcome_hidden o (published asker r c line_is t i e p) = absurd (false≢true (sym out ∙ empty_inside s.label i))
   outcome_hidden o (joined asker r b x w i t e) = refl
   outcome_hidden o (wrote asker r b w i t e d) = ap (written_all (λ (v : Write). not (side_by log level v.slot))) (sym e) ∙ new asker r b i
   outcome_hidden o (done x t j) = above_outside x.own (go_is_above (all_tags log) (content_of log) (written_of (drop x.begin log)) x.own s.label j)

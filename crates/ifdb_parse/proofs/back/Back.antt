@@ -75,7 +75,7 @@ request_within (q.Update table assignments cond tags) h =
 request_within (q.Insert table columns rows tags) h = refl
 request_within (q.Delete table cond) h = refl
 request_within (q.Hello name key) h = refl
-request_within (q.CreatePrincipal name key) h = refl
+request_within (q.CreatePrincipal name key clearance) h = refl
 request_within (q.CreateTag name compound parents) h = refl
 request_within (q.CreateTable name columns key foreign) h = refl
 request_within (q.Grant tag to) h = refl
@@ -153,7 +153,15 @@ faultless line tokens e =
 
 -- ---- the way back
 
-read_back : (s : Lexemes) → AllSound s → Shallow 0 s → nots s ≤ 64 →
+-- the canonical lexemes of what a line spells are sound
+pub tokens_sound : (line : List ℕ) (r : Request) → IsSpelled line r → AllSound (request_tokens r)
+tokens_sound line r h =
+    let u = lexemes_of (without_return line) h.tokens in
+    let limits = neither (has_lone before.Other u) (exceeds_request r) h.within in
+    (line_ends u r h.spelled (request_within r limits.1)).sound (faultless line h.tokens h.read).sound
+
+-- sound lexemes within the limits that count them are read back from their text
+pub read_back : (s : Lexemes) → AllSound s → Shallow 0 s → nots s ≤ 64 →
     (tokens : List Token) × (lexed (spaced s) ≡ Ok tokens) × (lexemes_of (without_return (spaced s)) tokens ≡ s)
 read_back s sound low few =
     let text = spaced s in

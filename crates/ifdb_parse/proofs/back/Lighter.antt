@@ -63,7 +63,7 @@ sound_back : (u x : Lexemes) → AllSound (u ++ x) → AllSound x
 sound_back [] x h = h
 sound_back (y ∷ u) x h = sound_back u x h.1
 
-sound_append : (u x : Lexemes) → AllSound u → AllSound x → AllSound (u ++ x)
+pub sound_append : (u x : Lexemes) → AllSound u → AllSound x → AllSound (u ++ x)
 sound_append [] x h k = k
 sound_append (y ∷ u) x h k = (h.0, sound_append u x h.1 k)
 

@@ -1,5 +1,5 @@
 -- Requests, and lines, are written lightly.
-use Rattle.std.proofs.Common.{◌≡◌, ℕ, true, false, List, [], ◌∷◌, ◌++◌, refl, sym, ap, subst, ◌∙◌, append-nil, append_assoc, inl, inr, arith}
+use Rattle.std.proofs.Common.{◌≡◌, ℕ, true, false, List, [], ◌∷◌, ◌++◌, refl, sym, ap, subst, ◌∙◌, append-nil, append_assoc, inl, inr, arith, Some, None}
 use Rattle.std.specs.Prelude.{◌⊎◌, nat_lt}
 use Rattle.ifdb_value.specs.declared.value.Value.{Value}
 use Rattle.ifdb_value.specs.declared.value.ValueKind.TheVariants as of
@@ -10,7 +10,7 @@ use Rattle.ifdb_syntax.specs.declared.request.Request.{Request}
 use Rattle.ifdb_syntax.specs.declared.request.Request.TheVariants as q
 use Rattle.ifdb_syntax.specs.declared.request.ForeignKey.{ForeignKey}
 use Rattle.ifdb_syntax.specs.declared.request.Assignment.{Assignment}
-use Rattle.ifdb_syntax.specs.Words.{Lexemes, kind, NAME, AS, BEGIN, BYE, COMMIT, COMPOUND, CREATE, DECLASSIFYING, DELETE, FOREIGN, FROM, GRANT, HELLO, IN, INSERT, INT, INTEGER, INTO, KEY, LABEL, PRIMARY, PRINCIPAL, REFERENCES, REVOKE, ROLLBACK, SET, SHOW, TABLE, TAG, TEXT, TO, UPDATE, VALUES, VIEW, WITH, COMMA, EQUAL, SEMICOLON}
+use Rattle.ifdb_syntax.specs.Words.{Lexemes, kind, NAME, AS, BEGIN, BYE, CLEARANCE, COMMIT, COMPOUND, CREATE, DECLASSIFYING, DELETE, FOREIGN, FROM, GRANT, HELLO, IN, INSERT, INT, INTEGER, INTO, KEY, LABEL, PRIMARY, PRINCIPAL, REFERENCES, REVOKE, ROLLBACK, SET, SHOW, TABLE, TAG, TEXT, TO, UPDATE, VALUES, VIEW, WITH, COMMA, EQUAL, SEMICOLON}
 use Rattle.ifdb_syntax.specs.Lang.{Lang, Then, nothing, token, name, parens, names, optional_list}
 use Rattle.ifdb_syntax.specs.Reading.{bounded}
 use Rattle.ifdb_syntax.specs.Within.{assignment_short, select_short, request_short}
@@ -18,14 +18,14 @@ use Rattle.ifdb_syntax.specs.Shapes.{some_member}
 use Rattle.ifdb_syntax.specs.Requests as rule
 use Rattle.ifdb_syntax.specs.canonical.Tokens as canon
 use Rattle.ifdb_syntax.specs.canonical.Queries.{condition_tokens, select_tokens}
-use Rattle.ifdb_syntax.specs.canonical.Requests.{kind_token, column_tokens, foreign_tokens, table_tokens, row_tokens, columns_tokens, assignment_tokens, request_tokens}
+use Rattle.ifdb_syntax.specs.canonical.Requests.{clearance_tokens, kind_token, column_tokens, foreign_tokens, table_tokens, row_tokens, columns_tokens, assignment_tokens, request_tokens}
 use Rattle.ifdb_syntax.proofs.Makes.{parens_makes, some_append}
 use Rattle.ifdb_parse.specs.declared.limits.Before.{Before}
 use Rattle.ifdb_parse.specs.declared.limits.Before.TheVariants as before
 use Rattle.ifdb_parse.specs.TreeLimits.{behind, is_lone, has_lone}
 use Rattle.ifdb_parse.proofs.Readable.{neither}
 use Rattle.ifdb_parse.proofs.back.Lighter.{Flat, Lighter, LighterEnd, Shallow, level, nots-append, sound_front, one_lighter, nil_lighter, parens_lighter, end_of}
-use Rattle.ifdb_parse.proofs.back.Prints.{Prints, Behind, ending, any, operand, other, whole, tested, part, end, done, word, token_is, name_prints, text_prints, names_print, names_make, names_behind_prints, along, along_text, either, either_behind, parens_prints, behind_more, listing, free_listing, optional_prints, Grows, rounds_then, close_last, opened, inside}
+use Rattle.ifdb_parse.proofs.back.Prints.{Prints, Behind, ending, any, operand, other, whole, tested, part, end, done, last, word, token_is, name_prints, text_prints, names_print, names_make, names_behind_prints, along, along_text, either, either_behind, parens_prints, behind_more, listing, free_listing, optional_prints, Grows, rounds_then, close_last, opened, inside}
 use Rattle.ifdb_parse.proofs.back.Exprs.{literal_prints, expr_prints}
 use Rattle.ifdb_parse.proofs.back.Conds.{condition_prints}
 use Rattle.ifdb_parse.proofs.back.Queries.{plain_prints, select_end}
@@ -74,10 +74,19 @@ word_prints x k r is_k low flat to form = whole (word x k _ is_k low flat (done 
 
 -- ---- CREATE
 
+clearance_prints : Prints before.Operand operand rule.clearance any clearance_tokens
+clearance_prints =
+    either
+    (whole (part {g = λ tags. t.Clearance ∷ canon.enclosed (canon.names_tokens tags)} _
+    (whole (word t.Clearance CLEARANCE _ refl refl (λ k. refl) (last enclosed_names (λ a e. tt) (λ a. refl))))
+    (λ tags. done (Some tags) refl refl)))
+    (whole (done None refl refl))
+
 principal_prints : Behind before.Other before.Other (ending before.Other operand) rule.principal request_short request_tokens (Unit {0}) (t.Create ∷ [])
 principal_prints =
     word t.Principal PRINCIPAL _ refl refl (λ k. refl) (part _ (name_prints before.Other) (λ n.
-    word t.Key KEY _ refl refl (λ k. refl) (part _ (text_prints before.Other) (λ key. done (q.CreatePrincipal n key) refl refl))))
+    word t.Key KEY _ refl refl (λ k. refl) (part _ (text_prints before.Other) (λ key.
+    part _ clearance_prints (λ tags. done (q.CreatePrincipal n key tags) refl refl)))))
 
 plain_tag_prints : Behind before.Other before.Other (ending before.Other operand) (rule.tag false) request_short request_tokens (Unit {0}) (t.Create ∷ [])
 plain_tag_prints =

@@ -1,12 +1,12 @@
 -- Requests, and the line of one, are read by their parsers.
-use Rattle.std.proofs.Common.{◌≡◌, ℕ, Bool, true, false, List, [], ◌∷◌, ◌++◌, Some, refl}
+use Rattle.std.proofs.Common.{◌≡◌, ℕ, Bool, true, false, List, [], ◌∷◌, ◌++◌, Some, None, refl}
 use Rattle.ifdb_value.specs.declared.column.Column.{Column}
 use Rattle.ifdb_syntax.specs.declared.lexeme.Lexeme.{Lexeme}
 use Rattle.ifdb_syntax.specs.declared.lexeme.Lexeme.TheVariants as t
 use Rattle.ifdb_syntax.specs.declared.request.Request.{Request}
 use Rattle.ifdb_syntax.specs.declared.request.Request.TheVariants as q
 use Rattle.ifdb_syntax.specs.declared.request.ForeignKey.{ForeignKey}
-use Rattle.ifdb_syntax.specs.Words.{is, AS, BEGIN, BYE, COMMIT, COMPOUND, CREATE, DECLASSIFYING, DELETE, FOREIGN, FROM, GRANT, HELLO, IN, INSERT, INT, INTEGER, INTO, KEY, LABEL, PRIMARY, PRINCIPAL, REFERENCES, REVOKE, ROLLBACK, SELECT, SET, SHOW, TABLE, TAG, TEXT, TO, UPDATE, VALUES, VIEW, WITH, OPEN, CLOSE, COMMA, EQUAL, SEMICOLON, NAME}
+use Rattle.ifdb_syntax.specs.Words.{is, AS, BEGIN, BYE, CLEARANCE, COMMIT, COMPOUND, CREATE, DECLASSIFYING, DELETE, FOREIGN, FROM, GRANT, HELLO, IN, INSERT, INT, INTEGER, INTO, KEY, LABEL, PRIMARY, PRINCIPAL, REFERENCES, REVOKE, ROLLBACK, SELECT, SET, SHOW, TABLE, TAG, TEXT, TO, UPDATE, VALUES, VIEW, WITH, OPEN, CLOSE, COMMA, EQUAL, SEMICOLON, NAME}
 use Rattle.ifdb_syntax.specs.Lang as lang
 use Rattle.ifdb_syntax.specs.Lang.{◌or◌}
 use Rattle.ifdb_syntax.specs.Reading.{bounded}
@@ -14,6 +14,7 @@ use Rattle.ifdb_syntax.specs.Requests as g
 use Rattle.ifdb_parse.specs.theory.Kinds.{Kinds}
 use Rattle.ifdb_parse.specs.theory.Reads.{Reads}
 use Rattle.ifdb_parse.specs.rules.Requests as p
+use Rattle.ifdb_parse.specs.rules.Shared as lib
 use Rattle.ifdb_parse.proofs.theory.Combine.{nothing_reads, then_reads, branch_reads, widen}
 use Rattle.ifdb_parse.proofs.theory.Repeat.{repeat_reads}
 use Rattle.ifdb_parse.proofs.rules.Shared.{token_reads, name_reads, text_reads, parens_reads, parens_list_reads, commas_reads, names_reads}
@@ -37,11 +38,22 @@ hello_reads =
 
 -- ---- behind CREATE
 
-pub principal_reads : Reads g.principal p.principal (PRINCIPAL ∷ []) false []
+-- names in parentheses, or none
+some_names_reads : Reads (lang.parens (lang.optional_list lang.names)) (lib.parens p.some_names) (OPEN ∷ []) false []
+unfolding p.some_names
+some_names_reads = parens_list_reads (branch_reads names_reads (nothing_reads []) refl) refl refl
+
+pub clearance_reads : Reads g.clearance p.clearance (CLEARANCE ∷ []) true (CLEARANCE ∷ [])
+unfolding p.clearance
+clearance_reads =
+    branch_reads (then_reads (then_reads (token_reads CLEARANCE t.Clearance refl) (λ _. some_names_reads) refl) (λ x. nothing_reads _) refl) (nothing_reads None) refl
+
+pub principal_reads : Reads g.principal p.principal (PRINCIPAL ∷ []) false (CLEARANCE ∷ [])
 unfolding p.principal
 principal_reads =
     then_reads (token_reads PRINCIPAL t.Principal refl) (λ _.
-    then_reads name_reads (λ n. then_reads (token_reads KEY t.Key refl) (λ _. then_reads text_reads (λ key. nothing_reads _) refl) refl) refl) refl
+    then_reads name_reads (λ n. then_reads (token_reads KEY t.Key refl) (λ _.
+    then_reads text_reads (λ key. then_reads clearance_reads (λ tags. nothing_reads _) refl) refl) refl) refl) refl
 
 pub tag_reads : (compound : Bool) → Reads (g.tag compound) (p.tag compound) (TAG ∷ []) false (IN ∷ [])
 unfolding p.tag
@@ -113,10 +125,13 @@ view_reads =
     then_reads (token_reads DECLASSIFYING t.Declassifying refl) (λ _.
     then_reads (parens_reads names_reads refl refl) (λ tags. nothing_reads _) refl) refl) refl) refl) refl) refl) refl
 
-pub create_reads : Reads (g.create bounded) p.create (CREATE ∷ []) false (IN ∷ [])
+abbrev pub on_create : Kinds
+on_create = CLEARANCE ∷ IN ∷ []
+
+pub create_reads : Reads (g.create bounded) p.create (CREATE ∷ []) false on_create
 unfolding p.create p.created p.compound_tag
 create_reads =
-    widen (CREATE ∷ []) (IN ∷ [])
+    widen (CREATE ∷ []) on_create
     (then_reads (token_reads CREATE t.Create refl) (λ _.
     branch_reads
     (branch_reads
@@ -139,11 +154,11 @@ revoke_reads =
     then_reads name_reads (λ tag. then_reads (token_reads FROM t.From refl) (λ _. then_reads name_reads (λ from. nothing_reads _) refl) refl) refl) refl
 
 pub set_label_reads : Reads g.set_label p.set_label (SET ∷ []) false []
-unfolding p.set_label p.some_names
+unfolding p.set_label
 set_label_reads =
     then_reads (token_reads SET t.Set refl) (λ _.
     then_reads (token_reads LABEL t.Label refl) (λ _.
-    then_reads (parens_list_reads (branch_reads names_reads (nothing_reads []) refl) refl refl) (λ tags. nothing_reads _) refl) refl) refl
+    then_reads some_names_reads (λ tags. nothing_reads _) refl) refl) refl
 
 pub show_label_reads : Reads g.show_label p.show_label (SHOW ∷ []) false []
 unfolding p.show_label
@@ -201,20 +216,20 @@ delete_reads =
 
 -- ---- all of them
 
-authority_reads : Reads (λ u r. (g.hello or g.create bounded or g.grant or g.revoke or g.set_label or g.show_label) u r) p.authority p.in_authority false (IN ∷ [])
+authority_reads : Reads (λ u r. (g.hello or g.create bounded or g.grant or g.revoke or g.set_label or g.show_label) u r) p.authority p.in_authority false on_create
 unfolding p.authority
 authority_reads =
-    widen p.in_authority (IN ∷ [])
+    widen p.in_authority on_create
     (branch_reads
     (branch_reads
     (branch_reads (branch_reads (branch_reads hello_reads create_reads refl) grant_reads refl) revoke_reads refl)
     set_label_reads refl)
     show_label_reads refl) refl refl
 
-session_reads : Reads (λ u r. (g.hello or g.create bounded or g.grant or g.revoke or g.set_label or g.show_label or g.word BEGIN q.Begin or g.word COMMIT q.Commit or g.word ROLLBACK q.Rollback or g.word BYE q.Bye) u r) p.session p.in_session false (IN ∷ [])
+session_reads : Reads (λ u r. (g.hello or g.create bounded or g.grant or g.revoke or g.set_label or g.show_label or g.word BEGIN q.Begin or g.word COMMIT q.Commit or g.word ROLLBACK q.Rollback or g.word BYE q.Bye) u r) p.session p.in_session false on_create
 unfolding p.session
 session_reads =
-    widen p.in_session (IN ∷ [])
+    widen p.in_session on_create
     (branch_reads
     (branch_reads
     (branch_reads (branch_reads authority_reads (word_reads BEGIN t.Begin refl q.Begin) refl) (word_reads COMMIT t.Commit refl q.Commit) refl)
@@ -225,7 +240,7 @@ abbrev pub in_request : Kinds
 in_request = p.in_session ++ SELECT ∷ INSERT ∷ UPDATE ∷ DELETE ∷ []
 
 abbrev pub on_request : Kinds
-on_request = IN ∷ on_select ++ on_update
+on_request = on_create ++ on_select ++ on_update
 
 pub request_reads : Reads (g.request bounded) p.request in_request false on_request
 unfolding p.request

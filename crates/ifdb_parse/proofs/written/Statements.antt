@@ -10,7 +10,7 @@ use Rattle.ifdb_syntax.specs.declared.select.Item.{Item}
 use Rattle.ifdb_syntax.specs.declared.select.Item.TheVariants as i
 use Rattle.ifdb_syntax.specs.declared.request.Request.{Request}
 use Rattle.ifdb_syntax.specs.declared.request.Request.TheVariants as q
-use Rattle.ifdb_syntax.specs.Words.{kind, AS, ASC, BEGIN, BY, BYE, COMMIT, COMPOUND, COUNT, CREATE, DECLASSIFYING, DELETE, DESC, FOREIGN, FROM, GRANT, GROUP, HELLO, IN, INSERT, INT, INTEGER, INTO, KEY, LABEL, MAX, MIN, OF, ORDER, PRIMARY, PRINCIPAL, REFERENCES, REVOKE, ROLLBACK, SELECT, SET, SHOW, SUM, TABLE, TAG, TEXT, TO, UPDATE, VALUES, VIEW, WITH, OPEN, CLOSE, COMMA, EQUAL, STAR, SEMICOLON, NAME}
+use Rattle.ifdb_syntax.specs.Words.{kind, AS, ASC, BEGIN, BY, BYE, CLEARANCE, COMMIT, COMPOUND, COUNT, CREATE, DECLASSIFYING, DELETE, DESC, FOREIGN, FROM, GRANT, GROUP, HELLO, IN, INSERT, INT, INTEGER, INTO, KEY, LABEL, MAX, MIN, OF, ORDER, PRIMARY, PRINCIPAL, REFERENCES, REVOKE, ROLLBACK, SELECT, SET, SHOW, SUM, TABLE, TAG, TEXT, TO, UPDATE, VALUES, VIEW, WITH, OPEN, CLOSE, COMMA, EQUAL, STAR, SEMICOLON, NAME}
 use Rattle.ifdb_syntax.specs.Lang.{Lang, ◌or◌, Then, nothing, repeat, token, name, parens, optional_list, commas, names}
 use Rattle.ifdb_syntax.specs.Reading.{written}
 use Rattle.ifdb_syntax.specs.Queries as g
@@ -168,10 +168,19 @@ hello_tallies known =
     ends (then_tallies (at HELLO t.Hello refl refl (λ last. (refl, refl))) (λ _. then_tallies name_tallies (λ n.
     then_tallies (at KEY t.Key refl refl (λ last. (refl, refl))) (λ _. then_tallies text_tallies (λ key. nothing_tallies _ (sym (and_true known)))))))
 
+some_names_tallies : {known : Bool} → Tallies (optional_list names) other known (λ _. known) any
+some_names_tallies = or_tallies (placed names_tallies (λ last p. p) (λ last p. tt)) (placed (nothing_tallies [] refl) (λ last p. p) (λ last p. tt))
+
+clearance_tallies : {known : Bool} → Tallies h.clearance operand known (λ _. known) operand
+clearance_tallies =
+    or_tallies (then_tallies (then_tallies (at CLEARANCE t.Clearance refl refl (λ last. (refl, refl))) (λ _. parens_tallies some_names_tallies)) (λ x. nothing_tallies _ refl))
+    (nothing_tallies None refl)
+
 principal_tallies : Request_tallies h.principal
 principal_tallies known =
     ends (then_tallies (at PRINCIPAL t.Principal refl refl (λ last. (refl, refl))) (λ _. then_tallies name_tallies (λ n.
-    then_tallies (at KEY t.Key refl refl (λ last. (refl, refl))) (λ _. then_tallies text_tallies (λ key. nothing_tallies _ (sym (and_true known)))))))
+    then_tallies (at KEY t.Key refl refl (λ last. (refl, refl))) (λ _. then_tallies text_tallies (λ key.
+    then_tallies clearance_tallies (λ tags. nothing_tallies _ (sym (and_true known))))))))
 
 tag_tallies : (compound : Bool) → Request_tallies (h.tag compound)
 tag_tallies compound known =
@@ -236,9 +245,6 @@ revoke_tallies : Request_tallies h.revoke
 revoke_tallies known =
     ends (then_tallies (at REVOKE t.Revoke refl refl (λ last. (refl, refl))) (λ _. then_tallies name_tallies (λ a.
     then_tallies (at FROM t.From refl refl (λ last. (refl, refl))) (λ _. then_tallies name_tallies (λ b. nothing_tallies _ (sym (and_true known)))))))
-
-some_names_tallies : {known : Bool} → Tallies (optional_list names) other known (λ _. known) any
-some_names_tallies = or_tallies (placed names_tallies (λ last p. p) (λ last p. tt)) (placed (nothing_tallies [] refl) (λ last p. p) (λ last p. tt))
 
 set_label_tallies : Request_tallies h.set_label
 set_label_tallies known =

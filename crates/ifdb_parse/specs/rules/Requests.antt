@@ -1,5 +1,5 @@
 -- Requests, and the line of one.
-use Rattle.std.specs.Prelude.{ℕ, Bool, true, false, List, [], ◌∷◌, ◌++◌, Result}
+use Rattle.std.specs.Prelude.{ℕ, Bool, true, false, List, [], ◌∷◌, ◌++◌, Option, Result}
 use Rattle.ifdb_value.specs.declared.value.Value.{Value}
 use Rattle.ifdb_value.specs.declared.value.ValueKind.{ValueKind}
 use Rattle.ifdb_value.specs.declared.value.ValueKind.TheVariants as of
@@ -9,10 +9,10 @@ use Rattle.ifdb_syntax.specs.declared.request.Request.TheVariants as q
 use Rattle.ifdb_syntax.specs.declared.request.ForeignKey.{ForeignKey}
 use Rattle.ifdb_syntax.specs.declared.request.Assignment.{Assignment}
 use Rattle.ifdb_syntax.specs.declared.select.Select.{Select}
-use Rattle.ifdb_syntax.specs.Words.{Lexemes, AS, BEGIN, BYE, COMMIT, COMPOUND, CREATE, DECLASSIFYING, DELETE, FOREIGN, FROM, GRANT, HELLO, IN, INSERT, INT, INTEGER, INTO, KEY, LABEL, PRIMARY, PRINCIPAL, REFERENCES, REVOKE, ROLLBACK, SELECT, SET, SHOW, TABLE, TAG, TEXT, TO, UPDATE, VALUES, VIEW, WITH, OPEN, CLOSE, COMMA, EQUAL, SEMICOLON, NAME}
+use Rattle.ifdb_syntax.specs.Words.{Lexemes, AS, BEGIN, BYE, CLEARANCE, COMMIT, COMPOUND, CREATE, DECLASSIFYING, DELETE, FOREIGN, FROM, GRANT, HELLO, IN, INSERT, INT, INTEGER, INTO, KEY, LABEL, PRIMARY, PRINCIPAL, REFERENCES, REVOKE, ROLLBACK, SELECT, SET, SHOW, TABLE, TAG, TEXT, TO, UPDATE, VALUES, VIEW, WITH, OPEN, CLOSE, COMMA, EQUAL, SEMICOLON, NAME}
 use Rattle.ifdb_parse.specs.theory.Kinds.{Kinds}
 use Rattle.ifdb_parse.specs.theory.Parser.{Parser, ◌>>=◌, ◌>>◌, pure, branch, repeat_by, ended}
-use Rattle.ifdb_parse.specs.rules.Shared.{token, name, text, parens, optional_list, commas, names}
+use Rattle.ifdb_parse.specs.rules.Shared.{token, name, text, parens, optional, optional_list, commas, names}
 use Rattle.ifdb_parse.specs.rules.Expressions.{literal, expr}
 use Rattle.ifdb_parse.specs.rules.Conditions.{condition}
 use Rattle.ifdb_parse.specs.rules.Queries.{plain, select}
@@ -42,14 +42,19 @@ hello = do
 
 -- ---- behind CREATE
 
--- PRINCIPAL name KEY text
+-- [CLEARANCE ( [names] )]
+unfoldable pub clearance : Parser (Option (List (List ℕ)))
+clearance = optional (CLEARANCE ∷ []) (do token CLEARANCE; parens some_names)
+
+-- PRINCIPAL name KEY text [CLEARANCE ( [names] )]
 unfoldable pub principal : Parser Request
 principal = do
   token PRINCIPAL
   n ← name
   token KEY
   key ← text
-  pure (q.CreatePrincipal n key)
+  tags ← clearance
+  pure (q.CreatePrincipal n key tags)
 
 -- TAG name [IN ( names )]
 unfoldable pub tag : Bool → Parser Request

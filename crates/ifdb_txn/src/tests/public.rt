@@ -7,11 +7,10 @@ ghost use Rattle.ifdb_catalog.specs.Statements.{fills};
 
 use super::rows::values_of;
 use super::tables::{are_of_kinds, note_of};
-use crate::parents::are_given;
 use crate::statement::{Writer, writes_of};
 use crate::written::Written;
 use ifdb_bound::{Bound, Change};
-use ifdb_catalog::Catalog;
+use ifdb_catalog::{Catalog, are_given};
 use ifdb_label::Label;
 use ifdb_row::{ListRows, OutOfMemory};
 use ifdb_value::{Principal, TableId, Value, ValueRow, ValueRows};

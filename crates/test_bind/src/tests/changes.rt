@@ -2,7 +2,7 @@
 use ifdb_wire::Fault;
 
 /// Principals, tags, grants, labels, and what names nothing.
-pub(super) static NAMES: [(&[u8], &str); 43] = [
+pub(super) static NAMES: [(&[u8], &str); 49] = [
     (
         b"CREATE PRINCIPAL nurse KEY 'n'",
         "principal nurse key 'n' by 1",
@@ -12,6 +12,30 @@ pub(super) static NAMES: [(&[u8], &str); 43] = [
         "principal alice key '' by 1",
     ),
     (b"CREATE PRINCIPAL doctor KEY 'n'", "Taken"),
+    (
+        b"CREATE PRINCIPAL nurse KEY 'n' CLEARANCE ()",
+        "principal nurse key 'n' clearance () by 1",
+    ),
+    (
+        b"CREATE PRINCIPAL nurse KEY 'n' CLEARANCE (bob, alice, bob)",
+        "principal nurse key 'n' clearance (1, 2) by 1",
+    ),
+    (
+        b"CREATE PRINCIPAL nurse KEY 'n' CLEARANCE (alice, patients)",
+        "principal nurse key 'n' clearance (0) by 1",
+    ),
+    (
+        b"CREATE PRINCIPAL nurse KEY 'n' CLEARANCE (alice, nobody)",
+        "UnknownName",
+    ),
+    (
+        b"CREATE PRINCIPAL nurse KEY 'n' CLEARANCE (doctor)",
+        "UnknownName",
+    ),
+    (
+        b"CREATE PRINCIPAL doctor KEY 'n' CLEARANCE (nobody)",
+        "Taken",
+    ),
     (b"CREATE TAG carl", "plain tag carl in () by 1"),
     (
         b"CREATE TAG doctor IN (patients)",

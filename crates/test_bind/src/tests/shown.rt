@@ -112,8 +112,16 @@ fn delete(text: &mut String, table: TableId, cond: &Option<BoundCond>) -> Result
 impl Show for Change {
     fn show(&self, text: &mut String) -> Result<(), AllocError> {
         match self {
-            Change::Principal { asker, name, key } => {
+            Change::Principal {
+                asker,
+                name,
+                key,
+                clearance,
+            } => {
                 principal(text, name, key.as_str())?;
+                if let Some(label) = clearance {
+                    listed(text, " clearance ", label.tags())?;
+                }
                 numbered(text, " by ", asker.0)
             }
             Change::Tag {

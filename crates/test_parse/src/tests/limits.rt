@@ -10,7 +10,7 @@ pub type Built = (
 );
 
 /// Lists.
-pub static LISTS: [Built; 26] = [
+pub static LISTS: [Built; 28] = [
     (b"SET LABEL (a", b",a", 63, b")", "request"),
     (b"SET LABEL (a", b",a", 64, b")", "Limit"),
     (b"SET LABEL (a", b",a", 64, b" b)", "Syntax(141)"),
@@ -57,6 +57,20 @@ pub static LISTS: [Built; 26] = [
         "Limit",
     ),
     (b"CREATE TAG t IN (a", b",a", 64, b")", "Limit"),
+    (
+        b"CREATE PRINCIPAL p KEY '' CLEARANCE (a",
+        b",a",
+        63,
+        b")",
+        "request",
+    ),
+    (
+        b"CREATE PRINCIPAL p KEY '' CLEARANCE (a",
+        b",a",
+        64,
+        b")",
+        "Limit",
+    ),
     (b"SELECT a", b",a", 63, b" FROM t", "request"),
     (b"SELECT a", b",a", 64, b" FROM t", "Limit"),
     (b"SELECT a FROM t", b",t", 3, b"", "request"),

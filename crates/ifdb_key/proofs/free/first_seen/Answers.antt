@@ -1,13 +1,8 @@
-use Rattle.std.proofs.Common.{arith, length, sym}
+use Rattle.std.proofs.Common.{arith, sym}
 use Rattle.ifdb_row.specs.declared.row.Row.{Row}
-use Rattle.ifdb_label.specs.Tags.{are_made}
 use Rattle.ifdb_label.specs.Label.{flows}
-use Rattle.ifdb_row.specs.Questions.{is_further}
-use Rattle.ifdb_row.proofs.KeyRows.{found_all, fewer, find_here, find_on, find_none}
+use Rattle.ifdb_row.proofs.KeyRows.{fewer, find_here, find_on, find_none}
 use Rattle.ifdb_key.proofs.free.first_seen.Goals as goal
-
-pub flows-requires-clause-self_made : goal.flows-requires-clause-self_made
-flows-requires-clause-self_made g c = let k = found_all (λ (r : Row). are_made (length c.args.tags.now) r.slot.label) (is_further c.args.table c.args.key.now _) _ _ (sym c.in-Some.ensures.row) (grind arith) in grind arith
 
 pub returns-then-flows : goal.returns-then-flows
 returns-then-flows g c = find_here c.args.table c.args.key.now (λ (r : Row). flows c.args.tags.now r.slot.label c.args.label.now) _ _ _ (grind arith) (sym c.in-Some.ensures.row) c.keyed.invariant (grind arith)

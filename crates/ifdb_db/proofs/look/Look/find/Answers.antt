@@ -1,6 +1,6 @@
 use Rattle.std.proofs.Common.{◌≡◌, ◌∙◌, subst}
 use Rattle.ifdb_model.specs.Session.{Seen}
-use Rattle.ifdb_db.specs.Inside.{IsSaid}
+use Rattle.ifdb_db.specs.Inside.{IsSaidAlike}
 use Rattle.ifdb_db.specs.Looks.{Looking, IsShown}
 use Rattle.ifdb_db.proofs.Looking.{shown_so}
 use Rattle.ifdb_db.proofs.look.Look.find.Goals as goal
@@ -14,5 +14,5 @@ returns c =
     } in
     let same : here ≡ c.args.self = (λ i. record { sight = c.sight.view_is i; line = c.self.inside.line }) ∙ c.self.view_is in
     let seen : c.new-seen.result ≡ here.sight.seen = c.new-seen.ensures ∙ (λ i. record { public = c.get.ensures i; rows = s.rows }) in
-    let said = subst (λ (z : Seen). IsSaid z s.asker s.label s.label c.into_request.result c.select.result) seen c.select.ensures in
+    let said = subst (λ (z : Seen). IsSaidAlike z s.asker s.label c.into_request.result c.select.result) seen c.select.ensures in
     subst (λ (z : Looking). IsShown z c.select.result) same (shown_so here c.into_request.result c.into_request.ensures c.select.result said)

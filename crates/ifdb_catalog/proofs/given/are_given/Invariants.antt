@@ -1,6 +1,6 @@
 use Rattle.std.proofs.Common.{◌≡◌, drop}
 use Rattle.ifdb_catalog.specs.Statements.{are_given, values_at}
-use Rattle.ifdb_txn.proofs.parents.are_given.Given as goal
+use Rattle.ifdb_catalog.proofs.given.are_given.Given as goal
 
 -- it is so of all places as it is of those that are left
 abbrev pub invariant-loop-place : goal.invariant-loop-place
