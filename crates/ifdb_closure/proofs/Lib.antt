@@ -1,0 +1,9 @@
+pub mod Thinning
+pub mod Twins
+pub mod Names
+pub mod Calls
+pub mod Worlds
+pub mod Bounds
+pub mod Refused
+pub mod ReadingBack
+pub mod Examples
