@@ -160,6 +160,8 @@ _REFUSALS: Dict[int, Tuple[Type[DatabaseError], str]] = {
     26: (ProgrammingError, "a view stands where a table is wanted"),
     27: (ProgrammingError, "the owner of a view doesn't hold one of its tags"),
     28: (InternalError, "there is no such session"),
+    29: (ProgrammingError, "the label doesn't flow to the ceiling, which is the clearance of who asks"),
+    30: (ProgrammingError, "the label of a closure rose over its caller's"),
 }
 """Each of the server's errors: which exception it is, and what it says."""
 

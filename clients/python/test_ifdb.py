@@ -187,7 +187,9 @@ ERRORS = {
     (26, "NotATable"): PROGRAMMING,
     (27, "ViewAuthority"): PROGRAMMING,
     (28, "NoSession"): ifdb.InternalError,
-    (29, "SomethingNew"): ifdb.DatabaseError,
+    (29, "OverClearance"): PROGRAMMING,
+    (30, "ClosureLabel"): PROGRAMMING,
+    (31, "SomethingNew"): ifdb.DatabaseError,
 }
 
 
@@ -256,7 +258,7 @@ class Errors(unittest.TestCase):
             self.assertFalse(session.is_open)
             self.refused(OPERATIONAL, 4, "BadKey", lambda: ifdb.connect(server.port, "ann", "x"))
         tried = {name for name, _ in REFUSED} | {"NotHello", "TooLong", "BadKey"}
-        self.assertEqual({name for _, name in ERRORS} - tried, {"OutOfMemory", "NoSession", "SomethingNew"})
+        self.assertEqual({name for _, name in ERRORS} - tried, {"OutOfMemory", "NoSession", "ClosureLabel", "SomethingNew"})
 
 
 SETTING = {
@@ -264,7 +266,8 @@ SETTING = {
         "CREATE COMPOUND TAG every",
         "CREATE TAG a IN (every)",
         "CREATE TAG b IN (every)",
-        "CREATE PRINCIPAL ann KEY 'ann'",
+        "CREATE TAG apart",
+        "CREATE PRINCIPAL ann KEY 'ann' CLEARANCE (every)",
         "GRANT a TO ann",
         "CREATE TABLE note (id INT, body TEXT, PRIMARY KEY (id))",
         "CREATE TABLE part (id INT, note INT, PRIMARY KEY (id), FOREIGN KEY (note) REFERENCES note)",
@@ -299,6 +302,7 @@ REFUSED = [
     ("KeyColumn", ["UPDATE note SET id = 3"]),
     ("NotCompound", ["CREATE TAG c IN (a)"]),
     ("NotATable", ["INSERT INTO seen VALUES (3)"]),
+    ("OverClearance", ["SET LABEL (apart)"]),
     ("ViewAuthority", ["admin: REVOKE a FROM ann", "SELECT id FROM seen"]),
 ]
 

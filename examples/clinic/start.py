@@ -17,6 +17,8 @@ import ifdb  # noqa: E402
 
 PATIENTS = ("ann", "bob")
 OTHERS = {"grey": "doctor", "clerk": "clerk"}
+CLEARED = {"clerk": "()"}
+"""Whose sessions have a ceiling: the clerk's never leave the empty label, whatever the application does for the clerk."""
 
 TABLES = (
     "CREATE TABLE person (name TEXT, role TEXT, PRIMARY KEY (name))",
@@ -43,7 +45,8 @@ def make_people(cursor: ifdb.Cursor) -> None:
         cursor.execute(f"CREATE PRINCIPAL {patient} KEY ?", (key_of(patient),))
         cursor.execute(f"GRANT {patient} TO {patient}")
     for person in map(ifdb.name, OTHERS):
-        cursor.execute(f"CREATE PRINCIPAL {person} KEY ?", (key_of(person),))
+        clearance = f" CLEARANCE {CLEARED[person]}" if person in CLEARED else ""
+        cursor.execute(f"CREATE PRINCIPAL {person} KEY ?{clearance}", (key_of(person),))
     cursor.execute("GRANT patients TO grey")
 
 
