@@ -1,6 +1,7 @@
 -- Requests in a transaction.
-use Rattle.std.proofs.Common.{◌≡◌, ℕ, true, false, List, ◌∙◌, refl, sym, ap, subst, Option, Some, inl, inr}
+use Rattle.std.proofs.Common.{◌≡◌, ℕ, true, false, List, ◌∙◌, length, refl, sym, ap, subst, Option, Some, inl, inr}
 use Rattle.std.specs.Prelude.{◌⊎◌, Result, Ok, Err}
+use Rattle.ifdb_label.specs.Tags.{AreMade}
 use Rattle.ifdb_row.specs.Writes.{merged}
 use Rattle.ifdb_bound.specs.declared.request.Bound.{Bound}
 use Rattle.ifdb_syntax.specs.declared.request.Request.{Request}
@@ -9,12 +10,14 @@ use Rattle.ifdb_wire.specs.declared.fault.Fault.TheVariants as fault
 use Rattle.ifdb_wire.specs.declared.reply.Reply.{Reply}
 use Rattle.ifdb_wire.specs.declared.reply.Reply.TheVariants as reply
 use Rattle.ifdb_catalog.specs.Binding.{bound}
-use Rattle.ifdb_model.specs.Session.{Session}
+use Rattle.ifdb_model.specs.Session.{Session, Seen}
 use Rattle.ifdb_model.specs.Writes.{Written, is_delete, writes_of}
 use Rattle.ifdb_model.specs.Step.{Form, greets, publishes, relabels, shows_label, begins, ends, rolls_back, leaves_us, looks, writes, form_of, refuses, land, write_bound, answered_as}
 use Rattle.ifdb_txn.specs.Answers.{Gives}
 use Rattle.ifdb_db.specs.Client.{Open, Standing, standing, txn_at}
-use Rattle.ifdb_db.specs.Inside.{session_of, seen_of, is_end, is_outer, Denies, IsSaid, Inside, Finds, IsReplied, IsLeft, IsDenied}
+use Rattle.ifdb_db.specs.declared.told.Told.{Told}
+use Rattle.ifdb_db.specs.declared.told.Told.TheVariants.{Replies, Commits, RollsBack, Leaves}
+use Rattle.ifdb_db.specs.Inside.{session_of, seen_of, is_end, is_outer, Denies, IsSaid, Inside, Finds, IsReplied, IsLeft, IsDenied, IsTold}
 use Rattle.ifdb_db.proofs.Saying.{by_form}
 
 module _ (who : Standing) (x : Open) (r : Request) where
@@ -54,6 +57,21 @@ module _ (who : Standing) (x : Open) (r : Request) where
 module _ (l : List ℕ) (x : Open) (r : Request) where
   pub left : (end : Form) → form_of r ≡ end → IsLeft end l l x x r
   left end e = record { form = e; label = refl; txn = refl }
+
+-- ---- what the transaction began with
+
+-- it stays, whatever a request is told
+module _ (who : Standing) (m : List ℕ) (x y : Open) (r : Request) where
+  base_stays : (o : Result Told Fault) → IsTold who m x y r o → y.base ≡ x.base
+  base_stays (Ok (Replies reply)) t = t.base
+  base_stays (Ok Commits) t = ap (λ (z : Open). z.base) t.txn
+  base_stays (Ok RollsBack) t = ap (λ (z : Open). z.base) t.txn
+  base_stays (Ok Leaves) t = ap (λ (z : Open). z.base) t.txn
+  base_stays (Err f) t = ap (λ (z : Open). z.base) t.txn
+
+  -- so a label over its tags is over them still
+  pub made_still : (o : Result Told Fault) → IsTold who m x y r o → AreMade (length x.base.public.tags) m → AreMade (length y.base.public.tags) m
+  made_still o t made = subst (λ (b : Seen). AreMade (length b.public.tags) m) (sym (base_stays o t)) made
 
 -- ---- INSERT, UPDATE and DELETE, whatever the ceiling is
 

@@ -1,6 +1,6 @@
 // What all see outside transactions.
-ghost use Rattle.std.specs.Prelude.{◌≡◌, ◌≤◌, ◌^◌, [], None, IfOk, IfSome, IsTrue, length};
-ghost use Rattle.ifdb_catalog.specs.Public.{opening as first_public, tags_of};
+ghost use Rattle.std.specs.Prelude.{◌≡◌, ◌≤◌, ◌^◌, [], None, IfOk, IfSome, IsTrue, length, option_copied, slice_get};
+ghost use Rattle.ifdb_catalog.specs.Public.{opening as first_public, tag_names, tags_of};
 ghost use Rattle.ifdb_db.specs.Answer.{answered, IsAnswered, IsStill};
 ghost use Rattle.ifdb_db.specs.Desk.{settled};
 ghost use Rattle.ifdb_db.specs.Kept.{IsKept, IsSound};
@@ -17,9 +17,10 @@ use crate::OutOfMemory;
 use crate::look::Sight;
 use crate::reading::ReadLine;
 use crate::session::Session;
-use ifdb_label::Tags;
+use ifdb_label::{Tag, Tags};
 use ifdb_snapshot::{SharedState, Snapshot};
 use ifdb_store::Store;
+use ifdb_value::Name;
 use ifdb_wire::{Fault, Reply};
 use std::alloc::Global;
 use std::marker::Model;
@@ -133,6 +134,13 @@ impl Db {
         ensures { result.now ≡ tags_of self.now.seen.public }
     {
         self.public.get().catalog().tags()
+    }
+
+    /// The name of a tag, or `None` exactly where the tag isn't made.
+    pub fn tag_name(&self, tag: Tag) -> Option<&Name>
+        ensures { option_copied result ≡ slice_get (tag_names self.now.seen.public) tag }
+    {
+        self.public.get().catalog().tag_name(tag)
     }
 
     /// How many rows there are; `None` where they are too many for the type.

@@ -1,10 +1,11 @@
 // The sessions over what all see.
 ghost use Rattle.std.specs.Prelude.{◌≡◌, ◌↔◌, ◌≤◌, ◌^◌, ◌++◌, ◌∷◌, [], true, false, Some, None};
-ghost use Rattle.std.specs.Prelude.{IfOk, IfSome, IsSome, IsTrue, OnErr, OnOk, length};
+ghost use Rattle.std.specs.Prelude.{IfOk, IfSome, IsSome, IsTrue, OnErr, OnOk, length, option_copied, slice_get};
 ghost use Rattle.std.specs.Option.{is_some};
 ghost use Rattle.ifdb_wire.specs.declared.reply.Reply.TheVariants as reply;
 ghost use Rattle.ifdb_wire.specs.Text.{IsUnbounded, memory_text, reply_text};
-ghost use Rattle.ifdb_catalog.specs.Public.{tags_of};
+ghost use Rattle.ifdb_label.specs.Label.{flows};
+ghost use Rattle.ifdb_catalog.specs.Public.{tag_names, tags_of};
 ghost use Rattle.ifdb_model.specs.Run.{asks, leaves, opening, opens};
 ghost use Rattle.ifdb_db.specs.Client.{new_client};
 ghost use Rattle.ifdb_db.specs.Room.{StandsFor, IsSoundRoom, client_in, was_opened};
@@ -16,7 +17,8 @@ use crate::OutOfMemory;
 use crate::db::Db;
 use crate::reading::ReadLine;
 use crate::session::Session;
-use ifdb_label::{Label, Tags};
+use ifdb_label::{Label, Tag, Tags};
+use ifdb_value::Name;
 use ifdb_wire::{Fault, Out, Reply};
 use std::alloc::Global;
 use std::marker::Model;
@@ -173,6 +175,16 @@ impl Room {
         self.sessions[(n - 1) as usize].is_open()
     }
 
+    /// Whether a session said HELLO, and was accepted.
+    pub fn has_principal(&self, n: u64) -> bool
+        ensures { result ≡ is_some (client_in self.now n).principal }
+    {
+        if !self.was_opened(n) {
+            return false;
+        }
+        self.sessions[(n - 1) as usize].has_principal()
+    }
+
     /// Whether a session has a transaction.
     pub fn in_transaction(&self, n: u64) -> bool
         ensures { result ≡ is_some (client_in self.now n).txn }
@@ -192,6 +204,24 @@ impl Room {
             return None;
         }
         Some(self.sessions[(n - 1) as usize].label())
+    }
+
+    /// Whether the label of a session flows to that of another. Takes no memory.
+    pub fn flows(&self, from: u64, to: u64) -> bool
+        requires from { IsTrue (was_opened self.now from) }
+        requires to { IsTrue (was_opened self.now to) }
+        ensures { result ≡ flows (tags_of self.now.desk.seen.public)
+            (client_in self.now from).label (client_in self.now to).label }
+    {
+        let label = self.sessions[(from - 1) as usize].label();
+        label.flows(self.tags(), self.sessions[(to - 1) as usize].label())
+    }
+
+    /// The name of a tag, or `None` exactly where the tag isn't made.
+    pub fn tag_name(&self, tag: Tag) -> Option<&Name>
+        ensures { option_copied result ≡ slice_get (tag_names self.now.desk.seen.public) tag }
+    {
+        self.db.tag_name(tag)
     }
 
     /// All tags.

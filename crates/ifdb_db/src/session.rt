@@ -63,6 +63,13 @@ impl Session {
         self.is_open
     }
 
+    /// Whether HELLO was accepted.
+    pub fn has_principal(&self) -> bool
+        ensures { result ≡ is_some self.now.principal }
+    {
+        self.principal.is_some()
+    }
+
     /// The session's label.
     pub fn label(&self) -> &Label
         ensures { result.now ≡ self.now.label }
