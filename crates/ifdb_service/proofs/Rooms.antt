@@ -56,7 +56,7 @@ txn_send s c = view_send _ _ _ _ _ (recorded_send in_txn.the_field.row _ _ in_tx
 
 session_send : IsSend txn.the_row → IsSend session.the_row
 session_send t = view_send _ _ _ _ _ (recorded_send in_session.the_field.row _ _ in_session.the_type.to_one
-    (struct_send (shape in_session.the_type) (search sendable depth 30, (search sendable depth 30, (label_send, (search sendable depth 30, tt))))))
+    (struct_send (shape in_session.the_type) (search sendable depth 30, (search sendable depth 30, (search (sendable, label_send) depth 30, (label_send, (search sendable depth 30, tt)))))))
 
 db_send : IsSend shared_state.the_row → IsSend store.the_row → IsSend db.the_row
 db_send s t = view_send _ _ _ _ _ (recorded_send in_db.the_field.row _ _ in_db.the_type.to_one

@@ -3,8 +3,9 @@ ghost use Rattle.std.specs.Thread.{IsSend, IsSync};
 ghost use Rattle.ifdb_session.specs.contracts.shared.SharedRoom as room;
 
 use ifdb_bound::{Schema, ViewDef};
+use ifdb_catalog::Credentials;
 use ifdb_store::{Content, Store};
-use ifdb_value::{Name, Word};
+use ifdb_value::Name;
 use indexmap::{IndexMap, IndexSet};
 use std::marker::{Send, Sync};
 
@@ -12,11 +13,11 @@ use std::marker::{Send, Sync};
 pub(crate) fn room_crosses()
     ensures { IsSend room.the_row }
 {
-    sends::<IndexMap<Name, Word>>();
+    sends::<IndexMap<Name, Credentials>>();
     sends::<IndexSet<Name>>();
     sends::<IndexMap<Name, Schema>>();
     sends::<IndexMap<Name, ViewDef>>();
-    syncs::<IndexMap<Name, Word>>();
+    syncs::<IndexMap<Name, Credentials>>();
     syncs::<IndexSet<Name>>();
     syncs::<IndexMap<Name, Schema>>();
     syncs::<IndexMap<Name, ViewDef>>();
