@@ -15,7 +15,7 @@ use std::alloc::Global;
 /// What the tokens that `lex` gave of a line say, in order. `OutOfMemory` where an allocation is refused.
 ///
 /// In time and memory the length of the line.
-pub(crate) fn lexemes(
+pub fn lexemes(
     alloc: Global,
     line: &[u8],
     tokens: &[Token],
@@ -31,7 +31,7 @@ pub(crate) fn lexemes(
 }
 
 /// The line without one carriage return at its end.
-pub(crate) fn without_return(line: &[u8]) -> &[u8]
+pub fn without_return(line: &[u8]) -> &[u8]
     ensures { result.now ≡ request_of line.now }
 {
     match line {

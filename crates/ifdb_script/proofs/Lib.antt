@@ -1,7 +1,7 @@
-mod Counting
-mod FirstLine
+pub mod Counting
+pub mod FirstLine
 pub mod ScriptLines
-mod Flags
-mod Stepping
-mod Progress
+pub mod Flags
+pub mod Stepping
+pub mod Progress
 pub mod RunLaws
