@@ -15,7 +15,7 @@ use std::alloc::Global;
 /// What the tokens that `lex` gave of a line say, in order. `OutOfMemory` where an allocation is refused.
 ///
 /// In time and memory the length of the line.
-pub fn lexemes(
+pub fn lexemes_of(
     alloc: Global,
     line: &[u8],
     tokens: &[Token],

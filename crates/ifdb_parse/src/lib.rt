@@ -26,6 +26,6 @@ mod words;
 
 pub use fault::ParseFault;
 pub use laws::{parser_reads_the_grammar, requests_are_read};
-pub use lexemes::{lexemes, without_return};
+pub use lexemes::{lexemes_of, without_return};
 pub use line::parse;
 pub use way_back::{canonical_text_reads_back, requests_read_back};

@@ -3,7 +3,7 @@ ghost use Rattle.std.specs.Prelude.{◌≡◌, ℕ, Ok, Err, IfOk};
 ghost use Rattle.ifdb_parse.specs.Parsed.{parsed, fault_of as fault_of_tokens, limited as limited_tree, place as place_of};
 
 use crate::fault::ParseFault;
-use crate::lexemes::{lexemes, without_return};
+use crate::lexemes::{lexemes_of, without_return};
 use crate::limits::exceeds_tree;
 use crate::requests::whole;
 use crate::stop::Stop;
@@ -36,7 +36,7 @@ pub fn parse(alloc: Global, line: &[u8]) -> Result<Request, ParseFault>
         Ok(tokens) => tokens,
         Err(fault) => return Err(fault_of(fault)),
     };
-    let lexemes = lexemes(alloc, line, tokens.items())?;
+    let lexemes = lexemes_of(alloc, line, tokens.items())?;
     let line = without_return(line);
     match whole(alloc, lexemes.items()) {
         Ok(request) => limited(lexemes.items(), request),

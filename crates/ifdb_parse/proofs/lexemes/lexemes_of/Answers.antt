@@ -1,7 +1,7 @@
 use Rattle.std.proofs.Common.{◌∙◌, sym, subst, ℕ, List}
 use Rattle.ifdb_parse.specs.Readable.{AreReadable}
 use Rattle.ifdb_parse.proofs.Readable.{tokens_readable}
-use Rattle.ifdb_parse.proofs.lexemes.lexemes.Goals as goal
+use Rattle.ifdb_parse.proofs.lexemes.lexemes_of.Goals as goal
 
 pub lexemes_in-requires : goal.lexemes_in-requires
 lexemes_in-requires c =
