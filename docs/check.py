@@ -96,7 +96,7 @@ def wrong_counts(text: str) -> list[str]:
 
 def main() -> int:
     known: set[tuple[str, str]] = set()
-    for script in (TOP / "examples").glob("*.script"):
+    for script in (TOP / "examples").rglob("*.script"):
         known |= played(script)
     names = {
         str(file.relative_to(TOP))

@@ -4,9 +4,18 @@ set -euo pipefail
 cd "$(dirname "${BASH_SOURCE[0]}")"
 cases=$(mktemp -d)
 trap 'rm -rf "$cases"' EXIT
-for script in *.script; do
-  cp "$script" "$cases/${script%.script}"
-  cp "${script%.script}.replies" "$cases/${script%.script}.stdout"
-done
-cd ../crates/ifdb
-rt try --cases "$cases" -- run
+
+# Tries the scripts of a folder by a word of the program.
+try_all() {
+  local script name
+  mkdir "$cases/$2"
+  for script in "$1"/*.script; do
+    name=$(basename "$script" .script)
+    cp "$script" "$cases/$2/$name"
+    cp "$1/$name.replies" "$cases/$2/$name.stdout"
+  done
+  (cd ../crates/ifdb && rt try --cases "$cases/$2" -- "$2")
+}
+
+try_all . run
+try_all closures closures

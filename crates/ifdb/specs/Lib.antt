@@ -1,5 +1,6 @@
 pub mod Base
 pub mod Check
+pub mod Closures
 pub mod Keep
 pub mod More
 pub mod Project

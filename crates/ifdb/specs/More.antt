@@ -33,11 +33,15 @@ IsKeep words = is_first (codes "keep") words ≡ true
 abbrev pub IsProject : List (String Global) → Type 0
 IsProject words = is_first (codes "project") words ≡ true
 
+abbrev pub IsClosures : List (String Global) → Type 0
+IsClosures words = is_first (codes "closures") words ≡ true
+
 -- it is none of these
 pub record IsBase (words : List (String Global)) : Type 0 where
   pub no_check : IsCheck words → ⊥
   pub no_keep : IsKeep words → ⊥
   pub no_project : IsProject words → ⊥
+  pub no_closures : IsClosures words → ⊥
 
 -- the end is one of a base word, and this is so of it
 abbrev pub OnBase : MoreStatus → (Status → Type 0) → Type 0

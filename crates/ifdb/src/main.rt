@@ -3,6 +3,7 @@
 
 mod adapters;
 mod check;
+mod closures;
 mod keep;
 mod more;
 mod project;

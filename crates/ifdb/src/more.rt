@@ -1,17 +1,21 @@
 // The one call that does all that the program does.
 ghost use Rattle.std.specs.Prelude.{◌≡◌, ◌≤◌};
+ghost use Rattle.ifdb_closure.specs.Bounds.{CallsLeaveSessions, CallsStayWithin, RefusedCallsCommitNothing};
 ghost use Rattle.ifdb_trace.specs.Laws.{ProjectionIsHeard};
 ghost use Rattle.ifdb_words.specs.First.{behind_first};
 ghost use Rattle.ifdb.specs.Base.{DoesBase};
 ghost use Rattle.ifdb.specs.Check.{DoesCheck};
+ghost use Rattle.ifdb.specs.Closures.{DoesClosures};
 ghost use Rattle.ifdb.specs.Keep.{DoesKeep};
-ghost use Rattle.ifdb.specs.More.{IsBase, IsCheck, IsKeep, IsProject, OnBase, exit_code};
+ghost use Rattle.ifdb.specs.More.{IsBase, IsCheck, IsClosures, IsKeep, IsProject, OnBase, exit_code};
 ghost use Rattle.ifdb.specs.Project.{DoesProject};
 
 use crate::check::check;
+use crate::closures::closures;
 use crate::keep::keep;
 use crate::project::project;
 use crate::top::{Status, top};
+use ifdb_closure::call_bounds;
 use ifdb_disk::Shelf;
 use ifdb_io::{Sink, Site, Source};
 use ifdb_trace::projections_are_heard;
@@ -48,8 +52,9 @@ impl MoreStatus {
 
 /// Does what the words say, over this input, output, site and shelf. The words lack the program's name. `check [--limit N]` judges
 /// the trace at the input; `project --tags T [--limit N]` writes the lines of the script at the input whose steps are asked inside
-/// a level; `keep --file F [--limit N]` runs it over the journal in a file, and adds the steps that can change the state. Where
-/// these aren't well formed they get their usage line. Other words are those of `top`.
+/// a level; `keep --file F [--limit N]` runs it over the journal in a file, and adds the steps that can change the state;
+/// `closures [--limit N]` runs it with closures. Where these aren't well formed they get their usage line. Other words are
+/// those of `top`.
 pub fn top_more<T: AllocGlobal + Threads + Wait + Sync, R: Source, W: Sink, S: Site, H: Shelf>(
     rt: &T,
     words: &[String],
@@ -70,6 +75,12 @@ pub fn top_more<T: AllocGlobal + Threads + Wait + Sync, R: Source, W: Sink, S: S
         (behind_first words.now)
         input.old input.new output.old output.new shelf.old shelf.new result }
 
+    ensures closures { IsClosures words.now → DoesClosures R.Source W.Sink
+        (behind_first words.now) input.old input.new output.old output.new result }
+    ensures calls_within { CallsStayWithin }
+    ensures calls_apart { CallsLeaveSessions }
+    ensures calls_refused { RefusedCallsCommitNothing }
+
     // What is so at every end.
     ensures other_site { (IsBase words.now → ⊥) → site.new ≡ site.old }
     ensures other_shelf { (IsKeep words.now → ⊥) → shelf.new ≡ shelf.old }
@@ -79,6 +90,7 @@ pub fn top_more<T: AllocGlobal + Threads + Wait + Sync, R: Source, W: Sink, S: S
     ensures shelf_later { H.faults shelf.old ≤ H.faults shelf.new }
 {
     projections_are_heard();
+    call_bounds();
     match words {
         [word, rest @ ..] if word.as_str() == "check" => check(rt.alloc(), rest, input, output),
         [word, rest @ ..] if word.as_str() == "project" => {
@@ -86,6 +98,9 @@ pub fn top_more<T: AllocGlobal + Threads + Wait + Sync, R: Source, W: Sink, S: S
         }
         [word, rest @ ..] if word.as_str() == "keep" => {
             keep(rt.alloc(), rest, input, output, shelf)
+        }
+        [word, rest @ ..] if word.as_str() == "closures" => {
+            closures(rt.alloc(), rest, input, output)
         }
         _ => MoreStatus::Base(top(rt, words, input, output, site)),
     }

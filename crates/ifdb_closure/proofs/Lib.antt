@@ -7,3 +7,10 @@ pub mod Bounds
 pub mod Refused
 pub mod ReadingBack
 pub mod Examples
+pub mod Parting
+pub mod Asking
+pub mod Turns
+pub mod Progress
+pub mod RanLaws
+pub mod Named
+pub mod Made

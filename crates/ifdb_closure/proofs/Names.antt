@@ -7,7 +7,7 @@ use Rattle.std.proofs.lemmas.Bool.Decides.{nat_tests}
 use Rattle.std.proofs.lemmas.List.{get_or_append_left, get_or-append_right, get_or-map, length-map, length-append}
 use Rattle.std.proofs.lemmas.List.Sums.{position_or_len_is, fails_before_first}
 use Rattle.ifdb_label.specs.Tags.{MadeTag, lone_tag, are_made}
-use Rattle.ifdb_label.specs.Label.{flows, strip}
+use Rattle.ifdb_label.specs.Label.{flows}
 use Rattle.ifdb_label.proofs.LabelLaws.{reduce_flows}
 use Rattle.ifdb_bound.specs.declared.request.Bound.TheVariants as bound
 use Rattle.ifdb_bound.specs.declared.request.Change.{Change}
@@ -17,7 +17,7 @@ use Rattle.ifdb_syntax.specs.declared.request.Request.TheVariants as request
 use Rattle.ifdb_wire.specs.declared.fault.Fault.{Fault}
 use Rattle.ifdb_wire.specs.declared.fault.Fault.TheVariants as fault
 use Rattle.ifdb_wire.specs.declared.reply.Reply.TheVariants as reply
-use Rattle.ifdb_catalog.specs.Public.{Public, KnownTag, opening as first_public, tags_of, tag_names, has_tags, principal_named, is_key, changed}
+use Rattle.ifdb_catalog.specs.Public.{Public, KnownTag, opening as first_public, tags_of, tag_names, principal_named, is_key, changed}
 use Rattle.ifdb_catalog.specs.Check.{judged}
 use Rattle.ifdb_catalog.specs.Queries.{place_or}
 use Rattle.ifdb_catalog.specs.Statements.{tag_at, tags_named, are_tags, label_named}

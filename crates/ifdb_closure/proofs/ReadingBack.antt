@@ -20,7 +20,7 @@ use Rattle.ifdb_syntax.specs.declared.lexeme.Lexeme.TheVariants as t
 use Rattle.ifdb_syntax.specs.declared.request.Request.{Request}
 use Rattle.ifdb_syntax.specs.declared.request.Request.TheVariants as request
 use Rattle.ifdb_syntax.specs.Words.{Lexemes}
-use Rattle.ifdb_syntax.specs.canonical.Tokens.{behind, enclosed, name_tokens, names_tokens}
+use Rattle.ifdb_syntax.specs.canonical.Tokens.{behind, name_tokens, names_tokens}
 use Rattle.ifdb_syntax.specs.canonical.Requests.{tag_words, request_tokens}
 use Rattle.ifdb_syntax.specs.canonical.Text.{canonical_text}
 use Rattle.ifdb_wire.specs.declared.fault.Fault.{Fault}
@@ -33,10 +33,9 @@ use Rattle.ifdb_parse.specs.rules.Requests.{hello as hello_parser, authority as 
 use Rattle.ifdb_parse.proofs.back.Lighter.{Sound, AllSound, Shallow, nots, sound_append, nots-append}
 use Rattle.ifdb_parse.proofs.written.ReadsBack.{parsed_reads_back, read_sound, read_as}
 use Rattle.ifdb_catalog.specs.Public.{Public, KnownTag, opening as first_public, tags_of, tag_names, changed}
-use Rattle.ifdb_catalog.specs.Check.{judged}
 use Rattle.ifdb_catalog.specs.Binding.{bound as bound_request}
 use Rattle.ifdb_catalog.proofs.Judging.{accepted}
-use Rattle.ifdb_model.specs.Log.{Entry, all_tags, public_from, public_of}
+use Rattle.ifdb_model.specs.Log.{Entry, public_from, public_of}
 use Rattle.ifdb_model.specs.Session.{Session, closed, seen}
 use Rattle.ifdb_model.specs.Step.{Outcome, ask}
 use Rattle.ifdb_model.specs.Run.{State, opening, session_of, Step, opens, asks, refused, long, stray, leaves, with_outcome, with_session, next, run}

@@ -5,7 +5,6 @@ use Rattle.std.specs.List.{list_all}
 use Rattle.std.proofs.lemmas.Bool.{false≢true}
 use Rattle.std.proofs.lemmas.Bool.Decides.{nat_tests}
 use Rattle.std.proofs.lemmas.List.{append-nil, length-append}
-use Rattle.ifdb_label.specs.Label.{strip}
 use Rattle.ifdb_row.specs.declared.row.Row.{Row}
 use Rattle.ifdb_bound.specs.declared.request.Bound.{Bound}
 use Rattle.ifdb_bound.specs.declared.request.Bound.TheVariants as bound
@@ -15,7 +14,7 @@ use Rattle.ifdb_wire.specs.declared.fault.Fault.{Fault}
 use Rattle.ifdb_wire.specs.declared.fault.Fault.TheVariants as fault
 use Rattle.ifdb_wire.specs.declared.reply.Reply.{Reply}
 use Rattle.ifdb_wire.specs.declared.reply.Reply.TheVariants as reply
-use Rattle.ifdb_catalog.specs.Public.{Public, tags_of, has_tags}
+use Rattle.ifdb_catalog.specs.Public.{Public}
 use Rattle.ifdb_catalog.specs.Binding.{bound as bound_request}
 use Rattle.ifdb_model.specs.Log.{Entry}
 use Rattle.ifdb_model.specs.Session.{Txn, Session, new_session, closed, in_txn, seen}

@@ -20,12 +20,13 @@ use Rattle.ifdb_keep.specs.Numbered.{state_from, told_from, records_from}
 use Rattle.ifdb_keep.specs.Resumed.{begun, base_of, front_of, Journaled, Began}
 use Rattle.ifdb_keep.specs.Taken.{state_by, told_by, records_by, AreTaken, AreScriptSteps, Takes, TakesLine, WereAdded, LostLine}
 use Rattle.ifdb_keep.specs.Kept.{Kept, KeptWhole, KeptFront, KeptPast, KeptCut, KeptShort}
+use Rattle.ifdb_script.proofs.Progress.{cut_of}
 use Rattle.ifdb_script.proofs.ScriptLines.{steps_front, steps_last}
 use Rattle.ifdb_keep.proofs.Numbers.{state_append, told_append, records_append}
 use Rattle.ifdb_keep.proofs.Resuming.{clients_many}
 use Rattle.ifdb_keep.proofs.Flags.{Goes, IsAtMostOne, goes_line}
 use Rattle.ifdb_keep.proofs.Batches.{adds_more, joined_more, journaled_on, journaled_short, holds_on, all_have}
-use Rattle.ifdb_keep.proofs.Progress.{Played, Stored, Reached, cut_of, played_line, played_long, taken_last, taken_first, taken_of_lines}
+use Rattle.ifdb_keep.proofs.Progress.{Played, Stored, Reached, played_line, played_long, taken_last, taken_first, taken_of_lines}
 
 -- ---- the disk
 

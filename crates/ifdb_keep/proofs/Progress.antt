@@ -19,13 +19,9 @@ use Rattle.ifdb_keep.specs.Resumed.{begun, base_of}
 use Rattle.ifdb_keep.specs.Taken.{state_by, told_by, records_by, AreTaken}
 use Rattle.ifdb_keep.specs.Kept.{AreOfLines}
 use Rattle.ifdb_script.proofs.ScriptLines.{steps_front, steps_last, steps_long, piece-append, piece_line, piece_long, skip, skip_all}
+use Rattle.ifdb_script.proofs.Progress.{EndsSo, Cut, cut_of, piece_before, Settled, settled}
 use Rattle.ifdb_keep.proofs.Numbers.{refusals_append}
 use Rattle.ifdb_keep.proofs.Flags.{Goes}
-
--- behind the lines that were done nothing stands, or a line that is too long goes on
-abbrev EndsSo : Bool → List ℕ → Type 0
-EndsSo false lines = piece_behind [] lines ≡ []
-EndsSo true lines = 65535 < length (piece_behind [] lines)
 
 -- The steps of these lines were taken, and whatever follows them, its steps follow.
 pub record Played (rs : List Record) (left_old left_new : Option (List ℕ)) (reading : Reading) (done : List Step) : Type 0 where
@@ -62,36 +58,6 @@ reached_none rs t l w at limit over room stands = record {
   wrote = Appends-nil w;
   stored = record { batches = []; entries = refl; adds = (refl, refl) };
 }
-
--- of the bytes that a reader holds now a front is this line, with what was skipped before it
-pub record Cut (skipping : Bool) (bytes line held : List ℕ) : Type 0 where
-  pub front : List ℕ
-  pub all : bytes ≡ front ++ held
-  pub on : (rest : List ℕ) → unskipped skipping (front ++ rest) ≡ line ++ rest
-  pub piece : (p : List ℕ) → (skipping ≡ false → p ≡ []) → piece_behind p front ≡ piece_behind [] line
-
-cut : (skipping : Bool) (bytes line held : List ℕ) → unskipped skipping bytes ≡ line ++ held → 0 < length line → Cut skipping bytes line held
-cut false bytes line held e some = record { front = line; all = e; on = λ rest. refl; piece = λ p none. ap (λ q. piece_behind q line) (none refl) }
-cut true bytes line held e some =
-    let size = length-append line held in
-    let s = skip bytes (line ++ held) e (omega (arith, some, size)) in
-    record {
-      front = s.front ++ line;
-      all = s.all ∙ sym (append_assoc s.front line held);
-      on = λ rest. ap after_newline (append_assoc s.front line rest) ∙ s.on (line ++ rest);
-      piece = λ p none. s.piece p line;
-    }
-
--- what a reader takes and holds, of which a line is cut
-pub cut_of : (mid last : Reading) (l1 l2 : Option (List ℕ)) (line : List ℕ) → (g : Gives mid last l1 l2 line) → 0 < length line → Cut mid.skipping (mid.held ++ g.got) line last.held
-cut_of mid last l1 l2 line g some =
-    cut mid.skipping (mid.held ++ g.got) line last.held
-    (ap (λ l. unskipped mid.skipping (mid.held ++ l)) (sym (append-nil g.got)) ∙ g.same [] ∙ ap (λ l. line ++ l) (append-nil last.held)) some
-
--- a piece before the line, if it isn't skipped, is empty
-piece_before : (skipping : Bool) (lines : List ℕ) → EndsSo skipping lines → skipping ≡ false → piece_behind [] lines ≡ []
-piece_before false lines ends e = ends
-piece_before true lines ends e = cc
 
 -- one line's steps, whatever follows
 pub played_on : (rs : List Record) (l0 l1 l2 : Option (List ℕ)) (mid last : Reading) (new : Hall) (done first : List Step) (out line : List ℕ) (more : List Record)
@@ -167,38 +133,6 @@ taken_first rs l0 l1 mid done p =
     sym (p.on mid.held []) ∙ ap (λ fs. refused_at fs (steps_of (p.lines ++ mid.held))) (append-nil (refusals (told_by rs done)))
 
 -- ---- the whole lines of what was taken, where no line comes any more
-
--- of the bytes behind the lines that were done a front is skipped, and the rest is a piece of a line
-record Settled (skipping : Bool) (lines bytes text : List ℕ) : Type 0 where
-  front : List ℕ
-  all : bytes ≡ front ++ text
-  none : unskipped skipping front ≡ []
-  whole : AreWholeLines (lines ++ front)
-
--- what stands behind the last newline ends a whole line
-abbrev IsWholePiece : List ℕ → Type 0
-IsWholePiece piece = (piece ≡ []) ⊎ (65535 < length piece)
-
-settled : (skipping : Bool) (lines bytes text : List ℕ) → EndsSo skipping lines → unskipped skipping bytes ≡ text → Settled skipping lines bytes text
-settled false lines bytes text ends e = record { front = []; all = e; none = refl; whole = inl (ap (piece_behind []) (append-nil lines) ∙ ends) }
-settled true lines bytes [] ends e = record {
-  front = bytes;
-  all = sym (append-nil bytes);
-  none = e;
-  whole = subst IsWholePiece (sym (piece-append [] lines bytes)) (by (skip_all (piece_behind [] lines) bytes e));
-} where
-  by : (piece_behind (piece_behind [] lines) bytes ≡ []) ⊎ (length (piece_behind [] lines) ≤ length (piece_behind (piece_behind [] lines) bytes))
-      → IsWholePiece (piece_behind (piece_behind [] lines) bytes)
-  by (inl none) = inl none
-  by (inr more) = inr (omega (arith, more, ends))
-settled true lines bytes (b ∷ text) ends e =
-    let s = skip bytes (b ∷ text) e (omega arith) in
-    record {
-      front = s.front;
-      all = s.all;
-      none = ap after_newline (sym (append-nil s.front)) ∙ s.on [];
-      whole = inl (piece-append [] lines s.front ∙ ap (piece_behind (piece_behind [] lines)) (sym (append-nil s.front)) ∙ s.piece (piece_behind [] lines) []);
-    }
 
 pub taken_of_lines : (rs : List Record) (l0 l1 : Option (List ℕ)) (mid : Reading) (done : List Step) (got text : List ℕ)
     → (p : Played rs l0 l1 mid done) → unskipped mid.skipping (mid.held ++ got) ≡ text → IsLine text → AreOfLines rs ((p.lines ++ mid.held) ++ got) done

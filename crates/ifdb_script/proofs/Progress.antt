@@ -18,7 +18,7 @@ use Rattle.ifdb_script.proofs.Flags.{Tells, IsAtMostOne}
 use Rattle.ifdb_script.proofs.Stepping.{Goes}
 
 -- behind the lines that were done nothing stands, or a line that is too long goes on
-abbrev EndsSo : Bool → List ℕ → Type 0
+abbrev pub EndsSo : Bool → List ℕ → Type 0
 EndsSo false lines = piece_behind [] lines ≡ []
 EndsSo true lines = 65535 < length (piece_behind [] lines)
 
@@ -54,11 +54,11 @@ refusals_more : (told more : List Told) (flags : List Bool) → refusals told ++
 refusals_more told more flags = sym (append_assoc (refusals told) (refusals more) flags) ∙ ap (λ fs. fs ++ flags) (sym (flat_map-append flag_of told more))
 
 -- of the bytes that a reader holds now a front is this line, with what was skipped before it
-record Cut (skipping : Bool) (bytes line held : List ℕ) : Type 0 where
-  front : List ℕ
-  all : bytes ≡ front ++ held
-  on : (rest : List ℕ) → unskipped skipping (front ++ rest) ≡ line ++ rest
-  piece : (p : List ℕ) → (skipping ≡ false → p ≡ []) → piece_behind p front ≡ piece_behind [] line
+pub record Cut (skipping : Bool) (bytes line held : List ℕ) : Type 0 where
+  pub front : List ℕ
+  pub all : bytes ≡ front ++ held
+  pub on : (rest : List ℕ) → unskipped skipping (front ++ rest) ≡ line ++ rest
+  pub piece : (p : List ℕ) → (skipping ≡ false → p ≡ []) → piece_behind p front ≡ piece_behind [] line
 
 cut : (skipping : Bool) (bytes line held : List ℕ) → unskipped skipping bytes ≡ line ++ held → 0 < length line → Cut skipping bytes line held
 cut false bytes line held e some = record { front = line; all = e; on = λ rest. refl; piece = λ p none. ap (λ q. piece_behind q line) (none refl) }
@@ -73,13 +73,13 @@ cut true bytes line held e some =
     }
 
 -- what a reader takes and holds, of which a line is cut
-cut_of : (mid last : Reading) (l1 l2 : Option (List ℕ)) (line : List ℕ) → (g : Gives mid last l1 l2 line) → 0 < length line → Cut mid.skipping (mid.held ++ g.got) line last.held
+pub cut_of : (mid last : Reading) (l1 l2 : Option (List ℕ)) (line : List ℕ) → (g : Gives mid last l1 l2 line) → 0 < length line → Cut mid.skipping (mid.held ++ g.got) line last.held
 cut_of mid last l1 l2 line g some =
     cut mid.skipping (mid.held ++ g.got) line last.held
     (ap (λ l. unskipped mid.skipping (mid.held ++ l)) (sym (append-nil g.got)) ∙ g.same [] ∙ ap (λ l. line ++ l) (append-nil last.held)) some
 
 -- a piece before the line, if it isn't skipped, is empty
-piece_before : (skipping : Bool) (lines : List ℕ) → EndsSo skipping lines → skipping ≡ false → piece_behind [] lines ≡ []
+pub piece_before : (skipping : Bool) (lines : List ℕ) → EndsSo skipping lines → skipping ≡ false → piece_behind [] lines ≡ []
 piece_before false lines ends e = ends
 piece_before true lines ends e = cc
 
@@ -158,17 +158,17 @@ told_first l0 l1 mid st told p = (
 -- ---- the whole lines of what was taken, where no line comes any more
 
 -- of the bytes behind the lines that were done a front is skipped, and the rest is a piece of a line
-record Settled (skipping : Bool) (lines bytes text : List ℕ) : Type 0 where
-  front : List ℕ
-  all : bytes ≡ front ++ text
-  none : unskipped skipping front ≡ []
-  whole : AreWholeLines (lines ++ front)
+pub record Settled (skipping : Bool) (lines bytes text : List ℕ) : Type 0 where
+  pub front : List ℕ
+  pub all : bytes ≡ front ++ text
+  pub none : unskipped skipping front ≡ []
+  pub whole : AreWholeLines (lines ++ front)
 
 -- what stands behind the last newline ends a whole line
 abbrev IsWholePiece : List ℕ → Type 0
 IsWholePiece piece = (piece ≡ []) ⊎ (65535 < length piece)
 
-settled : (skipping : Bool) (lines bytes text : List ℕ) → EndsSo skipping lines → unskipped skipping bytes ≡ text → Settled skipping lines bytes text
+pub settled : (skipping : Bool) (lines bytes text : List ℕ) → EndsSo skipping lines → unskipped skipping bytes ≡ text → Settled skipping lines bytes text
 settled false lines bytes text ends e = record { front = []; all = e; none = refl; whole = inl (ap (piece_behind []) (append-nil lines) ∙ ends) }
 settled true lines bytes [] ends e = record {
   front = bytes;

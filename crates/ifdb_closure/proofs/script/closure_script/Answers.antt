@@ -1,0 +1,9 @@
+use Rattle.std.proofs.Common.{rules}
+use Rattle.ifdb_closure.specs.Ran.{RanWhole}
+use Rattle.ifdb_closure.proofs.RanLaws.{keeps_levels}
+use Rattle.ifdb_closure.proofs.script.closure_script.Goals as goal
+
+pub returns-clause-worlds : goal.returns-clause-worlds
+returns-clause-worlds g c = λ done.
+    let ran : RanWhole c.args.limit (g.R.Source.left c.args.input.now) (g.R.Source.left c.run_lines.new.input) (g.W.Sink.written c.args.output.now) (g.W.Sink.written c.run_lines.new.output) = search rules in
+    keeps_levels _ _ _ _ _ ran
