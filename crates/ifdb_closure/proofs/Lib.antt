@@ -9,6 +9,8 @@ pub mod ReadingBack
 pub mod Examples
 pub mod Parting
 pub mod Asking
+pub mod Seats
+pub mod CallTurns
 pub mod Turns
 pub mod Progress
 pub mod RanLaws

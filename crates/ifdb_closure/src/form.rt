@@ -164,30 +164,35 @@ fn name_in(lexeme: &Lexeme) -> Option<&Name>
     }
 }
 
+/// Whether a lexeme is CALL.
 fn is_call(lexeme: &Lexeme) -> bool
     ensures { result ≡ is_call lexeme.now }
 {
     matches!(lexeme, Lexeme::Call)
 }
 
+/// Whether a lexeme is CREATE.
 fn is_create(lexeme: &Lexeme) -> bool
     ensures { result ≡ is_create lexeme.now }
 {
     matches!(lexeme, Lexeme::Create)
 }
 
+/// Whether a lexeme is CLOSURE.
 fn is_closure(lexeme: &Lexeme) -> bool
     ensures { result ≡ is_closure lexeme.now }
 {
     matches!(lexeme, Lexeme::Closure)
 }
 
+/// Whether a lexeme is AS.
 fn is_as(lexeme: &Lexeme) -> bool
     ensures { result ≡ is_as lexeme.now }
 {
     matches!(lexeme, Lexeme::As)
 }
 
+/// Whether a lexeme is a semicolon.
 fn is_end(lexeme: &Lexeme) -> bool
     ensures { result ≡ is_end lexeme.now }
 {

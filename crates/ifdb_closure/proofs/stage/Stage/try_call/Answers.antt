@@ -1,6 +1,7 @@
 use Rattle.std.proofs.Common.{◌∙◌, ◌++◌, ◌∷◌, [], sym, ap, refl, map, Some}
 use Rattle.std.proofs.lemmas.Result.{err_from_is_err_and}
-use Rattle.ifdb_closure.proofs.Turns.{label_made, lacking_turned, caller_there, call_made}
+use Rattle.ifdb_closure.proofs.Seats.{label_made}
+use Rattle.ifdb_closure.proofs.Turns.{lacking_turned, caller_there, call_made}
 use Rattle.ifdb_closure.proofs.stage.Stage.try_call.Goals as goal
 
 pub label_line-requires : goal.label_line-requires
