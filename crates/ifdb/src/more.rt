@@ -1,6 +1,7 @@
 // The one call that does all that the program does.
 ghost use Rattle.std.specs.Prelude.{◌≡◌, ◌≤◌};
-ghost use Rattle.ifdb_closure.specs.Bounds.{CallsLeaveSessions, CallsStayWithin, RefusedCallsCommitNothing};
+ghost use Rattle.ifdb_closure.specs.Bounds.{CallsLeaveSessions, CallsStayWithin};
+ghost use Rattle.ifdb_closure.specs.ScriptBounds.{ScriptCallsCommitNothing};
 ghost use Rattle.ifdb_trace.specs.Laws.{ProjectionIsHeard};
 ghost use Rattle.ifdb_words.specs.First.{behind_first};
 ghost use Rattle.ifdb.specs.Base.{DoesBase};
@@ -15,7 +16,7 @@ use crate::closures::closures;
 use crate::keep::keep;
 use crate::project::project;
 use crate::top::{Status, top};
-use ifdb_closure::call_bounds;
+use ifdb_closure::{call_bounds, script_calls_are_bound};
 use ifdb_disk::Shelf;
 use ifdb_io::{Sink, Site, Source};
 use ifdb_trace::projections_are_heard;
@@ -79,7 +80,7 @@ pub fn top_more<T: AllocGlobal + Threads + Wait + Sync, R: Source, W: Sink, S: S
         (behind_first words.now) input.old input.new output.old output.new result }
     ensures calls_within { CallsStayWithin }
     ensures calls_apart { CallsLeaveSessions }
-    ensures calls_refused { RefusedCallsCommitNothing }
+    ensures calls_refused { ScriptCallsCommitNothing }
 
     // What is so at every end.
     ensures other_site { (IsBase words.now → ⊥) → site.new ≡ site.old }
@@ -91,6 +92,7 @@ pub fn top_more<T: AllocGlobal + Threads + Wait + Sync, R: Source, W: Sink, S: S
 {
     projections_are_heard();
     call_bounds();
+    script_calls_are_bound();
     match words {
         [word, rest @ ..] if word.as_str() == "check" => check(rt.alloc(), rest, input, output),
         [word, rest @ ..] if word.as_str() == "project" => {

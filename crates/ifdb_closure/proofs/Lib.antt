@@ -16,3 +16,4 @@ pub mod Progress
 pub mod RanLaws
 pub mod Named
 pub mod Made
+pub mod ScriptBounds

@@ -2,6 +2,7 @@
 ghost use Rattle.ifdb_closure.specs.Bounds.{CallsLeaveSessions, CallsStayWithin, RefusedCallsCommitNothing};
 ghost use Rattle.ifdb_closure.specs.Lacking.{MemoryServes};
 ghost use Rattle.ifdb_closure.specs.Laws.{ClosuresAlone, ClosuresTwoWorlds, IdleSessionsAreNotSeen, OthersAreNotSeen, ReadClosuresTwoWorlds, ReadsBack};
+ghost use Rattle.ifdb_closure.specs.ScriptBounds.{ScriptCallsCommitNothing};
 ghost use Rattle.ifdb_db.specs.Reading.{read_line};
 
 /// Sessions do the same without the others; and one that adds nothing to the log changes nothing for those below its number.
@@ -34,4 +35,9 @@ pub fn call_bounds()
 /// Where no step lacks memory, a script is told what its steps are told.
 pub fn memory_serves()
     ensures { MemoryServes }
+{}
+
+/// In each world of a script, as the program reads it, a refused call of one of its closures commits nothing.
+pub fn script_calls_are_bound()
+    ensures { ScriptCallsCommitNothing }
 {}

@@ -12,7 +12,10 @@ mod script;
 mod stage;
 mod statements;
 
-pub use laws::{call_bounds, idle_sessions, lines_are_read_back, memory_serves, two_worlds};
+pub use laws::{
+    call_bounds, idle_sessions, lines_are_read_back, memory_serves, script_calls_are_bound,
+    two_worlds,
+};
 pub use script::{ClosureEnd, closure_script};
 
 #[cfg(test)]
