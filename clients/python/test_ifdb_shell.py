@@ -283,7 +283,9 @@ class AtATerminal(OverAServer):
         shell.expect("{}\nann {}> ")
         shell.type("\x1b[A\n")  # the line before
         shell.expect("{}\nann {}> ")
-        shell.type("SELECT nothing\x03")
+        shell.type("\x1b[A")
+        shell.expect("SHOW LABEL")  # so the line is being edited, and isn't only about to be
+        shell.type("\x03")
         shell.expect("ann {}> ")
         shell.type("SHOW LABEL\n")
         shell.expect("{}\nann {}> ")
