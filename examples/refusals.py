@@ -1,10 +1,12 @@
 #!/usr/bin/env python3
 """Refuses each request for memory of the built program in turn, on each example, and looks at what it answers.
 
-`run` and `keep`: where no memory was there to begin with, it has to end with status 4 and write nothing. Else each step is answered
-as if the steps that were told error 20 weren't in the script, and those are told nothing else; and the next `keep` over the file
-goes on. `check` of the recorded run accepts it, or ends with status 4 and writes nothing. `project` writes what it writes with all
-memory, or a front of that and ends with status 4. Run it at the top of the repository, with the program built and a C compiler there:
+`run`, `keep` and `closures`: where no memory was there to begin with, it has to end with status 4 and write nothing. Else each step is
+answered as if the steps that were told error 20 weren't in the script, and those are told nothing else; and the next `keep` over the
+file goes on. So a CALL that met want of memory anywhere in its session is told error 20, left nothing behind, and the script goes on.
+`check` of the recorded run accepts it, or ends with status 4 and writes nothing. `project` writes what it writes with all memory, or a
+front of that and ends with status 4. Scripts in a folder `closures` are run by `closures` alone, and all others by the other four.
+Run it at the top of the repository, with the program built and a C compiler there:
 
     examples/refusals.py [SCRIPT..]       the variable IFDB names another program than crates/ifdb/out/ifdb
 """
@@ -13,6 +15,7 @@ import pathlib
 import subprocess
 import sys
 import tempfile
+from functools import partial
 
 from record import recorded
 
@@ -50,8 +53,8 @@ def is_refused(reply):
     return reply.split(b" ", 1)[1:] == [b"ERR 20 OutOfMemory\n"]
 
 
-def fault_of_script(script, status, written):
-    """What is wrong with how a script was answered, or None."""
+def fault_of_script(words, script, status, written):
+    """What is wrong with how a script was answered, or None. The same words are asked the script without its refused steps."""
     if status == NO_MEMORY:
         return "there was no memory, and something was written" if written else None
     if status:
@@ -60,7 +63,7 @@ def fault_of_script(script, status, written):
     if len(steps) != len(replies):
         return f"{len(steps)} steps have {len(replies)} replies"
     kept = b"".join(step for step, reply in zip(steps, replies) if not is_refused(reply))
-    if run(["run"], kept)[1] != b"".join(it for it in replies if not is_refused(it)):
+    if run(words, kept)[1] != b"".join(it for it in replies if not is_refused(it)):
         return "others than the refused steps are answered otherwise"
     return None
 
@@ -88,20 +91,22 @@ class Word:
 def words_of(path, folder):
     """The words that are tried on a script."""
     script = path.read_bytes()
+    if path.resolve().parent.name == "closures":
+        return [Word("closures", ["closures"], script, partial(fault_of_script, ["closures"]))]
     trace = b"".join(recorded(script.splitlines(keepends=True), [PROGRAM, "run"]))
     level = ["project", "--tags", "none"]
     whole = run(level, script)[1]
     file = folder / "journal"
     return [
-        Word("run", ["run"], script, fault_of_script),
-        Word("keep", ["keep", "--file", str(file)], script, fault_of_script, file),
+        Word("run", ["run"], script, partial(fault_of_script, ["run"])),
+        Word("keep", ["keep", "--file", str(file)], script, partial(fault_of_script, ["run"]), file),
         Word("check", ["check"], trace, lambda text, status, written: None if (status, written) in [(0, b"ACCEPTED\n"), (NO_MEMORY, b"")] else f"status {status}, {written!r}"),
         Word("project", level, script, lambda text, status, written: None if (status == 0 and written == whole) or (status == NO_MEMORY and whole.startswith(written)) else f"status {status}"),
     ]
 
 
 def main(names):
-    scripts = [pathlib.Path(it) for it in names] or sorted(HERE.glob("*.script"))
+    scripts = [pathlib.Path(it) for it in names] or sorted(HERE.glob("*.script")) + sorted(HERE.glob("closures/*.script"))
     with tempfile.TemporaryDirectory() as work:
         shim = pathlib.Path(work) / "refuse.so"
         subprocess.run(["cc", "-O1", "-shared", "-fPIC", "-o", shim, HERE / "refuse.c", "-ldl"], check=True)
