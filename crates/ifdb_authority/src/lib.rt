@@ -18,6 +18,3 @@ pub use laws::{
     changes_touch_one_grant, compounds_give_members, grants_stand_once, more_grants_hold_more,
     steps_suffice,
 };
-
-#[cfg(test)]
-mod tests;

@@ -17,6 +17,3 @@ pub use laws::{
     two_worlds,
 };
 pub use script::{ClosureEnd, closure_script};
-
-#[cfg(test)]
-mod tests;

@@ -11,6 +11,3 @@ mod laws;
 pub use judge::{Judged, verdict};
 pub use later::{LaterWrite, newer};
 pub use laws::judged_over_a_log;
-
-#[cfg(test)]
-mod tests;

@@ -6,8 +6,6 @@ mod disk;
 mod memory_disk;
 mod memory_shelf;
 mod shelf;
-#[cfg(test)]
-mod tests;
 mod through;
 mod track;
 

@@ -24,6 +24,3 @@ pub use laws::{authority_comes_first, view_rows_are_seen};
 pub use seen_row::{SeenRow, value_in};
 pub use std::alloc::AllocError as OutOfMemory;
 pub use value_ref::ValueRef;
-
-#[cfg(test)]
-mod tests;

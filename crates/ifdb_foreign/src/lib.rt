@@ -13,6 +13,3 @@ pub use broken::{LeftRow, first_broken, first_left};
 pub use parent::bind_parent;
 pub use standpoint::Standpoint;
 pub use std::alloc::AllocError as OutOfMemory;
-
-#[cfg(test)]
-mod tests;

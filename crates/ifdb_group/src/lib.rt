@@ -20,6 +20,3 @@ pub use order::sorted;
 pub use sink::Sink;
 pub use std::alloc::AllocError as OutOfMemory;
 pub use total::Total;
-
-#[cfg(test)]
-mod tests;

@@ -12,8 +12,6 @@ mod outside;
 mod reads;
 mod sinks;
 mod sources;
-#[cfg(test)]
-mod tests;
 mod writes;
 
 pub use doors::{Asked, Door, Site, SiteFault};

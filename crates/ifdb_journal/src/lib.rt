@@ -6,8 +6,6 @@ mod found;
 mod journal;
 mod laws;
 mod record;
-#[cfg(test)]
-mod tests;
 mod text;
 mod window;
 

@@ -12,6 +12,3 @@ mod tag;
 pub use label::Label;
 pub use std::alloc::AllocError as OutOfMemory;
 pub use tag::{Tag, TagFault, TagKind, Tags};
-
-#[cfg(test)]
-mod tests;

@@ -11,6 +11,3 @@ mod token;
 pub use fault::LexFault;
 pub use lexer::lex;
 pub use token::{Token, TokenKind, Tokens};
-
-#[cfg(test)]
-mod tests;

@@ -12,6 +12,3 @@ pub use keyed::are_keyed;
 pub use source_key::{key_beside, key_operands, whole_key};
 pub use std::alloc::AllocError as OutOfMemory;
 pub use test::{Test, hold_at, hold_from, tests};
-
-#[cfg(test)]
-mod plan_tests;

@@ -11,6 +11,3 @@ pub use laws::memory_is_refused_alone;
 pub use rehearsal::rehearse;
 pub use rehearsed::Rehearsed;
 pub use script::{ScriptEnd, run_script};
-
-#[cfg(test)]
-mod tests;

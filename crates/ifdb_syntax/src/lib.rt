@@ -25,6 +25,3 @@ pub use place::{CondPlace, ExprPlace};
 pub use printing::print;
 pub use request::{Assignment, Assignments, ForeignKey, ForeignKeys, Request};
 pub use select::{ColumnRefs, Item, Items, Order, OrderBy, Orders, Select, Source, Sources};
-
-#[cfg(test)]
-mod tests;

@@ -17,6 +17,3 @@ pub use kinds::NamedEntry;
 pub use object::Object;
 pub use turn::Turn;
 pub use turnstile::{NoTurnstile, Pass, Turnstile};
-
-#[cfg(test)]
-mod tests;

@@ -24,6 +24,3 @@ pub use shared::Shared;
 pub use std::alloc::AllocError as OutOfMemory;
 pub use value::{Compare, TermKind, Value, ValueKind, ValueRow, ValueRows};
 pub use word::Word;
-
-#[cfg(test)]
-mod tests;

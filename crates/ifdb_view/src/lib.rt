@@ -17,6 +17,3 @@ pub use fault::ViewFault;
 pub use std::alloc::AllocError as OutOfMemory;
 pub use view_rows::rows_of;
 pub use views::Views;
-
-#[cfg(test)]
-mod tests;

@@ -11,6 +11,3 @@ pub use buffer::Out;
 pub use fault::Fault;
 pub use reply::{Reply, Table};
 pub use script::{StepLine, step_line};
-
-#[cfg(test)]
-mod tests;

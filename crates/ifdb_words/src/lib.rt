@@ -13,8 +13,6 @@ mod project;
 mod run;
 mod serve;
 mod service;
-#[cfg(test)]
-mod tests;
 
 pub use command::{Command, Text, command_of};
 pub use file_name::FileName;

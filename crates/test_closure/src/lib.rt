@@ -1,0 +1,5 @@
+//! Tests of `closure_script`: worked scripts.
+#![tactic(auto)]
+
+#[cfg(test)]
+mod tests;

@@ -1,0 +1,5 @@
+//! Tests of `Turnstile`: threads at one object.
+#![tactic(auto)]
+
+#[cfg(test)]
+mod tests;

@@ -1,0 +1,5 @@
+//! Tests of names, values, lists and boxes.
+#![tactic(auto)]
+
+#[cfg(test)]
+mod tests;
