@@ -34,13 +34,24 @@ fn a_statement_writes_over_a_public_state(rt: HostRuntime) -> Result<(), Fail> {
 /// The public state with the table of notes alone.
 fn with_notes(rt: &impl Abort, alloc: Global) -> Result<Catalog, Fail> {
     let mut catalog = Catalog::opening(alloc)?;
+    match add_notes(rt, alloc, &mut catalog) {
+        Ok(()) => Ok(catalog),
+        Err(fail) => {
+            drop(catalog);
+            Err(fail)
+        }
+    }
+}
+
+/// Adds the table of notes to a public state without it.
+fn add_notes(rt: &impl Abort, alloc: Global, catalog: &mut Catalog) -> Result<(), Fail> {
     let schema = note_of(alloc)?;
     assert!(rt; catalog.relation(&schema.name).is_none());
     catalog.apply(Change::Table {
         asker: Principal(0),
         schema,
     })?;
-    Ok(catalog)
+    Ok(())
 }
 
 /// What an INSERT of one note writes, where there is none.
