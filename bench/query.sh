@@ -42,6 +42,7 @@ for count in (10000, 100000):
     timed("scan with a condition and COUNT", all_of(f"SELECT COUNT(*) FROM a WHERE second < {count // 4}"))
     timed("GROUP BY with COUNT and SUM", all_of("SELECT second, COUNT(*), SUM(third) FROM a GROUP BY second"))
     timed("ORDER BY", all_of("SELECT id, third FROM a ORDER BY third"))
+    timed("a range of a hundred keys", all_of(f"SELECT third FROM a WHERE id > {count // 2} AND id < {count // 2 + 101}"))
     timed("look-ups of a key", look_ups)
     timed("join on the key", all_of("SELECT a.id, b.id FROM a, b WHERE a.id = b.id"))
     timed("join on another column", all_of("SELECT a.id, b.id FROM a, b WHERE a.third = b.third"))

@@ -20,6 +20,15 @@ pub(crate) fn look_up(alloc: Global, number: i64) -> Result<BoundSelect, OutOfMe
     Ok(request)
 }
 
+/// `SELECT a.third FROM a WHERE a.key > NUMBER AND a.key < OTHER`.
+pub(crate) fn range(alloc: Global, number: i64, other: i64) -> Result<BoundSelect, OutOfMemory> {
+    let mut request = select(alloc, item(0, 2))?;
+    let mut bounds = Sequence::single(alloc, compared(0, Compare::Greater, number))?;
+    bounds.push(compared(0, Compare::Less, other))?;
+    request.cond = Some(BoundCond::And(bounds));
+    Ok(request)
+}
+
 /// `SELECT a.key, b.key FROM a, b WHERE a.COLUMN = b.COLUMN`.
 pub(crate) fn join(alloc: Global, column: usize) -> Result<BoundSelect, OutOfMemory> {
     let mut request = select(alloc, item(0, 0))?;

@@ -6,7 +6,7 @@ ghost use Rattle.ifdb_plan.specs.Keys.{are_keyed};
 ghost use Rattle.ifdb_exec.specs.Given.{are_given_keyed};
 
 use crate::checks::are_public;
-use crate::requests::{groups, join, look_up, order, scan};
+use crate::requests::{groups, join, look_up, order, range, scan};
 use crate::tables::{all_rows, apart_rows, scattered};
 use ifdb_bound::BoundSelect;
 use ifdb_exec::{Given, Reading, answer};
@@ -145,6 +145,14 @@ fn ask_one(rt: &HostRuntime, asked: &Asked<'_, '_>, count: u32) -> io::Result<()
         &given,
     )?;
     told(rt, asked, "ORDER BY", &order(alloc)?, &given)?;
+    let half = i64::from(count / 2);
+    told(
+        rt,
+        asked,
+        "a range of a hundred keys",
+        &range(alloc, half, half.wrapping_add(101))?,
+        &given,
+    )?;
     ask_keys(rt, asked, count, &given)
 }
 

@@ -1,3 +1,4 @@
 pub mod Testing
 pub mod Equating
 pub mod Keying
+pub mod Ranging

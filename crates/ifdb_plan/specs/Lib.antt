@@ -1,3 +1,4 @@
 pub mod Tests
 pub mod Equations
 pub mod Keys
+pub mod Ranges

@@ -4,11 +4,13 @@
 
 mod equation;
 mod keyed;
+mod range;
 mod source_key;
 mod test;
 
 pub use equation::{Equation, equation_in};
 pub use keyed::are_keyed;
-pub use source_key::{key_beside, key_operands, whole_key};
+pub use range::{cond_range, key_range};
+pub use source_key::{key_beside, key_operands};
 pub use std::alloc::AllocError as OutOfMemory;
 pub use test::{Test, hold_at, hold_from, tests};

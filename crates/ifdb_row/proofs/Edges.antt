@@ -2,7 +2,7 @@
 use Rattle.std.proofs.Common.{◌≡◌, ◌≤◌, true, false, List, ◌∙◌, refl, ap, arith, Ordering}
 use Rattle.std.specs.Prelude.{not}
 use Rattle.std.specs.declared.cmp.Ordering.TheVariants.{Less, Equal, Greater}
-use Rattle.std.specs.Ordering.{is_lt, is_gt, ordering_then}
+use Rattle.std.specs.Ordering.{is_lt, is_le, is_gt, ordering_then}
 use Rattle.std.specs.Cmp.{IsTotalOrder}
 use Rattle.std.proofs.lemmas.Bool.Decides.{nat_tests}
 use Rattle.std.proofs.lemmas.Cmp.{lists_total}
@@ -12,9 +12,10 @@ use Rattle.ifdb_row.specs.Slots.{key_cmp, label_cmp, slot_cmp, slot_lt}
 use Rattle.ifdb_value.proofs.ValueOrder.{value_total}
 use Rattle.ifdb_row.proofs.SlotOrder.{slot_lt_trans}
 use Rattle.ifdb_row.specs.declared.edge.Edge.{Edge}
-use Rattle.ifdb_row.specs.declared.edge.Edge.TheVariants.{Table, Key, At, Behind}
+use Rattle.ifdb_row.specs.declared.edge.Edge.TheVariants.{Table, Key, Past, At, Behind}
 use Rattle.ifdb_row.specs.Edges.{lies_before, slot_at}
 use Rattle.ifdb_row.proofs.Rising.{Falls}
+use Rattle.ifdb_row.proofs.Fronts.{front_falls}
 
 pub key_total : IsTotalOrder key_cmp
 key_total = lists_total value_total
@@ -51,5 +52,6 @@ before_down slot p q h k = grind (arith, nat_tests, slot_lt_trans slot p q)
 pub edge_falls : (e : Edge) → Falls (lies_before e)
 edge_falls (Table t) p q h k = let l = slot_lt_table p q h in grind (arith, nat_tests)
 edge_falls (Key t m) p q h k = grind (arith, nat_tests, slot_lt_table p q h, slot_lt_key p q h, at_most_lt p.key q.key m.now (key_cmp p.key q.key) refl)
+edge_falls (Past t m) p q h k = grind (arith, nat_tests, slot_lt_table p q h, slot_lt_key p q h, front_falls is_le refl refl p.key q.key m.now)
 edge_falls (At s) p q h k = slot_lt_trans p q s.now h k
 edge_falls (Behind t m l) p q h k = before_down (slot_at t m.now l.now) p q h k

@@ -3,7 +3,7 @@ ghost use Rattle.std.specs.Prelude.{◌≡◌};
 ghost use Rattle.ifdb_row.specs.Slots.{slot_lt};
 ghost use Rattle.ifdb_row.specs.Edges.{lies_before, slot_at};
 
-use crate::order::compare_keys;
+use crate::order::{compare_front, compare_keys};
 use crate::slot::{Key, Slot};
 use ifdb_label::Label;
 use ifdb_value::{TableId, Value};
@@ -16,6 +16,8 @@ pub enum Edge<'a> {
     Table(TableId),
     /// Before all slots of a table's key.
     Key(TableId, &'a [Value]),
+    /// Behind all slots of a table whose keys begin with these values.
+    Past(TableId, &'a [Value]),
     /// Before a slot.
     At(&'a Slot),
     /// Behind the slot with these parts.
@@ -32,6 +34,13 @@ impl<'a> Edge<'a> {
             Edge::Key(table, key) => {
                 if slot.table == *table {
                     compare_keys(slot.key.items(), key).is_lt()
+                } else {
+                    slot.table < *table
+                }
+            }
+            Edge::Past(table, values) => {
+                if slot.table == *table {
+                    compare_front(slot.key.items(), values).is_le()
                 } else {
                     slot.table < *table
                 }

@@ -1,5 +1,6 @@
 // The order of keys and of slots.
 ghost use Rattle.std.specs.Prelude.{◌≡◌};
+ghost use Rattle.ifdb_row.specs.Fronts.{front_cmp};
 ghost use Rattle.ifdb_row.specs.Slots.{is_of_key, is_same_slot, key_cmp, slot_cmp, slot_lt};
 
 use crate::slot::Slot;
@@ -57,6 +58,22 @@ pub fn compare_keys(key: &[Value], other: &[Value]) -> Ordering
             [] => Ordering::Greater,
             [second, others @ ..] => match first.compare(second) {
                 Ordering::Equal => compare_keys(rest, others),
+                order => order,
+            },
+        },
+    }
+}
+
+/// The order of a key's first values and as many others; a key that has fewer stands before them. Takes no memory.
+pub fn compare_front(key: &[Value], values: &[Value]) -> Ordering
+    ensures { result ≡ front_cmp key.now values.now }
+{
+    match values {
+        [] => Ordering::Equal,
+        [value, values @ ..] => match key {
+            [] => Ordering::Less,
+            [first, rest @ ..] => match first.compare(value) {
+                Ordering::Equal => compare_front(rest, values),
                 order => order,
             },
         },

@@ -1,13 +1,15 @@
 // Questions to rows.
-ghost use Rattle.std.specs.Prelude.{◌≡◌, ◌==◌, List, None, Some, IsTrue, slice_get, take_while};
+ghost use Rattle.std.specs.Prelude.{◌≡◌, ◌==◌, ◌&&◌, IfSome, List, None, Some, IsTrue, slice_get, take_while};
 ghost use Rattle.std.specs.Option.{option_copied};
 ghost use Rattle.ifdb_row.specs.declared.row.Row.{Row as AnyRow};
 ghost use Rattle.ifdb_row.specs.Content.{rising};
 ghost use Rattle.ifdb_row.specs.Reach.{is_parted};
 ghost use Rattle.ifdb_row.specs.Questions.{IsRun, bound_behind, first_row_from, has_key, if_passes, later_rows, next_behind};
 ghost use Rattle.ifdb_row.specs.Questions.{of_key_behind, row_at, rows_behind, rows_from, stands_in};
+ghost use Rattle.ifdb_row.specs.Ranges.{is_below, is_slot_below, is_slot_in, rows_within};
 
 use crate::edge::Edge;
+use crate::range::KeyRange;
 use crate::row::Row;
 use crate::slot::Slot;
 use ifdb_label::Label;
@@ -111,6 +113,46 @@ pub trait Rows {
         }
         of_table(run, table)
     }
+
+    /// The table's first rows of a range of keys behind a slot of that range, or its first rows: as many as lie side by side
+    /// in memory, and none exactly where there are none. So a walk pays a search for each run of rows, and looks at no row
+    /// beyond the range but those in which two binary searches end.
+    final fn within(&self, table: TableId, range: &KeyRange, after: Option<&Slot>) -> &[Shared<Row>]
+        requires after { IfSome (option_copied after) (λ s. IsTrue (is_slot_in table range.now s)) }
+        ensures run { IsRun result.now
+            (rows_within table range.now (option_copied after.entry) (rows self.now)) }
+        ensures rising { IsTrue (rising (rows self.now)) }
+    {
+        match after {
+            None => self.first_within(table, range),
+            Some(slot) => self.within_behind(table, range, slot),
+        }
+    }
+
+    /// The table's first rows of a range of keys.
+    final fn first_within(&self, table: TableId, range: &KeyRange) -> &[Shared<Row>]
+        ensures run { IsRun result.now (rows_within table range.now None (rows self.now)) }
+        ensures rising { IsTrue (rising (rows self.now)) }
+    {
+        let _key: Option<&[Value]> = None;
+        let _slot: Option<&Slot> = None;
+        let _label: Option<&Label> = None;
+        below(self.run_from(&range.low.edge(table)), table, range)
+    }
+
+    /// The table's first rows of a range of keys behind a slot of that range.
+    final fn within_behind(&self, table: TableId, range: &KeyRange, slot: &Slot) -> &[Shared<Row>]
+        requires slot { IsTrue (is_slot_in table range.now slot.now) }
+        ensures run { IsRun result.now (rows_within table range.now (Some slot.now) (rows self.now)) }
+        ensures rising { IsTrue (rising (rows self.now)) }
+    {
+        let key: &[Value] = slot.key.items();
+        below(
+            self.run_from(&Edge::Behind(slot.table, key, &slot.label)),
+            table,
+            range,
+        )
+    }
 }
 
 /// The first row of a run of rows; `None` exactly where it has none.
@@ -130,6 +172,22 @@ fn of_table(rows: &[Shared<Row>], table: TableId) -> &[Shared<Row>]
 {
     let count = rows.partition_point(|row| row.get().slot.table == table);
     &rows[..count]
+}
+
+/// The rows of a table at the front whose keys stand before the end of a range.
+fn below<'r>(rows: &'r [Shared<Row>], table: TableId, range: &KeyRange) -> &'r [Shared<Row>]
+    requires { IsTrue (is_parted (is_below table range.now) rows.now) }
+    ensures { result.now ≡ take_while (is_below table range.now) rows.now }
+{
+    let count = rows.partition_point(|row| is_below(&row.get().slot, table, range));
+    &rows[..count]
+}
+
+/// Whether a slot is of a table, and its key stands before the end of a range.
+fn is_below(slot: &Slot, table: TableId, range: &KeyRange) -> bool
+    ensures { result ≡ is_slot_below table range.now slot.now }
+{
+    slot.table == table && range.high.is_behind(slot.key.items())
 }
 
 /// The row, if it stands in the slot.

@@ -28,6 +28,7 @@ impl Mark {
         match edge {
             Edge::Table(table) => Mark::at(*table, &[]),
             Edge::Key(table, key) => Mark::at(*table, key),
+            Edge::Past(table, values) => Mark::at(*table, values),
             Edge::At(slot) => Mark::of_slot(slot),
             Edge::Behind(table, key, _) => Mark::at(*table, key),
         }

@@ -17,9 +17,3 @@ pub all_miss : {X : Type 0} (test : X → Bool) (xs : List X) (k : ℕ) (x : X) 
 all_miss test [] k x lt at h = absurd (omega arith)
 all_miss test (y ∷ xs) zero x lt at h = let e = ap test at ∙ h in grind (arith, nat_tests)
 all_miss test (y ∷ xs) (suc k) x lt at h = grind (arith, nat_tests, all_miss test xs k x (omega arith) at h)
-
--- the wanted rows of a table are those that match
-pub wanted_match : (tags : List MadeTag) (t : ℕ) (cond : Option BoundCond) (label : List ℕ) (rows : List Row)
-    → filter (is_wanted tags cond label) (later_rows t None rows) ≡ matched tags rows t cond label
-wanted_match tags t cond label [] = refl
-wanted_match tags t cond label (r ∷ rows) = grind (arith, nat_tests, wanted_match tags t cond label rows)

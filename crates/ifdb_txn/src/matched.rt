@@ -7,7 +7,7 @@ ghost use Rattle.ifdb_row.specs.Seen.{are_rows_made};
 ghost use Rattle.ifdb_row.specs.Slots.{is_same_label};
 ghost use Rattle.ifdb_foreign.specs.Parents.{IsMade};
 ghost use Rattle.ifdb_model.specs.Writes.{are_writable, deletion};
-ghost use Rattle.ifdb_plan.specs.Keys.{HasKey};
+ghost use Rattle.ifdb_plan.specs.Ranges.{HasRange};
 ghost use Rattle.ifdb_txn.specs.Matches.{is_wanted, now_of, wanted_of};
 ghost use Rattle.ifdb_txn.specs.Scenes.{are_under_keys, matched_of};
 
@@ -17,14 +17,15 @@ use ifdb_bound::BoundCond;
 use ifdb_expr::{Frame, SeenRow, holds};
 use ifdb_foreign::Standpoint;
 use ifdb_label::Label;
-use ifdb_plan::whole_key;
-use ifdb_row::{Row, Rows, Slot, Write};
+use ifdb_plan::cond_range;
+use ifdb_row::{KeyRange, Row, Rows, Slot, Write};
 use ifdb_value::{Shared, Value};
 use std::alloc::Global;
 
 /// The rows of the table that the session's label sees and of which the condition holds, in the order of slots.
 ///
-/// Where the condition gives the whole key, only the rows of that key are looked at; else all rows of the table.
+/// Only the rows of the range in which literals of the condition leave the key are looked at: where they give the whole key,
+/// those of that key alone.
 pub(crate) fn matched<'a, R: Rows>(
     target: &Target<'_>,
     rows: &'a R,
@@ -36,42 +37,20 @@ pub(crate) fn matched<'a, R: Rows>(
         ≡ matched_of target.now (R.rows rows.now) cond.now) }
     ensures rising { IfOk result (λ found. IsTrue (rising (map now_of found.items))) }
 {
-    match whole_key(target.alloc, cond, target.schema.key.items())? {
-        Some(key) => matched_of_key(target, rows, cond, key.items()),
-        None => matched_of_table(target, rows, cond),
-    }
+    let range = cond_range(target.alloc, cond, target.schema.key.items())?;
+    matched_within(target, rows, cond, &range)
 }
 
-/// The same rows, where each row for which the condition holds is of a key: found by look-ups of that key.
-fn matched_of_key<'a, R: Rows>(
+/// The same rows, where each row for which the condition holds has its key in a range.
+fn matched_within<'a, R: Rows>(
     target: &Target<'_>,
     rows: &'a R,
     cond: &Option<BoundCond>,
-    key: &[Value],
+    range: &KeyRange,
 ) -> Result<Vec<&'a Row>, OutOfMemory>
     requires made { IsMade target.now.from (R.rows rows.now) }
     requires keyed { IsTrue (are_under_keys target.now (R.rows rows.now)) }
-    requires has_key { HasKey cond.now target.now.schema.now.key key.now }
-    ensures rows { IfOk result (λ found. map now_of found.items
-        ≡ matched_of target.now (R.rows rows.now) cond.now) }
-    ensures rising { IfOk result (λ found. IsTrue (rising (map now_of found.items))) }
-{
-    let mut found: Vec<&'a Row> = Vec::new(target.alloc);
-    let mut after: Option<&'a Label> = None;
-    'keyed: while let Some(row) = rows.of_key(target.table, key, after) {
-        keep_wanted(target.from, row, cond, &mut found)?;
-        after = Some(&row.slot.label);
-    }
-    Ok(found)
-}
-
-/// The same rows, found by a pass over the table.
-fn matched_of_table<'a, R: Rows>(
-    target: &Target<'_>,
-    rows: &'a R,
-    cond: &Option<BoundCond>,
-) -> Result<Vec<&'a Row>, OutOfMemory>
-    requires made { IsMade target.now.from (R.rows rows.now) }
+    requires has_range { HasRange cond.now target.now.schema.now.key range.now }
     ensures rows { IfOk result (λ found. map now_of found.items
         ≡ matched_of target.now (R.rows rows.now) cond.now) }
     ensures rising { IfOk result (λ found. IsTrue (rising (map now_of found.items))) }
@@ -79,7 +58,7 @@ fn matched_of_table<'a, R: Rows>(
     let mut found: Vec<&'a Row> = Vec::new(target.alloc);
     let mut after: Option<&'a Slot> = None;
     loop {
-        let run = rows.run(target.table, after);
+        let run = rows.within(target.table, range, after);
         let Some((last, _)) = run.split_last() else {
             return Ok(found);
         };

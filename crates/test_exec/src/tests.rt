@@ -4,6 +4,7 @@ mod clinic;
 mod counted;
 mod joins;
 mod key_look_ups;
+mod ranges;
 mod requests;
 mod sums;
 mod tables;

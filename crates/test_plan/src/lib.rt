@@ -1,4 +1,4 @@
-//! Tests of `whole_key` and of the parts of a condition.
+//! Tests of the ranges that conditions give a key, and of the parts of a condition.
 #![tactic(auto)]
 
 #[cfg(test)]

@@ -1,8 +1,8 @@
-// Whole keys of conditions, and parts of conditions.
+// Ranges of keys that conditions give, and parts of conditions.
 use ifdb_bound::{BoundColumn, BoundCond, BoundOperand};
 use ifdb_expr::{Frame, SeenRow};
-use ifdb_plan::{Test, equation_in, hold_at, hold_from, tests, whole_key};
-use ifdb_row::{OutOfMemory, compare_keys};
+use ifdb_plan::{Test, cond_range, equation_in, hold_at, hold_from, tests};
+use ifdb_row::OutOfMemory;
 use ifdb_value::{Compare, Sequence, Value, Word};
 use std::alloc::Global;
 use std::process::Abort;
@@ -37,52 +37,81 @@ fn all_of(
     Ok(BoundCond::And(parts))
 }
 
-/// Tests that a condition gives a key of the columns 1 and 0, or none.
-fn gives(
+/// Tests which keys of the columns 1 and 0 a condition leaves: these first ones, and none of the others.
+fn leaves(
     rt: &impl Abort,
     alloc: Global,
     cond: BoundCond,
-    want: Option<&[Value]>,
+    inside: &[[Value; 2]],
+    outside: &[[Value; 2]],
 ) -> Result<(), Fail> {
-    let cond = Some(cond);
-    let found = whole_key(alloc, &cond, &[1, 0])?;
-    match (&found, want) {
-        (None, None) => {}
-        (Some(key), Some(want)) => assert!(rt; compare_keys(key.items(), want).is_eq()),
-        _ => assert!(rt; false),
+    let range = cond_range(alloc, &Some(cond), &[1, 0])?;
+    for key in inside {
+        assert!(rt; range.contains(key));
+    }
+    for key in outside {
+        assert!(rt; !range.contains(key));
     }
     Ok(())
+}
+
+fn text(alloc: Global, text: &str) -> Result<Value, OutOfMemory> {
+    Ok(Value::Text(Word::of(alloc, text)?))
 }
 
 #[test]
 fn a_key_of_two_columns_is_given(rt: HostRuntime) -> Result<(), Fail> {
     let alloc = rt.alloc();
-    let text = Value::Text(Word::of(alloc, "b")?);
     let cond = all_of(
         alloc,
         equal(number(5), column(0, 0)),
         compared(column(0, 2), Compare::Less, number(3)),
-        equal(column(0, 1), BoundOperand::Literal(text)),
+        equal(column(0, 1), BoundOperand::Literal(text(alloc, "b")?)),
     )?;
-    let want = [Value::Text(Word::of(alloc, "b")?), Value::Int(5)];
-    gives(&rt, alloc, cond, Some(&want))?;
-    Ok(())
+    let inside = [[text(alloc, "b")?, Value::Int(5)]];
+    let outside = [
+        [text(alloc, "b")?, Value::Int(4)],
+        [text(alloc, "b")?, Value::Int(6)],
+        [text(alloc, "a")?, Value::Int(5)],
+        [text(alloc, "ba")?, Value::Int(5)],
+    ];
+    leaves(&rt, alloc, cond, &inside, &outside)
 }
 
 #[test]
-fn a_key_is_given_whole_or_not(rt: HostRuntime) -> Result<(), Fail> {
+fn a_first_column_is_bounded(rt: HostRuntime) -> Result<(), Fail> {
     let alloc = rt.alloc();
     let cond = all_of(
         alloc,
         equal(number(5), column(0, 0)),
         compared(column(0, 1), Compare::AtMost, number(3)),
-        equal(column(0, 1), column(0, 2)),
+        compared(number(0), Compare::Less, column(0, 1)),
     )?;
-    gives(&rt, alloc, cond, None)?;
+    let inside = [
+        [Value::Int(1), Value::Int(5)],
+        [Value::Int(3), Value::Int(i64::MAX)],
+    ];
+    let outside = [
+        [Value::Int(0), Value::Int(5)],
+        [Value::Int(4), Value::Int(5)],
+    ];
+    leaves(&rt, alloc, cond, &inside, &outside)
+}
+
+#[test]
+fn one_of_two_parts_leaves_all_keys(rt: HostRuntime) -> Result<(), Fail> {
+    let alloc = rt.alloc();
     let mut either = Sequence::single(alloc, equal(column(0, 0), number(1)))?;
     either.push(equal(column(0, 1), number(1)))?;
-    gives(&rt, alloc, BoundCond::Or(either), None)?;
-    Ok(())
+    let inside = [[Value::Int(7), Value::Int(8)]];
+    let outside: Vec<[Value; 2]> = Vec::new(alloc);
+    leaves(
+        &rt,
+        alloc,
+        BoundCond::Or(either),
+        &inside,
+        outside.as_slice(),
+    )
 }
 
 /// The parts of `a.0 = 1 AND b.0 = a.1 AND b.1 < 3`.

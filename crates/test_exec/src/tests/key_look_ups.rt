@@ -10,10 +10,10 @@ use std::alloc::Global;
 use std::process::Abort;
 use std::test::Fail;
 
-static KEY: [usize; 1] = [0];
+pub(super) static KEY: [usize; 1] = [0];
 
 /// A key at two labels, and rows of a second table that refer to keys of the first.
-static ROWS: [One; 6] = [
+pub(super) static ROWS: [One; 6] = [
     One(0, [1, 10, 0], Low),
     One(0, [1, 11, 0], High),
     One(0, [2, 20, 0], Low),
@@ -43,12 +43,12 @@ fn a_key_is_seen_at_each_label(rt: HostRuntime) -> Result<(), Fail> {
 #[test]
 fn a_later_source_gives_a_key(rt: HostRuntime) -> Result<(), Fail> {
     let request = of_key_given(rt.alloc(), 8)?;
-    let answered = of_two(&rt, rt.alloc(), &request)?;
+    let answered = of_two(&rt, rt.alloc(), High, &request)?;
     found(&rt, rt.alloc(), answered, 5, &[10, 8, 11, 8])
 }
 
 /// What a request answers over the first table.
-fn of_one(
+pub(super) fn of_one(
     rt: &impl Abort,
     alloc: Global,
     rows: &[One],
@@ -65,8 +65,13 @@ fn of_one(
     asked(rt, alloc, question)
 }
 
-/// What a request answers over both tables, at the label of a tag.
-fn of_two(rt: &impl Abort, alloc: Global, request: &BoundSelect) -> Result<Answered, Fail> {
+/// What a request answers over both tables, at a label.
+pub(super) fn of_two(
+    rt: &impl Abort,
+    alloc: Global,
+    at: At,
+    request: &BoundSelect,
+) -> Result<Answered, Fail> {
     let given = [
         Given::Keyed(TableId(0), &KEY),
         Given::Keyed(TableId(1), &KEY),
@@ -74,14 +79,14 @@ fn of_two(rt: &impl Abort, alloc: Global, request: &BoundSelect) -> Result<Answe
     let question = Question {
         rows: &ROWS,
         given: &given,
-        at: High,
+        at,
         request,
     };
     asked(rt, alloc, question)
 }
 
 /// Tests that an answer has these numbers, and that the rows were asked so often at most.
-fn found(
+pub(super) fn found(
     rt: &impl Abort,
     alloc: Global,
     answered: Answered,
@@ -93,7 +98,7 @@ fn found(
 }
 
 /// A thousand rows, whose numbers are their keys.
-fn thousand(alloc: Global) -> Result<Vec<One>, OutOfMemory> {
+pub(super) fn thousand(alloc: Global) -> Result<Vec<One>, OutOfMemory> {
     let mut rows = Vec::new(alloc);
     for key in 1..=1000i64 {
         rows.push(One(0, [key, key, 0], Low))?;

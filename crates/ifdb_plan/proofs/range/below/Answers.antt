@@ -1,0 +1,9 @@
+use Rattle.ifdb_row.specs.Ranges.{is_before}
+use Rattle.ifdb_value.specs.Value.{value_cmp}
+use Rattle.ifdb_plan.specs.Ranges.{is_before_high, is_behind_low, is_short}
+use Rattle.ifdb_plan.proofs.Ranging.{high_and}
+use Rattle.ifdb_plan.proofs.range.below.Goals as goal
+
+pub returns : goal.returns
+returns c v =
+    high_and (is_behind_low c.args.ends.low v) (is_before_high c.args.ends.high v) (is_short c.lower.result v) (is_before c.args.side (value_cmp v c.args.value.now)) (c.lower.ensures v)
