@@ -1,5 +1,7 @@
 -- The cost of a search that halves what is left.
-use Rattle.std.proofs.Common.{◌≡◌, ℕ, zero, suc, subst, ◌-◌, ◌+◌, ◌*◌, ◌^◌, ◌<◌, ◌≤◌, ◌∙◌, ap, arith}
+use Rattle.std.proofs.Common.{◌≡◌, ℕ, zero, suc, subst, ◌-◌, ◌+◌, ◌*◌, ◌^◌, ◌<◌, ◌≤◌, Bool, true, false, ◌∙◌, refl, ap, arith}
+use Rattle.std.specs.Prelude.{nat_lt}
+use Rattle.std.proofs.lemmas.Bool.Decides.{nat_tests}
 use Rattle.std.proofs.lemmas.Nat.{pow-add}
 use Rattle.std.proofs.Math.Nat.{mul-le-mul, pow-suc, pow-zero, mul-le-mul_left, mul-le-mul_right, mul_assoc}
 
@@ -39,29 +41,63 @@ squares (suc x) zero = omega arith
 squares (suc x) (suc y) = let h = squares x y in omega (arith, h)
 
 -- among b pages, and in one of m rows
-pub chapter_square : (b m j k : ℕ) → 1 ≤ b → j ≤ 2 * m + 1 → k ≤ (2 * (b - 1) + 1) * j → k ≤ (b + m) * (b + m)
-chapter_square zero m j k le h e = absurd (omega (arith, le))
-chapter_square (suc x) m j k le h e =
+pub twig_square : (b m j k : ℕ) → 1 ≤ b → j ≤ 2 * m + 1 → k ≤ (2 * (b - 1) + 1) * j → k ≤ (b + m) * (b + m)
+twig_square zero m j k le h e = absurd (omega (arith, le))
+twig_square (suc x) m j k le h e =
     let one : suc x - 1 ≡ x = omega arith in
     let f : k ≤ (2 * x + 1) * j = subst (λ n. k ≤ (2 * n + 1) * j) one e in
     let p : (2 * x + 1) * j ≤ (2 * x + 1) * (2 * m + 1) = mul-le-mul_left (2 * x + 1) h in
     let q = squares x m in
     omega (arith, f, p, q)
 
--- behind the first of a + 1 chapters of 64 pages at least, and in one whose pages and the found page's rows are t at most
-pub content_square : (a t j k n : ℕ) → t ≤ 320 → j ≤ t * t → 64 * a + t ≤ n → k ≤ (2 * a + 1) * j → k ≤ 4 * (n * n)
-content_square zero t j k n few h le e =
-    let f : t ≤ n = omega (arith, le) in
-    let m : t * t ≤ n * n = mul-le-mul f f in
-    omega (arith, m, h, e)
-content_square (suc a) t j k n few h le e =
-    let c = suc a in
-    let h1 : t * t ≤ 320 * t = mul-le-mul_right t few in
-    let h2 : c * (t * t) ≤ c * (320 * t) = mul-le-mul_left c h1 in
-    let q = squares (64 * c) t in
-    let m : (64 * c + t) * (64 * c + t) ≤ n * n = mul-le-mul le le in
-    let p : (2 * c + 1) * j ≤ (2 * c + 1) * (t * t) = mul-le-mul_left (2 * c + 1) h in
-    omega (arith, h2, q, m, p, e)
+-- a product of two that are bounded
+pub at_most_product : (x y m n k : ℕ) → x ≤ m → y ≤ n → k ≤ x * y → k ≤ m * n
+at_most_product x y m n k f g e = let p = mul-le-mul f g in omega (arith, p, e)
+
+self_square : (x : ℕ) → x ≤ x * x
+self_square zero = omega arith
+self_square (suc x) = omega arith
+
+-- behind the first of a + 1 twigs of 16 rows at least, and in one whose rows and 1 are t
+pub branch_square : (a t j k n : ℕ) → j ≤ t * t → j ≤ 8127 → 16 * a + t ≤ n → k ≤ (2 * a + 1) * j → 3 * k ≤ 10 * (n * n)
+branch_square a t j k n h most le e = by (nat_lt t 91) refl where
+  by : (b : Bool) → nat_lt t 91 ≡ b → 3 * k ≤ 10 * (n * n)
+  by true c =
+      let few : t ≤ 90 = grind (arith, nat_tests) in
+      let h1 : t * t ≤ 90 * t = mul-le-mul_right t few in
+      let h2 : a * (t * t) ≤ a * (90 * t) = mul-le-mul_left a h1 in
+      let p : (2 * a + 1) * j ≤ (2 * a + 1) * (t * t) = mul-le-mul_left (2 * a + 1) h in
+      let m : (16 * a + t) * (16 * a + t) ≤ n * n = mul-le-mul le le in
+      let q = squares (133 * a) (7 * t) in
+      omega (arith, h2, p, m, q, e)
+  by false c =
+      let many : 91 ≤ t = grind (arith, nat_tests) in
+      let least : 16 * a + 91 ≤ n = omega (arith, many, le) in
+      let p : (2 * a + 1) * j ≤ (2 * a + 1) * 8127 = mul-le-mul_left (2 * a + 1) most in
+      let m : (16 * a + 91) * (16 * a + 91) ≤ n * n = mul-le-mul least least in
+      let q = squares a 4 in
+      omega (arith, p, m, q, e)
+
+-- behind the first of a + 1 branches of 256 rows at least, and in one whose rows and 1 are t
+pub tree_square : (a t j k n : ℕ) → 3 * j ≤ 10 * (t * t) → j ≤ 512001 → 256 * a + t ≤ n → k ≤ (2 * a + 1) * j → k ≤ 4 * (n * n)
+tree_square a t j k n h most le e = by (nat_lt t 392) refl where
+  by : (b : Bool) → nat_lt t 392 ≡ b → k ≤ 4 * (n * n)
+  by true c =
+      let few : t ≤ 391 = grind (arith, nat_tests) in
+      let h1 : t * t ≤ 391 * t = mul-le-mul_right t few in
+      let h2 : a * (t * t) ≤ a * (391 * t) = mul-le-mul_left a h1 in
+      let h3 : a * t ≤ a * 391 = mul-le-mul_left a few in
+      let p : (2 * a + 1) * (3 * j) ≤ (2 * a + 1) * (10 * (t * t)) = mul-le-mul_left (2 * a + 1) h in
+      let m : (256 * a + t) * (256 * a + t) ≤ n * n = mul-le-mul le le in
+      let q = self_square a in
+      omega (arith, h2, h3, p, m, q, e)
+  by false c =
+      let many : 392 ≤ t = grind (arith, nat_tests) in
+      let least : 256 * a + 392 ≤ n = omega (arith, many, le) in
+      let p : (2 * a + 1) * j ≤ (2 * a + 1) * 512001 = mul-le-mul_left (2 * a + 1) most in
+      let m : (256 * a + 392) * (256 * a + 392) ≤ n * n = mul-le-mul least least in
+      let q = self_square a in
+      omega (arith, p, m, q, e)
 
 pub square_is : (x : ℕ) → x ^ 2 ≡ x * x
 square_is x =

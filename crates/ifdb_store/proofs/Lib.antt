@@ -6,6 +6,7 @@ pub mod Costs
 pub mod KeptLemmas
 pub mod Bounds
 pub mod Joining
+pub mod Nodes
 pub mod Marks
 pub mod Prints
 pub mod Linking

@@ -1,7 +1,7 @@
 -- What searches cost. A search that made s comparisons is said to cost 2 ^ s.
 use Rattle.std.specs.Prelude.{◌≡◌, ℕ, List, ◌+◌, ◌-◌, ◌*◌, ◌<◌, ◌≤◌, length, get_or}
 use Rattle.ifdb_row.specs.declared.row.Row.{Row}
-use Rattle.ifdb_store.specs.Pages.{flat}
+use Rattle.ifdb_store.specs.Pages.{branch_rows, flat}
 
 -- a search in a page costs no more than this
 abbrev pub PageBounds : List Row → ℕ → Type 0
@@ -17,9 +17,12 @@ pub record SearchedIn {X : Type 0} (bounds : X → ℕ → Type 0) (parts : List
   pub bounded : bounds part inside
   pub product : cost ≤ (2 * (length parts - 1) + 1) * inside
 
--- a search in a chapter costs a square at most, of no more than its rows and 1, and of no more than 320
-pub record ChapterBounds (pages : List (List Row)) (cost : ℕ) : Type 0 where
-  pub side : ℕ
-  pub within : side ≤ length (flat pages) + 1
-  pub few : side ≤ 320
-  pub square : cost ≤ side * side
+-- a search in a twig costs no more than the square of its rows and 1
+pub record TwigBounds (pages : List (List Row)) (cost : ℕ) : Type 0 where
+  pub square : cost ≤ (length (flat pages) + 1) * (length (flat pages) + 1)
+  pub most : cost ≤ 8127
+
+-- one in a branch no more than three times and a third of that
+pub record BranchBounds (twigs : List (List (List Row))) (cost : ℕ) : Type 0 where
+  pub square : 3 * cost ≤ 10 * ((length (branch_rows twigs) + 1) * (length (branch_rows twigs) + 1))
+  pub most : cost ≤ 512001

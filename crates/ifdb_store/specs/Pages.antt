@@ -1,6 +1,6 @@
--- Rows in pages, and pages in chapters.
+-- Rows in pages, and pages in nodes.
 use Rattle.std.specs.Prelude.{◌≡◌, ℕ, Bool, true, refl, List, [], ◌∷◌, ◌&&◌, ◌||◌, ◌+◌, ◌++◌, ◌≤◌, nat_lt, not, length, take, drop, get_or}
-use Rattle.std.proofs.Common.{arith}
+use Rattle.std.proofs.Common.{ap, arith}
 use Rattle.std.proofs.lemmas.Bool.{false≢true}
 use Rattle.std.proofs.lemmas.Bool.Decides.{nat_tests}
 use Rattle.std.specs.List.{list_all, flat_map}
@@ -34,37 +34,50 @@ are_joined (p ∷ q ∷ pages) = not (may_join p q) && are_joined (q ∷ pages)
 abbrev pub flat : List (List Row) → List Row
 flat pages = flat_map (λ page. page) pages
 
--- from 1 to 256 pages, and the rows of all pages in the order of their slots
-abbrev pub is_chapter : List (List Row) → Bool
-is_chapter pages = nat_lt 0 (length pages) && (nat_lt (length pages) 257 && (list_all is_page pages && rising (flat pages)))
+-- where there are several parts each is full
+abbrev pub are_full : {X : Type 0} → (X → Bool) → List X → Bool
+are_full is_full parts = nat_lt (length parts) 2 || list_all is_full parts
 
--- the rows of chapters
-abbrev pub rows_of : List (List (List Row)) → List Row
-rows_of chapters = flat_map flat chapters
+-- full parts, and the rows of all in the order of their slots
+abbrev pub are_parts : {X : Type 0} → (X → List Row) → (X → Bool) → (X → Bool) → List X → Bool
+are_parts rows is_part is_full parts = are_full is_full parts && (list_all is_part parts && rising (flat_map rows parts))
 
--- at least 64 pages
-abbrev pub is_full : List (List Row) → Bool
-is_full pages = nat_lt 63 (length pages)
+-- from 1 to 32 of them
+abbrev pub is_node : {X : Type 0} → (X → List Row) → (X → Bool) → (X → Bool) → List X → Bool
+is_node rows is_part is_full parts = nat_lt 0 (length parts) && (nat_lt (length parts) 33 && are_parts rows is_part is_full parts)
 
--- where there are several chapters each is full
-abbrev pub are_full : List (List (List Row)) → Bool
-are_full chapters = nat_lt (length chapters) 2 || list_all is_full chapters
+-- a page is full, however few rows it has
+abbrev pub is_full_page : List Row → Bool
+is_full_page page = true
 
--- full chapters, and the rows of all in the order of their slots
-abbrev pub is_content : List (List (List Row)) → Bool
-is_content chapters = are_full chapters && (list_all is_chapter chapters && rising (rows_of chapters))
+-- a node is full from 16 parts on
+abbrev pub is_full_node : {X : Type 0} → List X → Bool
+is_full_node parts = nat_lt 15 (length parts)
 
--- the chapters hold some rows more, behind the others
-abbrev pub AddsRows : List (List (List Row)) → List Row → List (List (List Row)) → Type 0
-AddsRows old rows new = rows_of new ≡ rows_of old ++ rows
+-- several nodes, and the rows in them
+abbrev pub are_nodes : {X : Type 0} → (X → List Row) → (X → Bool) → (X → Bool) → List (List X) → Bool
+are_nodes rows is_part is_full nodes = list_all (is_node rows is_part is_full) nodes
 
--- they are one more at most
-abbrev pub AddsOne : List (List (List Row)) → List (List (List Row)) → Type 0
-AddsOne old new = length new ≤ length old + 1
+abbrev pub in_nodes : {X : Type 0} → (X → List Row) → List (List X) → List Row
+in_nodes rows nodes = flat_map (flat_map rows) nodes
 
--- they are all full, if they were
-abbrev pub StaysFull : List (List (List Row)) → List (List (List Row)) → Type 0
-StaysFull old new = list_all is_full old ≡ true → list_all is_full new ≡ true
+-- pages stand in twigs
+abbrev pub is_twig : List (List Row) → Bool
+is_twig pages = is_node (λ page. page) is_page is_full_page pages
+
+-- twigs in branches
+abbrev pub branch_rows : List (List (List Row)) → List Row
+branch_rows twigs = flat_map flat twigs
+
+abbrev pub is_branch : List (List (List Row)) → Bool
+is_branch twigs = is_node flat is_twig is_full_node twigs
+
+-- and branches in a tree
+abbrev pub rows_of : List (List (List (List Row))) → List Row
+rows_of branches = flat_map branch_rows branches
+
+abbrev pub is_tree : List (List (List (List Row))) → Bool
+is_tree branches = are_parts branch_rows is_branch is_full_node branches
 
 -- the slot of the first row
 abbrev pub front : List Row → Slot
@@ -79,10 +92,19 @@ pub page_begins : (rows : List Row) → is_page rows ≡ true → Begins rows (f
 page_begins [] h = absurd (false≢true h)
 page_begins (r ∷ rows) h = (r, rows, refl, refl)
 
-pub chapter_begins : (pages : List (List Row)) → is_chapter pages ≡ true → Begins (flat pages) (front (flat pages))
-chapter_begins [] h = absurd (false≢true h)
-chapter_begins ([] ∷ pages) h = absurd (false≢true (grind (arith, nat_tests)))
-chapter_begins ((r ∷ rows) ∷ pages) h = (r, rows ++ flat pages, refl, refl)
+pub node_begins : {X : Type 0} → (rows : X → List Row) → (place : X → Slot) → (is_part is_full : X → Bool) → ((x : X) → is_part x ≡ true → Begins (rows x) (place x))
+    → (parts : List X) → is_node rows is_part is_full parts ≡ true → Begins (flat_map rows parts) (front (flat_map rows parts))
+node_begins rows place is_part is_full begins [] h = absurd (false≢true h)
+node_begins rows place is_part is_full begins (x ∷ parts) h =
+    let b = begins x (grind (arith, nat_tests)) in
+    let all : flat_map rows (x ∷ parts) ≡ b.0 ∷ (b.1 ++ flat_map rows parts) = ap (λ r. r ++ flat_map rows parts) b.2 in
+    (b.0, b.1 ++ flat_map rows parts, all, ap front all)
+
+pub twig_begins : (pages : List (List Row)) → is_twig pages ≡ true → Begins (flat pages) (front (flat pages))
+twig_begins pages h = node_begins (λ page. page) front is_page is_full_page page_begins pages h
+
+pub branch_begins : (twigs : List (List (List Row))) → is_branch twigs ≡ true → Begins (branch_rows twigs) (front (branch_rows twigs))
+branch_begins twigs h = node_begins flat (λ pages. front (flat pages)) is_twig is_full_node twig_begins twigs h
 
 -- the first n writes are those of the part at a place, and the others those of the parts behind it
 abbrev pub Divides : {X : Type 0} → (X → List Row) → List X → ℕ → List Write → ℕ → Type 0

@@ -91,7 +91,7 @@ impl Content {
         ensures { IsTrue (rising self.now) }
     {
         let rows = self.rows();
-        if self.links().chapters().is_empty() {
+        if self.links().branches().is_empty() {
             None
         } else {
             Some(rows)
@@ -122,8 +122,8 @@ impl Content {
         ensures rising { IsTrue (rising self.now) }
     {
         let rows = &self.body.get().rows;
-        // Its chapters also say that the rows rise.
-        let _ = rows.chapters();
+        // Its branches also say that the rows rise.
+        let _ = rows.branches();
         rows
     }
 
@@ -133,7 +133,7 @@ impl Content {
         ensures rising { IsTrue (rising result.now) }
     {
         let links = &self.body.get().links;
-        let _ = links.chapters();
+        let _ = links.branches();
         links
     }
 }

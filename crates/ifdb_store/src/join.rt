@@ -7,43 +7,38 @@ ghost use Rattle.ifdb_store.specs.Pages.{are_joined, flat, is_page, is_small, ma
 use crate::entry::Entry;
 use crate::page::{PAGE_ROWS, Page};
 use crate::put::add_shared;
+use crate::search::Item;
 use ifdb_row::OutOfMemory;
 use std::alloc::Global;
 
 /// A page of fewer rows is small, and is joined with a neighbour where both fit into one.
 const SMALL_PAGE: usize = 16;
 
-/// Pages of the same rows, of which no two neighbours may be joined: the same pages, where none is small.
-pub(crate) fn joined(
-    alloc: Global,
-    pages: Vec<Entry<Page>>,
-) -> Result<Vec<Entry<Page>>, OutOfMemory>
-    requires good { IsTrue (list_all is_page pages.items) }
-    requires rising { IsTrue (rising (flat pages.items)) }
-    ensures rows { IfOk result (λ all. flat all.items ≡ flat pages.items) }
-    ensures good { IfOk result (λ all. IsTrue (list_all is_page all.items)) }
-    ensures rising { IfOk result (λ all. IsTrue (rising (flat all.items))) }
-    ensures joined { IfOk result (λ all. IsTrue (are_joined all.items)) }
+/// Joins pages, so that no two neighbours may be joined: none is touched, where none is small.
+pub(crate) fn join(alloc: Global, pages: &mut Vec<Entry<Page>>) -> Result<(), OutOfMemory>
+    requires good { IsTrue (list_all is_page pages.old.items) }
+    requires rising { IsTrue (rising (flat pages.old.items)) }
+    ensures rows { OnOk result (flat pages.new.items ≡ flat pages.old.items) }
+    ensures good { OnOk result (IsTrue (list_all is_page pages.new.items)) }
+    ensures joined { OnOk result (IsTrue (are_joined pages.new.items)) }
 {
-    if is_some_small(&pages) {
-        all_joined(alloc, pages)
-    } else {
-        Ok(pages)
+    if is_some_small(pages) {
+        *pages = all_joined(alloc, pages)?;
     }
+    Ok(())
 }
 
-/// The same, by a look at each page.
-fn all_joined(alloc: Global, pages: Vec<Entry<Page>>) -> Result<Vec<Entry<Page>>, OutOfMemory>
-    requires good { IsTrue (list_all is_page pages.items) }
-    requires rising { IsTrue (rising (flat pages.items)) }
-    ensures rows { IfOk result (λ all. flat all.items ≡ flat pages.items) }
+/// The joined pages of the same rows, by a look at each page.
+fn all_joined(alloc: Global, pages: &[Entry<Page>]) -> Result<Vec<Entry<Page>>, OutOfMemory>
+    requires good { IsTrue (list_all is_page pages.now) }
+    requires rising { IsTrue (rising (flat pages.now)) }
+    ensures rows { IfOk result (λ all. flat all.items ≡ flat pages.now) }
     ensures good { IfOk result (λ all. IsTrue (list_all is_page all.items)) }
-    ensures rising { IfOk result (λ all. IsTrue (rising (flat all.items))) }
     ensures joined { IfOk result (λ all. IsTrue (are_joined all.items)) }
 {
     let mut all = Vec::with_capacity(alloc, pages.len())?;
     for page in pages {
-        add_joined(alloc, page, &mut all)?;
+        add_joined(alloc, page.shared()?, &mut all)?;
     }
     Ok(all)
 }

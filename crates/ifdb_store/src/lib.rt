@@ -1,13 +1,14 @@
 //! Rows in versions: a content that any number of snapshots share.
 #![tactic(auto)]
 
-mod chapter;
+mod branch;
 mod content;
 mod entry;
 mod join;
 mod laws;
 mod links;
 mod mark;
+mod node;
 mod page;
 mod part;
 mod print;
@@ -16,6 +17,7 @@ mod search;
 mod steps;
 mod store;
 mod tree;
+mod twig;
 
 pub use content::Content;
 pub use laws::stands_for_a_log;

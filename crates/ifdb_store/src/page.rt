@@ -2,10 +2,11 @@
 ghost use Rattle.std.specs.Prelude.{◌≡◌, ◌≤◌, ◌<◌, ◌+◌, ◌++◌, IsTrue, OnOk, length};
 ghost use Rattle.std.specs.List.{list_all};
 ghost use Rattle.ifdb_row.specs.Content.{after, rising};
-ghost use Rattle.ifdb_store.specs.Pages.{flat, is_page};
+ghost use Rattle.ifdb_store.specs.Pages.{are_full, flat, is_full_page, is_page};
 
 use crate::entry::Entry;
-use crate::part::{Part, end_of};
+use crate::join::join;
+use crate::part::{Part, Regroup, end_of};
 use crate::put::{rows_after, shared};
 use crate::search::{Placed, reach};
 use crate::steps::Steps;
@@ -70,9 +71,11 @@ impl Placed for Page {
 }
 
 impl Part for Page {
-    ghost use Rattle.ifdb_store.specs.Pages.{is_page, page_begins};
+    ghost use Rattle.ifdb_store.specs.Pages.{is_full_page, is_page, page_begins};
 
     ghost is_part = { is_page };
+
+    ghost is_full = { is_full_page };
 
     ghost begins = { page_begins };
 
@@ -90,6 +93,14 @@ impl Part for Page {
         cut(alloc, rows, out)
     }
 
+    fn is_full(&self) -> bool {
+        true
+    }
+
+    fn count_on(&self, before: u64) -> Option<u64> {
+        before.checked_add(self.rows().len() as u64)
+    }
+
     fn first_run(&self) -> &[Shared<Row>] {
         self.rows()
     }
@@ -101,6 +112,19 @@ impl Part for Page {
 
     fn bound_to(&self, slot: &Slot, after: Option<&Slot>) -> Option<&Row> {
         first_bound(self.rows(), slot, after)
+    }
+}
+
+impl Regroup for Page {
+    #[tactic(auto, using(crate::proofs::Nodes::full_pages))]
+    fn regroup(alloc: Global, parts: &mut Vec<Entry<Page>>) -> Result<(), OutOfMemory>
+        requires parts { IsTrue (list_all is_page parts.old.items) }
+        requires rising { IsTrue (rising (flat parts.old.items)) }
+        ensures rows { OnOk result (flat parts.new.items ≡ flat parts.old.items) }
+        ensures parts { OnOk result (IsTrue (list_all is_page parts.new.items)) }
+        ensures full { OnOk result (IsTrue (are_full is_full_page parts.new.items)) }
+    {
+        join(alloc, parts)
     }
 }
 

@@ -1,5 +1,5 @@
 // Parts of a content: what is found in them, and what they are after writes.
-ghost use Rattle.std.specs.Prelude.{◌≡◌, ◌≤◌, ◌<◌, ◌+◌, ◌-◌, ◌*◌, ◌^◌, ◌/◌, ℕ, Bool, true, IsTrue, OnOk, length, take, drop};
+ghost use Rattle.std.specs.Prelude.{◌≡◌, ◌≤◌, ◌<◌, ◌+◌, ◌-◌, ◌*◌, ◌^◌, ◌/◌, ℕ, Bool, true, IfOk, IfSome, IsTrue, None, OnOk, length, take, drop};
 ghost use Rattle.std.specs.List.{list_all, flat_map};
 ghost use Rattle.ifdb_row.specs.Edges.{lies_before};
 ghost use Rattle.ifdb_row.specs.Writes.{are_fitting, are_rising};
@@ -7,7 +7,7 @@ ghost use Rattle.ifdb_row.specs.Content.{after, rising};
 ghost use Rattle.std.specs.Option.{option_copied};
 ghost use Rattle.ifdb_row.specs.Questions.{IsRun, bound_behind, rows_from};
 ghost use Rattle.ifdb_row.specs.Reach.{reach};
-ghost use Rattle.ifdb_store.specs.Pages.{AddsAfter, AddsAllAfter, AddsParts, Begins, Divides, Leaves, are_before, are_from};
+ghost use Rattle.ifdb_store.specs.Pages.{AddsAfter, AddsAllAfter, AddsParts, Begins, Divides, Leaves, are_before, are_from, are_full};
 ghost use Rattle.ifdb_store.specs.Costs.{SearchedIn};
 
 use crate::entry::Entry;
@@ -23,6 +23,9 @@ use std::sync::ledger::Ledger;
 pub(crate) trait Part: Placed + Drop {
     /// It is as a part has to be.
     ghost is_part: { Self → Bool };
+
+    /// It is as full as a part beside others has to be.
+    ghost is_full: { Self → Bool };
 
     /// What a search in it may cost: 2 ^ s, where it makes s comparisons.
     ghost bounds: { Self → ℕ → Type 0 };
@@ -41,6 +44,16 @@ pub(crate) trait Part: Placed + Drop {
         ensures rows { OnOk result
             (AddsAfter Self.rows out.old out.new (Self.rows self.now) writes.now) }
         ensures parts { OnOk result (IsTrue (list_all is_part out.new.items)) };
+
+    /// Whether it is full.
+    fn is_full(&self) -> bool
+        ensures { result ≡ is_full self.now };
+
+    /// This many and its rows; `None` where they are too many for the type. In time the number of its pages.
+    fn count_on(&self, before: u64) -> Option<u64>
+        requires { IsTrue (is_part self.now) }
+        ensures some { IfSome result (λ n. n ≡ before + length (Self.rows self.now)) }
+        ensures none { result ≡ None → 2 ^ 64 ≤ before + length (Self.rows self.now) };
 
     /// Its first rows, as many as lie side by side.
     fn first_run(&self) -> &[Shared<Row>]
@@ -61,6 +74,32 @@ pub(crate) trait Part: Placed + Drop {
 
     /// It has a first row, by whose slot it stands.
     ghost begins: { (x : Self) → is_part x ≡ true → Begins (Self.rows x) (Self.place x) };
+}
+
+/// Parts that can be grouped anew.
+pub(crate) trait Regroup: Part {
+    /// Puts parts of the same rows in their place, each full where there are several.
+    fn regroup(alloc: Global, parts: &mut Vec<Entry<Self>>) -> Result<(), OutOfMemory>
+        requires parts { IsTrue (list_all Self.is_part parts.old.items) }
+        requires rising { IsTrue (rising (flat_map Self.rows parts.old.items)) }
+        ensures rows { OnOk result (flat_map Self.rows parts.new.items
+            ≡ flat_map Self.rows parts.old.items) }
+        ensures parts { OnOk result (IsTrue (list_all Self.is_part parts.new.items)) }
+        ensures full { OnOk result (IsTrue (are_full Self.is_full parts.new.items)) };
+}
+
+/// Whether each part is full, where there are several.
+pub(crate) fn are_full<P: Part>(parts: &[Entry<P>]) -> bool
+    ensures { result ≡ are_full P.is_full parts.now }
+{
+    parts.len() < 2 || are_all_full(parts)
+}
+
+/// Whether each part is full.
+fn are_all_full<P: Part>(parts: &[Entry<P>]) -> bool
+    ensures { result ≡ list_all P.is_full parts.now }
+{
+    parts.iter().all(|part| part.get().is_full())
 }
 
 /// Where the next part of some items ends, where a part has no more than so many: half of them, until the rest fits.

@@ -37,7 +37,7 @@ fn many_deletions_leave_few_pages(rt: HostRuntime) -> Result<(), Fail> {
 }
 
 #[test]
-fn chapters_are_bound_anew(rt: HostRuntime) -> Result<(), Fail> {
+fn twigs_are_made_anew(rt: HostRuntime) -> Result<(), Fail> {
     let mut store = filled(rt.alloc(), 10_000, 1)?;
     let full = store.snapshot()?;
     commit(&mut store, range(rt.alloc(), 9_000, 0)?)?;

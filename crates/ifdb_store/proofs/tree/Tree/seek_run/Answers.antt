@@ -1,9 +1,9 @@
 use Rattle.std.proofs.Common.{◌≤◌, ◌+◌, ◌*◌, ◌-◌, ◌^◌, length, subst}
-use Rattle.ifdb_store.proofs.Bounds.{content_bounds}
+use Rattle.ifdb_store.proofs.Bounds.{tree_bounds}
 use Rattle.ifdb_store.proofs.tree.Tree.seek_run.Goals as goal
 
 pub returns-clause-cost : goal.returns-clause-cost
 returns-clause-cost g c =
     let cost = 2 ^ (c.run_from.new.steps - c.args.steps.now) in
-    let chapters = c.chapters-chapters.ensures in
-    subst (λ rows. cost ≤ 4 * (length rows + 1) ^ 2) chapters.rows (content_bounds c.chapters-chapters.result.now cost chapters.full chapters.good c.run_from.ensures.cost)
+    let branches = c.branches-branches.ensures in
+    subst (λ rows. cost ≤ 4 * (length rows + 1) ^ 2) branches.rows (tree_bounds c.branches-branches.result.now cost branches.full branches.good c.run_from.ensures.cost)
