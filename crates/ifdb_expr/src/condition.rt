@@ -1,6 +1,7 @@
 // Whether conditions hold.
 ghost use Rattle.std.specs.Prelude.{◌≡◌, true};
 ghost use Rattle.std.specs.List.{list_all, list_any};
+ghost use Rattle.ifdb_value.specs.declared.value.Value.TheVariants as value;
 ghost use Rattle.ifdb_bound.specs.Query.{values_of};
 ghost use Rattle.ifdb_bound.specs.Truth.{comes_to};
 ghost use Rattle.ifdb_bound.specs.Conditions.{truth, holds, compares, compared, null_test, operand_value};
@@ -92,12 +93,11 @@ fn compare_comes_to(
     ensures { result ≡ comes_to wanted (compared how (operand_value (values_of frame.now) left.now)
         (operand_value (values_of frame.now) right.now)) }
 {
-    let left = operand(left, frame);
-    let right = operand(right, frame);
-    if left.is_null() || right.is_null() {
-        return false;
+    match (operand(left, frame), operand(right, frame)) {
+        (ValueRef::Int(left), ValueRef::Int(right)) => numbers_compare(how, left, right) == wanted,
+        (ValueRef::Null, _) | (_, ValueRef::Null) => false,
+        (left, right) => compares(how, left, right) == wanted,
     }
-    compares(how, left, right) == wanted
 }
 
 /// Whether IS NULL, or IS NOT NULL where it is negated, comes to what is wanted.
@@ -117,7 +117,22 @@ pub fn operand<'a>(operand: &'a BoundOperand, frame: &Frame<'a>) -> ValueRef<'a>
     }
 }
 
-/// Whether two values compare so.
+/// Whether two numbers compare so.
+fn numbers_compare(how: Compare, left: i64, right: i64) -> bool
+    ensures { result ≡ compares how (value.Int left) (value.Int right) }
+{
+    match how {
+        Compare::Equal => left == right,
+        Compare::NotEqual => left != right,
+        Compare::Less => left < right,
+        Compare::AtMost => left <= right,
+        Compare::Greater => left > right,
+        Compare::AtLeast => left >= right,
+    }
+}
+
+/// Whether two values compare so. It isn't inlined, so that the code for two numbers stays short.
+#[inline(never)]
 fn compares(how: Compare, left: ValueRef<'_>, right: ValueRef<'_>) -> bool
     ensures { result ≡ compares how (owned left.entry) (owned right.entry) }
 {

@@ -21,6 +21,6 @@ pub use expression::value;
 pub use fault::ExprFault;
 pub use frame::Frame;
 pub use laws::{authority_comes_first, view_rows_are_seen};
-pub use seen_row::{SeenRow, value_in};
+pub use seen_row::{SeenRow, compare_at, value_in};
 pub use std::alloc::AllocError as OutOfMemory;
 pub use value_ref::ValueRef;

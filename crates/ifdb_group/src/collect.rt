@@ -18,7 +18,7 @@ pub(crate) fn collected<X, T: Drop, F: Fn(&X) -> Result<T, ExprFault>>(
     ensures { (gives : X → Option T) → ((x : X) (r : _) → FnReturnsAt F.Fn give x r
         → Tells (gives x) r) → Tells (all_some (map gives items.now)) result }
 {
-    let mut all = Sequence::new(alloc);
+    let mut all = Sequence::with_capacity(alloc, items.len())?;
     for item in items {
         match give(item) {
             Ok(value) => all.push(value)?,

@@ -3,7 +3,7 @@ ghost use Rattle.std.specs.Prelude.{◌≡◌, IfOk};
 ghost use Rattle.ifdb_bound.specs.Query.{key_cmp, order_cmp, sorted_by};
 
 use ifdb_bound::OrderKey;
-use ifdb_expr::value_in;
+use ifdb_expr::compare_at;
 use ifdb_value::{Sequence, Value, ValueRow};
 use std::alloc::AllocError;
 use std::cmp::Ordering;
@@ -41,11 +41,9 @@ fn compare(keys: &[OrderKey], a: &[Value], b: &[Value]) -> Ordering
 fn compare_by(key: OrderKey, a: &[Value], b: &[Value]) -> Ordering
     ensures { result ≡ key_cmp key a.now b.now }
 {
-    let a = value_in(a, key.place);
-    let b = value_in(b, key.place);
     if key.descending {
-        b.compare(a)
+        compare_at(key.place, b, a)
     } else {
-        a.compare(b)
+        compare_at(key.place, a, b)
     }
 }

@@ -1,5 +1,5 @@
 // Tokens, and lists of them.
-ghost use Rattle.std.specs.Prelude.{◌≡◌, ◌==◌, ◌++◌, ◌∷◌, [], length, OnOk};
+ghost use Rattle.std.specs.Prelude.{◌≡◌, ◌==◌, ◌++◌, ◌∷◌, [], length, IfOk, OnOk};
 
 use std::alloc::{AllocError, Global};
 use std::marker::Model;
@@ -50,13 +50,13 @@ impl Model for Tokens {
 }
 
 impl Tokens {
-    /// No tokens. Takes no memory: each `push` takes it from `alloc`.
-    pub(crate) fn new(alloc: Global) -> Self
-        ensures { result ≡ [] }
+    /// No tokens, with room for so many.
+    pub(crate) fn with_capacity(alloc: Global, count: usize) -> Result<Self, AllocError>
+        ensures { IfOk result (λ tokens. tokens ≡ []) }
     {
-        Tokens {
-            tokens: Vec::new(alloc),
-        }
+        Ok(Tokens {
+            tokens: Vec::with_capacity(alloc, count)?,
+        })
     }
 
     /// Adds a token at the end.

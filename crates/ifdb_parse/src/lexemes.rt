@@ -45,7 +45,7 @@ fn lexemes_in(alloc: Global, line: &str, tokens: &[Token]) -> Result<Sequence<Le
     requires { AreReadable line.now tokens.now }
     ensures { IfOk result (λ lexemes. lexemes ≡ spec.lexemes_of line.now tokens.now) }
 {
-    let mut lexemes = Sequence::new(alloc);
+    let mut lexemes = Sequence::with_capacity(alloc, tokens.len())?;
     for token in tokens {
         lexemes.push(lexeme(alloc, line, *token)?)?;
     }

@@ -7,7 +7,7 @@ use Rattle.ifdb_group.proofs.Collecting.{all_there, one_missing, fault_goes_on, 
 use Rattle.ifdb_group.proofs.collect.collected.Goals as goal
 
 pub loop-item-init : goal.loop-item-init
-loop-item-init g c gives sound = ap (map (λ x. Some x)) (sym c.new-all.ensures)
+loop-item-init g c gives sound = ap (map (λ x. Some x)) (sym c.in_ok-all.ensures)
 
 pub loop-item-preserved : goal.loop-item-preserved
 loop-item-preserved g c gives sound =
