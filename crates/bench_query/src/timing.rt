@@ -12,8 +12,8 @@ use ifdb_bound::BoundSelect;
 use ifdb_exec::{Given, Reading, answer};
 use ifdb_label::{Label, Tags};
 use ifdb_plan::are_keyed;
-use ifdb_row::{ListRows, OutOfMemory};
-use ifdb_value::TableId;
+use ifdb_row::{ListRows, OutOfMemory, Row};
+use ifdb_value::{Shared, TableId};
 use std::io;
 use std::time::Instant;
 
@@ -26,63 +26,52 @@ const TRIES: u32 = 5;
 /// How many look-ups are timed together.
 const LOOK_UPS: u32 = 20_000;
 
+/// The tables that are asked of.
+#[derive(Clone, Copy)]
+enum Tables {
+    /// Tables whose rows join.
+    Joining,
+    /// Tables none of whose rows joins with another.
+    Apart,
+}
+
 /// Prints how many rows each SELECT answers, of so many in a table.
 pub(crate) fn show(rt: &HostRuntime, count: u32) -> io::Result<()> {
-    println!(rt; "{count} rows")?;
-    ask_all(rt, count, false)?;
-    ask_apart(rt, count, false)
+    ask_all(rt, count, false)
 }
 
 /// Prints what each SELECT takes, over so many rows in a table.
 pub(crate) fn time(rt: &HostRuntime, count: u32) -> io::Result<()> {
-    println!(rt; "{count} rows")?;
-    ask_all(rt, count, true)?;
-    ask_apart(rt, count, true)
+    ask_all(rt, count, true)
 }
 
 /// Asks each SELECT.
 fn ask_all(rt: &HostRuntime, count: u32, is_timed: bool) -> io::Result<()> {
-    let alloc = rt.alloc();
-    let rows = all_rows(alloc, count)?;
-    if !are_public(&rows) {
-        return Ok(());
-    }
-    if !are_keyed(TableId(0), &KEY, &rows) || !are_keyed(TableId(1), &KEY, &rows) {
-        return Ok(());
-    }
-    let Some(rows) = ListRows::try_new(rows) else {
-        return Ok(());
-    };
-    let tags = Tags::new(alloc);
-    let label = Label::empty(alloc);
-    let reading = Reading {
-        alloc,
-        tags: &tags,
-        names: &[],
-        label: &label,
-    };
-    let asked = Asked {
-        reading: &reading,
-        rows: &rows,
-        is_timed,
-    };
-    ask_one(rt, &asked, count)?;
-    ask_both(rt, &asked)
+    println!(rt; "{count} rows")?;
+    let rows = all_rows(rt.alloc(), count)?;
+    ask_over(rt, rows, Tables::Joining, count, is_timed)?;
+    let rows = apart_rows(rt.alloc(), count)?;
+    ask_over(rt, rows, Tables::Apart, count, is_timed)
 }
 
-/// Asks the joins that find nothing.
-fn ask_apart(rt: &HostRuntime, count: u32, is_timed: bool) -> io::Result<()> {
-    let alloc = rt.alloc();
-    let rows = apart_rows(alloc, count)?;
-    if !are_public(&rows) {
-        return Ok(());
-    }
-    if !are_keyed(TableId(0), &KEY, &rows) || !are_keyed(TableId(1), &KEY, &rows) {
+/// Asks each SELECT that there is for tables of these rows.
+fn ask_over(
+    rt: &HostRuntime,
+    rows: Vec<Shared<Row>>,
+    tables: Tables,
+    count: u32,
+    is_timed: bool,
+) -> io::Result<()> {
+    if !are_public(&rows)
+        || !are_keyed(TableId(0), &KEY, &rows)
+        || !are_keyed(TableId(1), &KEY, &rows)
+    {
         return Ok(());
     }
     let Some(rows) = ListRows::try_new(rows) else {
         return Ok(());
     };
+    let alloc = rt.alloc();
     let tags = Tags::new(alloc);
     let label = Label::empty(alloc);
     let reading = Reading {
@@ -96,7 +85,23 @@ fn ask_apart(rt: &HostRuntime, count: u32, is_timed: bool) -> io::Result<()> {
         rows: &rows,
         is_timed,
     };
-    ask_nothing(rt, &asked)
+    match tables {
+        Tables::Joining => ask_joining(rt, &asked, count),
+        Tables::Apart => ask_nothing(rt, &asked),
+    }
+}
+
+/// Asks the SELECTs over one table, and the joins.
+fn ask_joining(rt: &HostRuntime, asked: &Asked<'_, '_>, count: u32) -> io::Result<()>
+    requires made { IsTrue
+        (are_rows_made (length asked.now.reading.now.tags.now) asked.now.rows.now) }
+    requires label { AreMade
+        (length asked.now.reading.now.tags.now) asked.now.reading.now.label.now }
+    requires first { IsTrue (are_keyed 0 KEY asked.now.rows.now) }
+    requires second { IsTrue (are_keyed 1 KEY asked.now.rows.now) }
+{
+    ask_one(rt, asked, count)?;
+    ask_both(rt, asked)
 }
 
 /// Who asks, and of which rows.
@@ -130,29 +135,14 @@ fn ask_one(rt: &HostRuntime, asked: &Asked<'_, '_>, count: u32) -> io::Result<()
     let alloc = rt.alloc();
     let given = [Given::Keyed(TableId(0), &KEY)];
     let quarter = i64::from(count / 4);
-    told(
-        rt,
-        asked,
-        "scan with a condition and COUNT",
-        &scan(alloc, quarter)?,
-        &given,
-    )?;
-    told(
-        rt,
-        asked,
-        "GROUP BY with COUNT and SUM",
-        &groups(alloc)?,
-        &given,
-    )?;
-    told(rt, asked, "ORDER BY", &order(alloc)?, &given)?;
+    let what = "scan with a condition and COUNT";
+    told(rt, asked, what, scan(alloc, quarter), &given)?;
+    let what = "GROUP BY with COUNT and SUM";
+    told(rt, asked, what, groups(alloc), &given)?;
+    told(rt, asked, "ORDER BY", order(alloc), &given)?;
     let half = i64::from(count / 2);
-    told(
-        rt,
-        asked,
-        "a range of a hundred keys",
-        &range(alloc, half, half.wrapping_add(101))?,
-        &given,
-    )?;
+    let request = range(alloc, half, half.wrapping_add(101));
+    told(rt, asked, "a range of a hundred keys", request, &given)?;
     ask_keys(rt, asked, count, &given)
 }
 
@@ -196,14 +186,8 @@ fn ask_both(rt: &HostRuntime, asked: &Asked<'_, '_>) -> io::Result<()>
         Given::Keyed(TableId(0), &KEY),
         Given::Keyed(TableId(1), &KEY),
     ];
-    told(rt, asked, "join on the key", &join(alloc, 0)?, &given)?;
-    told(
-        rt,
-        asked,
-        "join on another column",
-        &join(alloc, 2)?,
-        &given,
-    )
+    told(rt, asked, "join on the key", join(alloc, 0), &given)?;
+    told(rt, asked, "join on another column", join(alloc, 2), &given)
 }
 
 /// Asks the joins over both tables whose rows don't join: on numbers, and on NULL, which equals nothing.
@@ -220,22 +204,16 @@ fn ask_nothing(rt: &HostRuntime, asked: &Asked<'_, '_>) -> io::Result<()>
         Given::Keyed(TableId(0), &KEY),
         Given::Keyed(TableId(1), &KEY),
     ];
-    told(
-        rt,
-        asked,
-        "join that finds nothing",
-        &join(alloc, 1)?,
-        &given,
-    )?;
-    told(rt, asked, "join on NULL", &join(alloc, 2)?, &given)
+    told(rt, asked, "join that finds nothing", join(alloc, 1), &given)?;
+    told(rt, asked, "join on NULL", join(alloc, 2), &given)
 }
 
-/// Asks a SELECT, and prints its time or how many rows it answers.
+/// Asks a SELECT that there was memory for, and prints its time or how many rows it answers.
 fn told(
     rt: &HostRuntime,
     asked: &Asked<'_, '_>,
     what: &str,
-    query: &BoundSelect,
+    query: Result<BoundSelect, OutOfMemory>,
     given: &[Given<'_>],
 ) -> io::Result<()>
     requires made { IsTrue
@@ -245,10 +223,11 @@ fn told(
     requires keyed { IsTrue (are_given_keyed asked.now.rows.now given.now) }
     requires room { length given.now ≤ 4 }
 {
+    let query = query?;
     let mut best = Best::new();
     for _ in 0..asked.tries() {
         let start = Instant::now(rt)?;
-        best.found = ask(asked, query, given)?;
+        best.found = ask(asked, &query, given)?;
         best.take(start.elapsed(rt)?.as_micros());
     }
     best.tell(rt, asked, what)

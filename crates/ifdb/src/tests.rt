@@ -20,6 +20,7 @@ use ifdb_disk::{MemoryDisk, MemoryShelf};
 use ifdb_io::{MemoryLink, MemorySink, MemorySite, MemorySource};
 use std::alloc::{AllocGlobal, Global};
 use std::marker::Sync;
+use std::process::Abort;
 use std::sync::Wait;
 use std::test::Fail;
 use std::thread::Threads;
@@ -145,6 +146,40 @@ fn ended<R: AllocGlobal + Threads + Wait + Sync>(
     call(rt, words, script, calls, &mut site)
 }
 
+// Calls the program with these words over a script, and compares how it ended and what was written for it.
+fn ends_with<R: Abort + AllocGlobal + Threads + Wait + Sync>(
+    rt: &R,
+    words: &str,
+    script: &[u8],
+    calls: (Calls, Calls),
+    end: (Status, &[u8]),
+) -> Result<(), Fail>
+    requires { (0 < calls.0.piece) × (0 < calls.1.piece) }
+{
+    let (status, written) = end;
+    let ran = ended(rt, words, script, calls)?;
+    assert_eq!(rt; ran.status, status, "{words}");
+    assert_eq!(rt; ran.written.as_slice(), written, "{words}");
+    Ok(())
+}
+
+// The same, by words that only `top_more` knows.
+fn ends_more<R: Abort + AllocGlobal + Threads + Wait + Sync>(
+    rt: &R,
+    words: &str,
+    bytes: &[u8],
+    calls: (Calls, Calls),
+    end: (MoreStatus, &[u8]),
+) -> Result<(), Fail>
+    requires { (0 < calls.0.piece) × (0 < calls.1.piece) }
+{
+    let (end, written) = end;
+    let ran = ended_more(rt, words, bytes, calls)?;
+    assert_eq!(rt; ran.end, end, "{words}");
+    assert_eq!(rt; ran.written.as_slice(), written, "{words}");
+    Ok(())
+}
+
 // Runs a script that comes and is answered in pieces of this size.
 fn run<R: AllocGlobal + Threads + Wait + Sync>(
     rt: &R,
@@ -163,6 +198,26 @@ fn served<R: AllocGlobal + Threads + Wait + Sync>(
     site: &mut MemorySite<MemoryLink>,
 ) -> Result<Ran, Fail> {
     call(rt, words, b"OPEN\n", (all_of(64), all_of(64)), site)
+}
+
+// What a script begins with, and what is written for that.
+#[derive(Clone, Copy)]
+struct Begun(&'static [u8], &'static [u8]);
+
+// Runs each of some scripts behind a beginning, and compares what is written with its replies.
+fn answered<R: Abort + AllocGlobal + Threads + Wait + Sync>(
+    rt: &R,
+    begun: Begun,
+    scripts: &[(&[u8], &[u8])],
+) -> Result<(), Fail> {
+    for (script, replies) in scripts {
+        let script = both(rt.alloc(), begun.0, script)?;
+        let wanted = both(rt.alloc(), begun.1, replies)?;
+        let ran = run(rt, &script, 65_536)?;
+        assert_eq!(rt; ran.status, Status::Done);
+        assert_eq!(rt; ran.written.as_slice(), wanted.as_slice());
+    }
+    Ok(())
 }
 
 // Two texts, one behind the other.

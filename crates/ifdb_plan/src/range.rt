@@ -257,7 +257,8 @@ fn lower<'c>(high: Option<End<'c>>, end: End<'c>) -> End<'c>
 /// The higher of two ends.
 #[tactic(auto, using(crate::proofs::Ranging::both_past, crate::proofs::Ranging::both_past_behind))]
 fn higher<'c>(low: Option<End<'c>>, end: End<'c>) -> End<'c>
-    ensures { (v : AnyValue) → not (is_short result v) ≡ (is_behind_low low.entry v && not (is_short end.entry v)) }
+    ensures { (v : AnyValue) → not (is_short result v)
+        ≡ (is_behind_low low.entry v && not (is_short end.entry v)) }
 {
     let Some(low) = low else {
         return end;

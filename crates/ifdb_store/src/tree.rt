@@ -20,8 +20,8 @@ use std::alloc::Global;
 use std::marker::{Brand, Model};
 use std::sync::ledger::{Blank, Ledger};
 
-/// Rows in the order of their slots, each slot once, in pages, pages in twigs, twigs in branches. It never changes: a later version is a tree of its
-/// own, which shares what it has in common with this one. Contracts see the list of the rows.
+/// Rows in the order of their slots, each slot once, in pages, pages in twigs, twigs in branches. It never changes: a later
+/// version is a tree of its own, which shares what it has in common with this one. Contracts see the list of the rows.
 #[derive(Drop)]
 pub(crate) struct Tree {
     branches: Shared<Sequence<Entry<Branch>>>,

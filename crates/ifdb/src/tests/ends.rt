@@ -20,9 +20,8 @@ fn faults_have_their_status(rt: HostRuntime) -> Result<(), Fail> {
             piece: 3,
             fails: *write,
         };
-        let ran = ended(&rt, "run", b"OPEN\n1 SHOW LABEL\n", (reads, writes))?;
-        assert_eq!(rt; ran.status, *status);
-        assert_eq!(rt; ran.written.as_slice(), written.as_bytes());
+        let end = (*status, written.as_bytes());
+        ends_with(&rt, "run", b"OPEN\n1 SHOW LABEL\n", (reads, writes), end)?;
     }
     Ok(())
 }
@@ -38,9 +37,8 @@ static LIMITS: [(&str, Status, &str); 4] = [
 #[test]
 fn the_limit_of_the_words_is_kept(rt: HostRuntime) -> Result<(), Fail> {
     for (words, status, written) in &LIMITS {
-        let ran = ended(&rt, words, b"OPEN\n", (all_of(64), all_of(64)))?;
-        assert_eq!(rt; ran.status, *status, "{words}");
-        assert_eq!(rt; ran.written.as_slice(), written.as_bytes(), "{words}");
+        let end = (*status, written.as_bytes());
+        ends_with(&rt, words, b"OPEN\n", (all_of(64), all_of(64)), end)?;
     }
     Ok(())
 }
@@ -66,9 +64,8 @@ const USAGE: &str =
 #[test]
 fn other_words_get_the_usage_line(rt: HostRuntime) -> Result<(), Fail> {
     for words in &OTHERS {
-        let ran = ended(&rt, words, b"OPEN\n", (all_of(64), all_of(64)))?;
-        assert_eq!(rt; ran.status, Status::Usage, "{words}");
-        assert_eq!(rt; ran.written.as_slice(), USAGE.as_bytes(), "{words}");
+        let end = (Status::Usage, USAGE.as_bytes());
+        ends_with(&rt, words, b"OPEN\n", (all_of(64), all_of(64)), end)?;
     }
     Ok(())
 }

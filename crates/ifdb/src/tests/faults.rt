@@ -3,7 +3,6 @@ ghost use Rattle.std.specs.Prelude.{◌<◌};
 
 use super::*;
 use ifdb_io::MemoryDoor;
-use std::process::Abort;
 
 // What the first of three connections sends: a transaction that it doesn't end.
 const FIRST: &str =

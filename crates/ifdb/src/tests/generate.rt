@@ -42,9 +42,13 @@ fn eight_inserts(rt: HostRuntime) -> Result<(), Fail> {
         "generate 8 --run",
         "generate --run 0000000000008",
     ] {
-        let ran = written_for(&rt, words, 7)?;
-        assert_eq!(rt; ran.status, Status::Done);
-        assert_eq!(rt; ran.written.as_slice(), EIGHT);
+        ends_with(
+            &rt,
+            words,
+            b"",
+            (all_of(1), all_of(7)),
+            (Status::Done, EIGHT),
+        )?;
     }
     Ok(())
 }

@@ -55,50 +55,98 @@ fn disk_of(alloc: Global, bytes: &[u8], fails: Option<u64>) -> Result<MemoryDisk
     Ok(MemoryDisk::new(alloc, bytes, 1000, 1000, failing(alloc, fails)?)?)
 }
 
+// Calls the program over a disk of these bytes, and compares how it ended and what was written. Whether the disk came back.
+fn keeps<R: Abort + AllocGlobal + Threads + Wait + Sync>(
+    rt: &R,
+    words: &str,
+    (bytes, fails): (&[u8], Option<u64>),
+    refused: Option<u64>,
+    (end, written): (MoreStatus, &[u8]),
+) -> Result<bool, Fail> {
+    let disk = disk_of(rt.alloc(), bytes, fails)?;
+    let ran = run_kept(rt, words, FIRST, disk, refused)?;
+    assert_eq!(rt; ran.end, end, "{words}");
+    assert_eq!(rt; ran.written.as_slice(), written, "{words}");
+    Ok(ran.back.is_some())
+}
+
+// Runs a script over a disk, and compares what is written and how many bytes the disk has then.
+fn goes_on<R: Abort + AllocGlobal + Threads + Wait + Sync>(
+    rt: &R,
+    (words, script): (&str, &str),
+    disk: MemoryDisk,
+    (written, length): (&str, usize),
+) -> Result<MemoryDisk, Fail> {
+    let ran = run_kept(rt, words, script, disk, None)?;
+    assert_eq!(rt; ran.end, MoreStatus::Base(Status::Done));
+    assert_eq!(rt; ran.written.as_slice(), written.as_bytes());
+    let disk = ran.back.ok_or(Failed)?;
+    assert_eq!(rt; disk.bytes().len(), length);
+    Ok(disk)
+}
+
 #[test]
 fn kept_and_read_back(rt: HostRuntime) -> Result<(), Fail> {
     let disk = disk_of(rt.alloc(), b"", None)?;
-    let first = run_kept(&rt, "keep --file j", FIRST, disk, None)?;
-    assert_eq!(rt; first.end, MoreStatus::Base(Status::Done));
-    assert_eq!(rt; first.written.as_slice(), FIRST_REPLIES.as_bytes());
-    let disk = first.back.ok_or(Failed)?;
-    assert_eq!(rt; disk.bytes().len(), 211);
-    let second = run_kept(&rt, "keep --limit 100 --file=j", SECOND, disk, None)?;
-    assert_eq!(rt; second.end, MoreStatus::Base(Status::Done));
-    assert_eq!(rt; second.written.as_slice(), SECOND_REPLIES.as_bytes());
-    let disk = second.back.ok_or(Failed)?;
-    assert_eq!(rt; disk.bytes().len(), 276);
+    let first = ("keep --file j", FIRST);
+    let disk = goes_on(&rt, first, disk, (FIRST_REPLIES, 211))?;
+    let second = ("keep --limit 100 --file=j", SECOND);
+    goes_on(&rt, second, disk, (SECOND_REPLIES, 276))?;
     Ok(())
 }
 
-// The disk fails at a record, the journal is damaged, and the shelf gives no disk.
+// Words, the disk's bytes and which of its calls fails, which call of the shelf gives no disk, how it ends, what is written, and
+// whether the disk comes back: a record fails, the journal is damaged, there is no disk, and the script is too large.
+static STOPS: [(
+    &str,
+    (&[u8], Option<u64>),
+    Option<u64>,
+    MoreStatus,
+    &[u8],
+    bool,
+); 4] = [
+    (
+        "keep --file j",
+        (b"", Some(12)),
+        None,
+        MoreStatus::DiskFault,
+        b"1 OPEN\n1 OK\n",
+        true,
+    ),
+    (
+        "keep --file j",
+        (b"\x01\x09\0", None),
+        None,
+        MoreStatus::Damaged(0),
+        b"",
+        true,
+    ),
+    (
+        "keep --file j",
+        (b"", None),
+        Some(0),
+        MoreStatus::DiskFault,
+        b"",
+        false,
+    ),
+    (
+        "keep --file j --limit 5",
+        (b"", None),
+        None,
+        MoreStatus::Base(Status::TooLarge),
+        b"1 OPEN\n",
+        true,
+    ),
+];
+
 #[test]
 fn what_stops_it(rt: HostRuntime) -> Result<(), Fail> {
-    let disk = disk_of(rt.alloc(), b"", Some(12))?;
-    let failed = run_kept(&rt, "keep --file j", FIRST, disk, None)?;
-    assert_eq!(rt; failed.end, MoreStatus::DiskFault);
-    assert_eq!(rt; failed.end.exit_code(), 7);
-    assert_eq!(rt; failed.written.as_slice(), b"1 OPEN\n1 OK\n".as_slice());
-    assert!(rt; failed.back.is_some());
-
-    let disk = disk_of(rt.alloc(), b"\x01\x09\0", None)?;
-    let damaged = run_kept(&rt, "keep --file j", FIRST, disk, None)?;
-    assert_eq!(rt; damaged.end, MoreStatus::Damaged(0));
-    assert_eq!(rt; damaged.end.exit_code(), 8);
-    assert_eq!(rt; damaged.written.as_slice(), b"".as_slice());
-    assert!(rt; damaged.back.is_some());
-
-    let disk = disk_of(rt.alloc(), b"", None)?;
-    let refused = run_kept(&rt, "keep --file j", FIRST, disk, Some(0))?;
-    assert_eq!(rt; refused.end, MoreStatus::DiskFault);
-    assert_eq!(rt; refused.written.as_slice(), b"".as_slice());
-    assert!(rt; refused.back.is_none());
-
-    let disk = disk_of(rt.alloc(), b"", None)?;
-    let large = run_kept(&rt, "keep --file j --limit 5", FIRST, disk, None)?;
-    assert_eq!(rt; large.end, MoreStatus::Base(Status::TooLarge));
-    assert_eq!(rt; large.written.as_slice(), b"1 OPEN\n".as_slice());
-    assert!(rt; large.back.is_some());
+    for (words, disk, refused, end, written, back) in &STOPS {
+        let is_back = keeps(&rt, words, *disk, *refused, (*end, written))?;
+        assert_eq!(rt; is_back, *back, "{words}");
+    }
+    assert_eq!(rt; MoreStatus::DiskFault.exit_code(), 7);
+    assert_eq!(rt; MoreStatus::Damaged(0).exit_code(), 8);
     Ok(())
 }
 
@@ -114,11 +162,9 @@ fn malformed_words_of_keep(rt: HostRuntime) -> Result<(), Fail> {
         "keep --file j --file k",
         "keep --file j k",
     ] {
-        let disk = disk_of(rt.alloc(), b"", None)?;
-        let ran = run_kept(&rt, words, FIRST, disk, None)?;
-        assert_eq!(rt; ran.end, MoreStatus::Base(Status::Usage), "{words}");
-        assert_eq!(rt; ran.written.as_slice(), USAGE.as_bytes(), "{words}");
-        assert!(rt; ran.back.is_none(), "{words}");
+        let end = (MoreStatus::Base(Status::Usage), USAGE.as_bytes());
+        let is_back = keeps(&rt, words, (b"", None), None, end)?;
+        assert!(rt; !is_back, "{words}");
     }
     Ok(())
 }

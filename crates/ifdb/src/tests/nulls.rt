@@ -1,5 +1,5 @@
 // Worked scripts of NULL, with their replies as they were written by hand.
-use super::statements::{BEGINNING, BEGUN, VISITS, written};
+use super::statements::VISITS;
 use super::*;
 
 /// NULL in rows, conditions, aggregates and references.
@@ -75,12 +75,5 @@ static WORKED: [(&[u8], &[u8]); 5] = [ROWS, CONDITIONS, ANSWERS, REFERENCES, TWO
 
 #[test]
 fn null_has_its_replies(rt: HostRuntime) -> Result<(), Fail> {
-    let begin = both(rt.alloc(), BEGINNING, VISITS)?;
-    let begun = both(rt.alloc(), BEGUN, b"1 OK\n")?;
-    for worked in &WORKED {
-        let wanted = both(rt.alloc(), &begun, worked.1)?;
-        let written = written(&rt, &begin, *worked)?;
-        assert_eq!(rt; written.as_slice(), wanted.as_slice());
-    }
-    Ok(())
+    answered(&rt, VISITS, &WORKED)
 }

@@ -65,20 +65,10 @@ fn scripts_have_their_replies(rt: HostRuntime) -> Result<(), Fail> {
 
 #[test]
 fn faults_of_a_line_have_their_places(rt: HostRuntime) -> Result<(), Fail> {
-    let script = both(
-        rt.alloc(),
-        BEGINNING,
-        b"1 SELEC id\n1 SELECT id FROM\n1 SELECT 'abc\n1\n7 BEGIN\nfoo\n",
-    )?;
-    let replies = both(
-        rt.alloc(),
-        BEGUN,
-        b"1 ERR 1 Syntax 0\n1 ERR 1 Syntax 14\n1 ERR 1 Syntax 7\n1 ERR 1 Syntax 0\n7 ERR 28 NoSession\n0 ERR 1 Syntax 0\n",
-    )?;
-    let ran = run(&rt, &script, 64)?;
-    assert_eq!(rt; ran.status, Status::Done);
-    assert_eq!(rt; ran.written.as_slice(), replies.as_slice());
-    Ok(())
+    let script = b"1 SELEC id\n1 SELECT id FROM\n1 SELECT 'abc\n1\n7 BEGIN\nfoo\n";
+    let replies =
+        b"1 ERR 1 Syntax 0\n1 ERR 1 Syntax 14\n1 ERR 1 Syntax 7\n1 ERR 1 Syntax 0\n7 ERR 28 NoSession\n0 ERR 1 Syntax 0\n";
+    answered(&rt, Begun(BEGINNING, BEGUN), &[(script, replies)])
 }
 
 // A request, and as many spaces behind it as make a line of this length; and then a line more.

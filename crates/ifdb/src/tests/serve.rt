@@ -1,7 +1,6 @@
 // The service of connections in memory, as the words ask for it.
 use super::*;
 use ifdb_io::MemoryDoor;
-use std::process::Abort;
 
 const HELLO: &str = "HELLO admin KEY 'admin'\n";
 

@@ -1,16 +1,20 @@
 // Worked scripts of tables, views and references, with their replies as they were written by hand.
 use super::*;
 
-/// Beginning of a script: an administrator with two tags and a table of notes, and a guest.
-pub(super) const BEGINNING: &[u8] =
+/// An administrator with two tags and a table of notes, and a guest.
+pub(super) const NOTES: Begun = Begun(
     b"OPEN\n1 HELLO admin KEY 'admin'\n1 CREATE TAG a\n1 CREATE TAG b\n\
-    1 CREATE TABLE note (id INT, body TEXT, PRIMARY KEY (id))\n1 CREATE PRINCIPAL guest KEY 'g'\nOPEN\n2 HELLO guest KEY 'g'\n";
+    1 CREATE TABLE note (id INT, body TEXT, PRIMARY KEY (id))\n1 CREATE PRINCIPAL guest KEY 'g'\nOPEN\n2 HELLO guest KEY 'g'\n",
+    b"1 OPEN\n1 OK\n1 OK\n1 OK\n1 OK\n1 OK\n2 OPEN\n2 OK\n",
+);
 
-pub(super) const BEGUN: &[u8] = b"1 OPEN\n1 OK\n1 OK\n1 OK\n1 OK\n1 OK\n2 OPEN\n2 OK\n";
-
-/// The table of visits, each of which is bound to a note.
-pub(super) const VISITS: &[u8] =
-    b"1 CREATE TABLE visit (v INT, note_id INT, PRIMARY KEY (v), FOREIGN KEY (note_id) REFERENCES note)\n";
+/// The same, with a table of visits, each of which is bound to a note.
+pub(super) const VISITS: Begun = Begun(
+    b"OPEN\n1 HELLO admin KEY 'admin'\n1 CREATE TAG a\n1 CREATE TAG b\n\
+    1 CREATE TABLE note (id INT, body TEXT, PRIMARY KEY (id))\n1 CREATE PRINCIPAL guest KEY 'g'\nOPEN\n2 HELLO guest KEY 'g'\n\
+    1 CREATE TABLE visit (v INT, note_id INT, PRIMARY KEY (v), FOREIGN KEY (note_id) REFERENCES note)\n",
+    b"1 OPEN\n1 OK\n1 OK\n1 OK\n1 OK\n1 OK\n2 OPEN\n2 OK\n1 OK\n",
+);
 
 /// A hidden row.
 const HIDDEN: (&[u8], &[u8]) = (
@@ -94,38 +98,15 @@ const ORDERED: (&[u8], &[u8]) = (
     1 ROWS 1 1\n1 it's a\\\\b\n1 OK 0\n",
 );
 
-/// What is written for a script, behind another.
-pub(super) fn written<R: AllocGlobal + Threads + Wait + Sync>(
-    rt: &R,
-    begin: &[u8],
-    (script, _): (&[u8], &[u8]),
-) -> Result<Vec<u8>, Fail> {
-    let script = both(rt.alloc(), begin, script)?;
-    let Ran { status: _, written } = run(rt, &script, 65_536)?;
-    Ok(written)
-}
-
 // Scripts without references, and their replies.
 static WORKED: [(&[u8], &[u8]); 7] = [HIDDEN, COMPOUND, TWO_LABELS, VIEW, ENDS, JOINED, ORDERED];
 
 #[test]
 fn statements_have_their_replies(rt: HostRuntime) -> Result<(), Fail> {
-    for worked in &WORKED {
-        let wanted = both(rt.alloc(), BEGUN, worked.1)?;
-        let written = written(&rt, BEGINNING, *worked)?;
-        assert_eq!(rt; written.as_slice(), wanted.as_slice());
-    }
-    Ok(())
+    answered(&rt, NOTES, &WORKED)
 }
 
 #[test]
 fn references_hold_across_labels(rt: HostRuntime) -> Result<(), Fail> {
-    let begin = both(rt.alloc(), BEGINNING, VISITS)?;
-    let begun = both(rt.alloc(), BEGUN, b"1 OK\n")?;
-    for worked in [SECRET_CHILD, BOUND_ANEW] {
-        let wanted = both(rt.alloc(), &begun, worked.1)?;
-        let written = written(&rt, &begin, worked)?;
-        assert_eq!(rt; written.as_slice(), wanted.as_slice());
-    }
-    Ok(())
+    answered(&rt, VISITS, &[SECRET_CHILD, BOUND_ANEW])
 }

@@ -34,13 +34,8 @@ static CHECKS: [(&str, &str, MoreStatus, &str); 9] = [
 #[test]
 fn traces_are_judged(rt: HostRuntime) -> Result<(), Fail> {
     for (words, trace, end, written) in &CHECKS {
-        let ran = ended_more(&rt, words, trace.as_bytes(), (all_of(64), all_of(64)))?;
-        assert_eq!(rt; ran.end, *end, "{words} {trace}");
-        assert_eq!(rt;
-            ran.written.as_slice(),
-            written.as_bytes(),
-            "{words} {trace}"
-        );
+        let end = (*end, written.as_bytes());
+        ends_more(&rt, words, trace.as_bytes(), (all_of(64), all_of(64)), end)?;
     }
     Ok(())
 }
@@ -65,9 +60,8 @@ static USAGES: [(&str, &str); 9] = [
 #[test]
 fn malformed_words_get_their_usage_line(rt: HostRuntime) -> Result<(), Fail> {
     for (words, line) in &USAGES {
-        let ran = ended_more(&rt, words, b"", (all_of(64), all_of(64)))?;
-        assert_eq!(rt; ran.end, USAGE, "{words}");
-        assert_eq!(rt; ran.written.as_slice(), line.as_bytes(), "{words}");
+        let end = (USAGE, line.as_bytes());
+        ends_more(&rt, words, b"", (all_of(64), all_of(64)), end)?;
     }
     Ok(())
 }
@@ -75,10 +69,9 @@ fn malformed_words_get_their_usage_line(rt: HostRuntime) -> Result<(), Fail> {
 #[test]
 fn other_words_are_those_of_top(rt: HostRuntime) -> Result<(), Fail> {
     for words in ["run", "dance", "Check", "generate 1"] {
-        let more = ended_more(&rt, words, b"OPEN\n", (all_of(64), all_of(64)))?;
         let base = ended(&rt, words, b"OPEN\n", (all_of(64), all_of(64)))?;
-        assert_eq!(rt; more.end, MoreStatus::Base(base.status), "{words}");
-        assert_eq!(rt; more.written.as_slice(), base.written.as_slice(), "{words}");
+        let end = (MoreStatus::Base(base.status), base.written.as_slice());
+        ends_more(&rt, words, b"OPEN\n", (all_of(64), all_of(64)), end)?;
     }
     Ok(())
 }
@@ -126,9 +119,8 @@ fn faults_have_their_status(rt: HostRuntime) -> Result<(), Fail> {
             piece: 8,
             fails: *write,
         };
-        let ran = ended_more(&rt, words, bytes.as_bytes(), (reads, writes))?;
-        assert_eq!(rt; ran.end, MoreStatus::Base(*status), "{words}");
-        assert_eq!(rt; ran.written.as_slice(), written.as_bytes(), "{words}");
+        let end = (MoreStatus::Base(*status), written.as_bytes());
+        ends_more(&rt, words, bytes.as_bytes(), (reads, writes), end)?;
     }
     Ok(())
 }
@@ -221,12 +213,11 @@ fn changed_at(alloc: Global, place: usize, change: Change) -> Result<Vec<u8>, Fa
 fn the_recorded_run_is_one(rt: HostRuntime) -> Result<(), Fail> {
     let script = recorded_behind(rt.alloc(), "> ")?;
     let replies = recorded_behind(rt.alloc(), "< ")?;
-    let ran = run(&rt, &script, 64)?;
-    assert_eq!(rt; ran.written.as_slice(), replies.as_slice());
+    let end = (Status::Done, replies.as_slice());
+    ends_with(&rt, "run", &script, (all_of(64), all_of(64)), end)?;
     let trace = changed_at(rt.alloc(), RECORDED.len(), Change::Dropped)?;
-    let ran = ended_more(&rt, "check", &trace, (all_of(64), all_of(64)))?;
-    assert_eq!(rt; ran.end, DONE);
-    Ok(())
+    let end = (DONE, b"ACCEPTED\n".as_slice());
+    ends_more(&rt, "check", &trace, (all_of(64), all_of(64)), end)
 }
 
 #[test]
@@ -234,22 +225,26 @@ fn changed_replies_are_refused(rt: HostRuntime) -> Result<(), Fail> {
     for (at, line) in RECORDED.iter().enumerate() {
         if line.starts_with("< ") {
             for change in [Change::Altered, Change::Dropped, Change::Doubled] {
-                let trace = changed_at(rt.alloc(), at, change)?;
-                let wanted = format!(in rt.alloc();
-                    "REFUSED {}\n",
-                    at.saturating_add(change.lines_before()).saturating_add(1)
-                )?;
-                let ran = ended_more(&rt, "check", &trace, (all_of(64), all_of(64)))?;
-                assert_eq!(rt; ran.end, MoreStatus::TraceRefused, "{line} {change:?}");
-                assert_eq!(rt;
-                    ran.written.as_slice(),
-                    wanted.as_bytes(),
-                    "{line} {change:?}"
-                );
+                is_refused(&rt, at, change)?;
             }
         }
     }
     Ok(())
+}
+
+// Tests that the recorded run with one line changed is refused at its first wrong line.
+fn is_refused<R: Abort + AllocGlobal + Threads + Wait + Sync>(
+    rt: &R,
+    place: usize,
+    change: Change,
+) -> Result<(), Fail> {
+    let trace = changed_at(rt.alloc(), place, change)?;
+    let line = place
+        .saturating_add(change.lines_before())
+        .saturating_add(1);
+    let wanted = format!(in rt.alloc(); "REFUSED {line}\n")?;
+    let end = (MoreStatus::TraceRefused, wanted.as_bytes());
+    ends_more(rt, "check", &trace, (all_of(64), all_of(64)), end)
 }
 
 // Session 1 is an administrator at the empty label, and session 2 a guest at the label of the tag a.
@@ -273,14 +268,9 @@ fn worlds_are_alike_below(rt: HostRuntime) -> Result<(), Fail> {
     let wanted = both(rt.alloc(), BEGINNING.as_bytes(), BELOW.as_bytes())?;
     for world in WORLDS {
         let script = both(rt.alloc(), BEGINNING.as_bytes(), world.as_bytes())?;
-        let ran = ended_more(
-            &rt,
-            "project --tags none",
-            &script,
-            (all_of(64), all_of(64)),
-        )?;
-        assert_eq!(rt; ran.end, DONE);
-        assert_eq!(rt; ran.written.as_slice(), wanted.as_slice(), "{world}");
+        let words = "project --tags none";
+        let end = (DONE, wanted.as_slice());
+        ends_more(&rt, words, &script, (all_of(64), all_of(64)), end)?;
     }
     Ok(())
 }

@@ -1,5 +1,5 @@
 // Worked scripts of transactions, with their replies as they were written by hand.
-use super::statements::{BEGINNING, BEGUN, VISITS, written};
+use super::statements::{NOTES, VISITS};
 use super::*;
 
 /// A label that was raised since does not flow to what was written.
@@ -82,22 +82,10 @@ static WORKED: [(&[u8], &[u8]); 7] = [
 
 #[test]
 fn transactions_have_their_replies(rt: HostRuntime) -> Result<(), Fail> {
-    for worked in &WORKED {
-        let wanted = both(rt.alloc(), BEGUN, worked.1)?;
-        let written = written(&rt, BEGINNING, *worked)?;
-        assert_eq!(rt; written.as_slice(), wanted.as_slice());
-    }
-    Ok(())
+    answered(&rt, NOTES, &WORKED)
 }
 
 #[test]
 fn commits_keep_references(rt: HostRuntime) -> Result<(), Fail> {
-    let begin = both(rt.alloc(), BEGINNING, VISITS)?;
-    let begun = both(rt.alloc(), BEGUN, b"1 OK\n")?;
-    for worked in [BROKEN, REFERENCED] {
-        let wanted = both(rt.alloc(), &begun, worked.1)?;
-        let written = written(&rt, &begin, worked)?;
-        assert_eq!(rt; written.as_slice(), wanted.as_slice());
-    }
-    Ok(())
+    answered(&rt, VISITS, &[BROKEN, REFERENCED])
 }
