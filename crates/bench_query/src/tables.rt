@@ -52,14 +52,14 @@ fn row_with(
     let slot = Slot {
         table,
         key: Key::single(alloc, Value::Int(key))?,
-        label: Label::empty(alloc),
+        label: Label::empty(),
     };
     Shared::new(
         alloc,
         Row {
             slot,
             values,
-            refs: Refs::new(alloc),
+            refs: Refs::new(),
         },
     )
 }

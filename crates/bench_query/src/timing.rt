@@ -73,7 +73,7 @@ fn ask_over(
     };
     let alloc = rt.alloc();
     let tags = Tags::new(alloc);
-    let label = Label::empty(alloc);
+    let label = Label::empty();
     let reading = Reading {
         alloc,
         tags: &tags,

@@ -1,7 +1,7 @@
 // Rows with parents: each tenth key has the same one, so that the children of a slot lie scattered.
 use crate::rows::{child_write, slot_of};
 use crate::work::spread;
-use ifdb_row::{OutOfMemory, Rows, Slot, Writes};
+use ifdb_row::{OutOfMemory, Rows, SlotRef, Writes};
 use ifdb_store::{Content, Store};
 use std::alloc::Global;
 
@@ -31,7 +31,7 @@ pub(crate) fn add_each(alloc: Global, store: &mut Store, rows: u32) -> Result<()
 pub(crate) fn children(alloc: Global, content: &Content, rows: u32) -> Result<(), OutOfMemory> {
     for i in 0..QUESTIONS {
         let slot = slot_of(alloc, parent_of(i.wrapping_mul(7919), rows))?;
-        let _ = content.bound_to(&slot, None).is_some();
+        let _ = content.bound_to(slot.by_ref(), None).is_some();
     }
     Ok(())
 }
@@ -40,11 +40,11 @@ pub(crate) fn children(alloc: Global, content: &Content, rows: u32) -> Result<()
 pub(crate) fn count(alloc: Global, content: &Content, key: i64) -> Result<u64, OutOfMemory> {
     let slot = slot_of(alloc, key)?;
     let mut found = 0u64;
-    let mut after: Option<&Slot> = None;
+    let mut after: Option<SlotRef<'_>> = None;
     for _ in 0..u32::MAX {
-        match content.bound_to(&slot, after) {
+        match content.bound_to(slot.by_ref(), after) {
             None => break,
-            Some(row) => after = Some(&row.slot),
+            Some(row) => after = Some(row.slot),
         }
         found = found.saturating_add(1);
     }

@@ -22,7 +22,7 @@ fn row_of(alloc: Global, number: i64) -> Result<Row, OutOfMemory> {
     Ok(Row {
         slot: slot_of(alloc, number)?,
         values,
-        refs: Refs::new(alloc),
+        refs: Refs::new(),
     })
 }
 
@@ -30,12 +30,12 @@ fn row_of(alloc: Global, number: i64) -> Result<Row, OutOfMemory> {
 pub(crate) fn child_write(alloc: Global, number: i64, parent: i64) -> Result<Write, OutOfMemory>
     ensures { IfOk result (λ write. IsTrue (is_fitting write.slot write.row)) }
 {
-    let refs = Refs::single(alloc, slot_of(alloc, parent)?)?;
+    let refs = Refs::from_vec(alloc, Vec::from_array(alloc, [slot_of(alloc, parent)?])?)?;
     let key = Key::single(alloc, Value::Int(number))?;
     let slot = Slot {
         table: TableId(1),
         key,
-        label: Label::empty(alloc),
+        label: Label::empty(),
     };
     let values = Values::new(alloc);
     Write::of_row(alloc, Row { slot, values, refs })
@@ -47,6 +47,6 @@ pub(crate) fn slot_of(alloc: Global, number: i64) -> Result<Slot, OutOfMemory> {
     Ok(Slot {
         table: TableId(0),
         key,
-        label: Label::empty(alloc),
+        label: Label::empty(),
     })
 }

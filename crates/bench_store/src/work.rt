@@ -1,6 +1,6 @@
 // What is timed.
 use crate::rows::{one_write, slot_of};
-use ifdb_row::{OutOfMemory, Rows, Slot};
+use ifdb_row::{OutOfMemory, Rows, SlotRef};
 use ifdb_store::{Content, Store};
 use ifdb_value::TableId;
 use std::alloc::Global;
@@ -12,7 +12,7 @@ pub(crate) const CALLS: u32 = 20_000;
 pub(crate) fn look(alloc: Global, content: &Content, rows: u32) -> Result<(), OutOfMemory> {
     for i in 0..CALLS {
         let slot = slot_of(alloc, spread(i, rows))?;
-        let _ = content.get(&slot).is_some();
+        let _ = content.get(slot.by_ref()).is_some();
     }
     Ok(())
 }
@@ -49,14 +49,14 @@ pub(crate) fn fill(
 /// How many rows of the table a walk finds, at most 2^32.
 pub(crate) fn walk(content: &Content) -> u64 {
     let mut found = 0u64;
-    let mut after: Option<&Slot> = None;
+    let mut after: Option<SlotRef<'_>> = None;
     for _ in 0..u32::MAX {
         let run = content.run(TableId(0), after);
         match run.last() {
             None => break,
             Some(last) => {
                 found = found.saturating_add(run.len() as u64);
-                after = Some(&last.get().slot);
+                after = Some(last.slot);
             }
         }
     }

@@ -195,7 +195,7 @@ fn value_at(alloc: Global, row: &[Value], place: usize) -> Result<Value, OutOfMe
     ensures { IfOk result (λ value. value ≡ value_at row.now place) }
 {
     match row.get(place) {
-        Some(value) => value.copy(alloc),
+        Some(value) => value.share(),
         None => Ok(Value::Int(0)),
     }
 }

@@ -216,7 +216,7 @@ fn add_given(alloc: Global, names: &mut Names, output: &OutputName<'_>) -> Resul
     ensures { OnOk result (names.new ≡ names.old ++ given (output.now ∷ [])) }
 {
     match output.name() {
-        Some(name) => names.push(name.copy(alloc)?),
+        Some(name) => names.push(name.share()?),
         None => Ok(()),
     }
 }

@@ -71,7 +71,7 @@ impl Schema {
     pub fn copy(&self, alloc: Global) -> Result<Schema, OutOfMemory>
         ensures { IfOk result (λ schema. schema ≡ self.now) }
     {
-        let name = self.name.copy(alloc)?;
+        let name = self.name.share()?;
         let columns = self
             .columns
             .copy_by(alloc, |column: &Column| { copied_column(alloc, column) })?;
@@ -93,10 +93,10 @@ impl ViewDef {
     pub fn copy(&self, alloc: Global) -> Result<ViewDef, OutOfMemory>
         ensures { IfOk result (λ view. view ≡ self.now) }
     {
-        let name = self.name.copy(alloc)?;
+        let name = self.name.share()?;
         let select = self.select.copy(alloc)?;
-        let names = self.names.copy_by(alloc, |name: &Name| name.copy(alloc))?;
-        let declassifying = self.declassifying.copy(alloc)?;
+        let names = self.names.copy_by(alloc, |name: &Name| name.share())?;
+        let declassifying = self.declassifying.share()?;
         Ok(ViewDef {
             name,
             owner: self.owner,
@@ -111,7 +111,7 @@ impl ViewDef {
 fn copied_column(alloc: Global, column: &Column) -> Result<Column, OutOfMemory>
     ensures { IfOk result (λ copy. copy ≡ column.now) }
 {
-    let name = column.name.copy(alloc)?;
+    let name = column.name.share()?;
     Ok(Column {
         name,
         kind: column.kind,

@@ -86,7 +86,7 @@ fn called_as(alloc: Global, name: Option<&Name>, ends: bool) -> Result<Form, Out
         said form ≡ called_as (option_map (λ n. n.now) name.entry) ends) }
 {
     match name {
-        Some(name) if ends => Ok(Form::Calls(name.copy(alloc)?)),
+        Some(name) if ends => Ok(Form::Calls(name.share()?)),
         _ => Ok(Form::Faulty(Fault::Syntax(0))),
     }
 }
@@ -149,7 +149,7 @@ fn created_from(
         return Ok(Form::Faulty(fault));
     }
     Ok(Form::Creates {
-        name: name.copy(alloc)?,
+        name: name.share()?,
         statements,
     })
 }

@@ -43,8 +43,8 @@ impl Greeting {
     {
         match request {
             Request::Hello { name, key } => Ok(Some(Greeting {
-                name: name.copy(alloc)?,
-                key: key.copy(alloc)?,
+                name: name.share()?,
+                key: key.share()?,
             })),
             _ => Ok(None),
         }
@@ -55,8 +55,8 @@ impl Greeting {
         ensures { IfOk result (λ greeting. greeting ≡ self.now) }
     {
         Ok(Greeting {
-            name: self.name.copy(alloc)?,
-            key: self.key.copy(alloc)?,
+            name: self.name.share()?,
+            key: self.key.share()?,
         })
     }
 

@@ -96,7 +96,7 @@ fn name_of(alloc: Global, room: &Room, tag: Tag) -> Result<Name, OutOfMemory>
         name ≡ slice_index_or (tag_names room.now.desk.seen.public) tag []) }
 {
     match room.tag_name(tag) {
-        Some(name) => name.copy(alloc),
+        Some(name) => name.share(),
         None => unreachable!(),
     }
 }

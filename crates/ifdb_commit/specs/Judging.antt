@@ -1,4 +1,5 @@
 -- What a judged COMMIT comes out with.
+use Rattle.ifdb_row.specs.ByReference.{slot_of}
 use Rattle.ifdb_row.specs.Verdict.{Verdict, commit_label, conflict, broken_reference, still_referenced, go, Witness, nothing, at_slot, at_stamp, at_parent}
 use Rattle.ifdb_commit.specs.declared.judge.Judged.{Judged}
 use Rattle.ifdb_commit.specs.declared.judge.Judged.TheVariants.{Go, CommitLabel, Conflict, BrokenReference, StillReferenced}
@@ -17,4 +18,4 @@ shown_by Go = nothing
 shown_by (CommitLabel s) = at_slot s.now
 shown_by (Conflict c) = at_stamp c.slot.now c.stamp
 shown_by (BrokenReference s) = at_slot s.now
-shown_by (StillReferenced l) = at_parent l.child.now l.parent.now
+shown_by (StillReferenced l) = at_parent (slot_of l.child) l.parent.now

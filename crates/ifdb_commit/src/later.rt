@@ -115,7 +115,7 @@ fn writes_from<'a>(own: &'a [Write], slot: &Slot) -> &'a [Write]
     ensures from_key { IsTrue (list_all (λ w. not (is_behind_key slot.now w)) result.now) }
 {
     let key = Edge::Key(slot.table, slot.key.items());
-    let at = own.partition_point(|write| key.is_behind(&write.slot));
+    let at = own.partition_point(|write| key.is_behind(write.slot.by_ref()));
     own.split_at(at).1
 }
 
@@ -128,7 +128,10 @@ fn flows_to_some(tags: &Tags, own: &[Write], slot: &Slot) -> bool
     ensures { result ≡ meets tags.now own.now slot.now }
 {
     for write in own {
-        if !slot.is_of_key(write.slot.table, write.slot.key.items()) {
+        if !slot
+            .by_ref()
+            .is_of_key(write.slot.table, write.slot.key.items())
+        {
             return false;
         }
         if slot.label.flows(tags, &write.slot.label) {

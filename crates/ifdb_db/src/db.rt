@@ -111,7 +111,7 @@ impl Db {
         if session.in_transaction() {
             return None;
         }
-        let Ok(label) = session.label.copy(self.alloc) else {
+        let Ok(label) = session.label.share() else {
             return None;
         };
         let Ok(public) = self.public.share() else {

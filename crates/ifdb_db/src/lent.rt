@@ -66,7 +66,7 @@ impl Session {
         let Some(txn) = begun.lend() else {
             return None;
         };
-        let Ok(label) = self.label.copy(begun.alloc()) else {
+        let Ok(label) = self.label.share() else {
             return None;
         };
         let Ok(ceiling) = copied(begun.alloc(), &self.ceiling) else {
@@ -88,7 +88,7 @@ fn copied(alloc: Global, ceiling: &Option<Label>) -> Result<Option<Label>, OutOf
 {
     match ceiling {
         Some(label) => {
-            let label = label.copy(alloc)?;
+            let label = label.share()?;
             Ok(Some(label))
         }
         None => Ok(None),

@@ -51,7 +51,7 @@ impl Session {
             is_open: true,
             principal: None,
             ceiling: None,
-            label: Label::empty(alloc),
+            label: Label::empty(),
             txn: None,
         }
     }

@@ -1,13 +1,14 @@
 // Rows by reference.
 ghost use Rattle.std.specs.Prelude.{◌≡◌};
 ghost use Rattle.ifdb_bound.specs.Expressions.{value_at};
+ghost use Rattle.ifdb_row.specs.ByReference.{row_of};
 ghost use Rattle.ifdb_value.specs.Value.{value_cmp};
 ghost use Rattle.ifdb_expr.specs.View.{source_row};
 ghost use Rattle.ifdb_expr.specs.ByReference.{owned, shown};
 
 use crate::value_ref::ValueRef;
 use ifdb_label::Tag;
-use ifdb_row::Row;
+use ifdb_row::RowRef;
 use ifdb_value::Value;
 use std::cmp::Ordering;
 
@@ -22,11 +23,11 @@ pub struct SeenRow<'a> {
 
 impl<'a> SeenRow<'a> {
     /// A row of a table.
-    pub fn of(row: &'a Row) -> Self
-        ensures { shown result ≡ source_row row.now }
+    pub fn of(row: RowRef<'a>) -> Self
+        ensures { shown result ≡ source_row (row_of row.entry) }
     {
         SeenRow {
-            values: row.values.items(),
+            values: row.values,
             label: row.slot.label.tags(),
         }
     }

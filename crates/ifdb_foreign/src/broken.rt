@@ -2,20 +2,21 @@
 ghost use Rattle.std.specs.Prelude.{◌≡◌, ◌&&◌, not, find, IsTrue, Some};
 ghost use Rattle.std.specs.List.{list_any};
 ghost use Rattle.std.specs.Option.{option_copied};
+ghost use Rattle.ifdb_row.specs.ByReference.{option_row, row_of};
 ghost use Rattle.ifdb_row.specs.Content.{after, live, rising};
 ghost use Rattle.ifdb_row.specs.Questions.{earlier, if_passes, is_child_of};
 ghost use Rattle.ifdb_row.specs.Writes.{are_fitting, are_rising, deletes, is_written};
 ghost use Rattle.ifdb_row.specs.Verdict.{empties_parent, first_left, is_broken, is_left, left_at};
 ghost use Rattle.ifdb_foreign.specs.Left.{first_written, shown_left, unwritten};
 
-use ifdb_row::{Row, Rows, Slot, Write, Writes};
+use ifdb_row::{RowRef, Rows, Slot, SlotRef, Write, Writes};
 use ifdb_value::TableId;
 
 /// A row that is left without a parent.
 #[derive(Clone, Copy)]
 pub struct LeftRow<'a> {
     /// Its slot.
-    pub child: &'a Slot,
+    pub child: SlotRef<'a>,
     /// The first of its parents, in the order of slots, that the writes empty.
     pub parent: &'a Slot,
 }
@@ -75,7 +76,7 @@ fn is_live<R: Rows>(rows: &R, slot: &Slot) -> bool
     ensures live { result ≡ live (R.rows rows.now) slot.now }
     ensures rising { IsTrue (rising (R.rows rows.now)) }
 {
-    match rows.get(slot) {
+    match rows.get(slot.by_ref()) {
         Some(_) => true,
         None => false,
     }
@@ -95,8 +96,8 @@ pub fn first_left<'a, R: Rows>(before: &'a R, writes: &'a Writes) -> Option<Left
 }
 
 /// The first row that is bound after the writes to a slot which they empty.
-fn first_child<'a, R: Rows>(before: &'a R, writes: &'a Writes) -> Option<&'a Row>
-    ensures { option_copied result
+fn first_child<'a, R: Rows>(before: &'a R, writes: &'a Writes) -> Option<RowRef<'a>>
+    ensures { option_row result
         ≡ find (is_left writes.now) (after (R.rows before.now) writes.now) }
 {
     let kept = first_kept(before, writes);
@@ -105,14 +106,14 @@ fn first_child<'a, R: Rows>(before: &'a R, writes: &'a Writes) -> Option<&'a Row
 }
 
 /// The first such row of those before that aren't written.
-fn first_kept<'a, R: Rows>(before: &'a R, writes: &Writes) -> Option<&'a Row>
-    ensures row { option_copied result
+fn first_kept<'a, R: Rows>(before: &'a R, writes: &Writes) -> Option<RowRef<'a>>
+    ensures row { option_row result
         ≡ find (unwritten writes.now (is_left writes.now)) (R.rows before.now) }
     ensures rising { IsTrue (rising (R.rows before.now)) }
 {
     // Each answer also says that the rows rise.
     let _ = before.next(TableId(0), None);
-    let mut child: Option<&'a Row> = None;
+    let mut child: Option<RowRef<'a>> = None;
     for write in writes.items() {
         child = earlier(child, kept_child(before, writes, write));
     }
@@ -120,8 +121,8 @@ fn first_kept<'a, R: Rows>(before: &'a R, writes: &Writes) -> Option<&'a Row>
 }
 
 /// The first row of those before that isn't written and is bound to the write's slot, if the write empties it.
-fn kept_child<'a, R: Rows>(before: &'a R, writes: &Writes, write: &Write) -> Option<&'a Row>
-    ensures { option_copied result
+fn kept_child<'a, R: Rows>(before: &'a R, writes: &Writes, write: &Write) -> Option<RowRef<'a>>
+    ensures { option_row result
         ≡ find (unwritten writes.now (λ r. empties_parent r write.now)) (R.rows before.now) }
 {
     match &write.row {
@@ -131,25 +132,25 @@ fn kept_child<'a, R: Rows>(before: &'a R, writes: &Writes, write: &Write) -> Opt
 }
 
 /// The first row that isn't written and is bound to a slot.
-fn unwritten_child<'a, R: Rows>(before: &'a R, writes: &Writes, slot: &Slot) -> Option<&'a Row>
-    ensures { option_copied result ≡ find
+fn unwritten_child<'a, R: Rows>(before: &'a R, writes: &Writes, slot: &Slot) -> Option<RowRef<'a>>
+    ensures { option_row result ≡ find
         (λ r. not (is_written writes.now r.slot) && is_child_of slot.now r) (R.rows before.now) }
 {
-    let mut after: Option<&'a Slot> = None;
-    'children: while let Some(row) = before.bound_to(slot, after) {
-        if !writes.is_written(&row.slot) {
+    let mut after: Option<SlotRef<'a>> = None;
+    'children: while let Some(row) = before.bound_to(slot.by_ref(), after) {
+        if !writes.has(row.slot) {
             return Some(row);
         }
-        after = Some(&row.slot);
+        after = Some(row.slot);
     }
     None
 }
 
 /// The first of some written rows that is bound to a slot which the writes empty.
-fn first_written<'a>(writes: &Writes, items: &'a [Write]) -> Option<&'a Row>
+fn first_written<'a>(writes: &Writes, items: &'a [Write]) -> Option<RowRef<'a>>
     requires rising { IsTrue (are_rising items.now) }
     requires fitting { IsTrue (are_fitting items.now) }
-    ensures { option_copied result ≡ first_written (is_left writes.now) items.now }
+    ensures { option_row result ≡ first_written (is_left writes.now) items.now }
 {
     match items {
         [] => None,
@@ -161,20 +162,20 @@ fn first_written<'a>(writes: &Writes, items: &'a [Write]) -> Option<&'a Row>
 }
 
 /// The write's row, if it is bound to a slot which the writes empty.
-fn left_row<'a>(writes: &Writes, write: &'a Write) -> Option<&'a Row>
-    ensures { option_copied result ≡ if_passes (is_left writes.now) write.now.row }
+fn left_row<'a>(writes: &Writes, write: &'a Write) -> Option<RowRef<'a>>
+    ensures { option_row result ≡ if_passes (is_left writes.now) write.now.row }
 {
     match &write.row {
-        Some(row) => if_left(writes, row.get()),
+        Some(row) => if_left(writes, row.get().by_ref()),
         None => None,
     }
 }
 
 /// The row, if it is bound to a slot which the writes empty.
-fn if_left<'a>(writes: &Writes, row: &'a Row) -> Option<&'a Row>
-    ensures { option_copied result ≡ if_passes (is_left writes.now) (Some row.now) }
+fn if_left<'a>(writes: &Writes, row: RowRef<'a>) -> Option<RowRef<'a>>
+    ensures { option_row result ≡ if_passes (is_left writes.now) (Some (row_of row.entry)) }
 {
-    for parent in row.refs.items() {
+    for parent in row.parents() {
         if empties(writes, parent) {
             return Some(row);
         }
@@ -195,12 +196,12 @@ fn empties(writes: &Writes, slot: &Slot) -> bool
 }
 
 /// Of two rows, the one that stands first.
-fn earlier<'a>(row: Option<&'a Row>, other: Option<&'a Row>) -> Option<&'a Row>
-    ensures { option_copied result ≡ earlier (option_copied row.entry) (option_copied other.entry) }
+fn earlier<'a>(row: Option<RowRef<'a>>, other: Option<RowRef<'a>>) -> Option<RowRef<'a>>
+    ensures { option_row result ≡ earlier (option_row row.entry) (option_row other.entry) }
 {
     match (row, other) {
         (Some(first), Some(second)) => {
-            if second.slot.is_before(&first.slot) {
+            if second.slot.is_before(first.slot) {
                 Some(second)
             } else {
                 Some(first)
@@ -212,13 +213,13 @@ fn earlier<'a>(row: Option<&'a Row>, other: Option<&'a Row>) -> Option<&'a Row>
 }
 
 /// The row, with the first of its parents that the writes empty.
-fn parent_emptied<'a>(row: &'a Row, writes: &'a [Write]) -> Option<LeftRow<'a>>
-    ensures { shown_left result ≡ left_at writes.now row.now }
+fn parent_emptied<'a>(row: RowRef<'a>, writes: &'a [Write]) -> Option<LeftRow<'a>>
+    ensures { shown_left result ≡ left_at writes.now (row_of row.entry) }
 {
     for write in writes {
         if empties_parent(row, write) {
             return Some(LeftRow {
-                child: &row.slot,
+                child: row.slot,
                 parent: &write.slot,
             });
         }
@@ -227,8 +228,8 @@ fn parent_emptied<'a>(row: &'a Row, writes: &'a [Write]) -> Option<LeftRow<'a>>
 }
 
 /// Whether the write empties a slot that the row is bound to.
-fn empties_parent(row: &Row, write: &Write) -> bool
-    ensures { result ≡ empties_parent row.now write.now }
+fn empties_parent(row: RowRef<'_>, write: &Write) -> bool
+    ensures { result ≡ empties_parent (row_of row.entry) write.now }
 {
-    write.row.is_none() && row.is_child_of(&write.slot)
+    write.row.is_none() && row.is_child_of(write.slot.by_ref())
 }

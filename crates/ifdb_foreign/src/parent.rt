@@ -1,7 +1,7 @@
 // The parents that rows are bound to.
 ghost use Rattle.std.specs.Prelude.{◌≡◌, ◌&&◌, find, length};
-ghost use Rattle.std.specs.Option.{option_copied};
 ghost use Rattle.ifdb_label.specs.Tags.{AreMade};
+ghost use Rattle.ifdb_row.specs.ByReference.{option_row};
 ghost use Rattle.ifdb_row.specs.Slots.{is_of_key};
 ghost use Rattle.ifdb_row.specs.Seen.{candidate, parent_of};
 ghost use Rattle.ifdb_foreign.specs.Parents.{Binds, IsMade};
@@ -9,7 +9,7 @@ ghost use Rattle.ifdb_foreign.specs.Parents.{Binds, IsMade};
 use crate::OutOfMemory;
 use crate::standpoint::Standpoint;
 use ifdb_label::Label;
-use ifdb_row::{Row, Rows, Slot};
+use ifdb_row::{RowRef, Rows, Slot};
 use ifdb_value::{TableId, Value};
 use ifdb_wire::Fault;
 use std::alloc::Global;
@@ -31,7 +31,7 @@ pub fn bind_parent<R: Rows>(
 {
     match first_serving(from, rows, parent, key) {
         Some(row) => {
-            let slot = row.slot.copy(alloc)?;
+            let slot = row.slot.to_slot(alloc)?;
             Ok(slot)
         }
         None => Err(Fault::NoReference),
@@ -44,19 +44,19 @@ fn first_serving<'a, R: Rows>(
     rows: &'a R,
     table: TableId,
     key: &[Value],
-) -> Option<&'a Row>
+) -> Option<RowRef<'a>>
     requires made { IsMade from (R.rows rows.now) }
-    ensures { option_copied result ≡
+    ensures { option_row result ≡
         find (λ r. is_of_key table key.now r.slot
         && candidate from.entry.tags.now r.slot.label from.entry.label.now from.entry.given.now)
         (R.rows rows.now) }
 {
     let mut after: Option<&Label> = None;
     'keyed: while let Some(row) = rows.of_key(table, key, after) {
-        if serves(from, &row.slot.label) {
+        if serves(from, row.slot.label) {
             return Some(row);
         }
-        after = Some(&row.slot.label);
+        after = Some(row.slot.label);
     }
     None
 }

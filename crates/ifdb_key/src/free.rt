@@ -1,13 +1,13 @@
 // Whether a key is free.
 ghost use Rattle.std.specs.Prelude.{◌≡◌, ◌&&◌, IsTrue, find, length, not};
-ghost use Rattle.std.specs.Option.{option_copied};
 ghost use Rattle.ifdb_label.specs.Tags.{AreMade};
 ghost use Rattle.ifdb_label.specs.Label.{flows};
+ghost use Rattle.ifdb_row.specs.ByReference.{option_row};
 ghost use Rattle.ifdb_row.specs.Slots.{is_of_key};
 ghost use Rattle.ifdb_row.specs.Seen.{are_rows_made, clash};
 
 use ifdb_label::{Label, Tags};
-use ifdb_row::{Row, Rows};
+use ifdb_row::{RowRef, Rows};
 use ifdb_value::{TableId, Value};
 
 /// Whether the label sees no row of the table's key. Takes no memory. Costs one look-up for each row of the key, up to the first that the
@@ -31,10 +31,10 @@ fn first_seen<'a, R: Rows>(
     table: TableId,
     key: &[Value],
     label: &Label,
-) -> Option<&'a Row>
+) -> Option<RowRef<'a>>
     requires rows_made { IsTrue (are_rows_made (length tags.now) (R.rows rows.now)) }
     requires label_made { AreMade (length tags.now) label.now }
-    ensures { option_copied result ≡
+    ensures { option_row result ≡
         find (λ r. is_of_key table key.now r.slot && flows tags.now r.slot.label label.now)
         (R.rows rows.now) }
 {
@@ -43,7 +43,7 @@ fn first_seen<'a, R: Rows>(
         if row.slot.label.flows(tags, label) {
             return Some(row);
         }
-        after = Some(&row.slot.label);
+        after = Some(row.slot.label);
     }
     None
 }

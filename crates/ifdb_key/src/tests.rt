@@ -112,7 +112,7 @@ fn row_of(alloc: Global, tags: &Tags, keyed: &Keyed) -> Result<Shared<Row>, OutO
     let row = Row {
         slot,
         values: Values::single(alloc, Value::Int(*key))?,
-        refs: Refs::new(alloc),
+        refs: Refs::new(),
     };
     Shared::new(alloc, row)
 }

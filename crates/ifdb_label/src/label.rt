@@ -5,13 +5,14 @@ ghost use Rattle.ifdb_label.specs.Label.{flows, is_below_another, is_below_some,
 
 use crate::rising::insert_all;
 use crate::{OutOfMemory, Tag, Tags};
+use ifdb_value::SharedList;
 use std::alloc::Global;
 use std::marker::Model;
 
-/// A set of tags. Contracts see their numbers, each greater than the one before it.
+/// A set of tags, which several owners share. Contracts see their numbers, each greater than the one before it.
 #[derive(Drop)]
 pub struct Label {
-    tags: Vec<Tag>,
+    tags: SharedList<Tag>,
 }
 
 impl Model for Label {
@@ -20,19 +21,29 @@ impl Model for Label {
 
     ghost Value = { List ℕ };
 
-    ghost view = { λ l. l.tags.items };
+    ghost view = { λ l. l.tags };
 
-    ghost invariant = { λ l. IsTrue (is_rising l.tags.items) };
+    ghost invariant = { λ l. IsTrue (is_rising l.tags) };
 }
 
 impl Label {
     /// The label with no tags. Takes no memory.
-    pub fn empty(alloc: Global) -> Self
+    pub fn empty() -> Self
         ensures { result ≡ [] }
     {
         Label {
-            tags: Vec::new(alloc),
+            tags: SharedList::new(),
         }
+    }
+
+    /// The label with these tags, which rise.
+    fn of(alloc: Global, tags: Vec<Tag>) -> Result<Self, OutOfMemory>
+        requires { IsTrue (is_rising tags.items) }
+        ensures { IfOk result (λ label. label ≡ tags.items) }
+    {
+        Ok(Label {
+            tags: SharedList::from_vec(alloc, tags)?,
+        })
     }
 
     /// The label's tags, in rising order.
@@ -40,15 +51,16 @@ impl Label {
         ensures value { result.now ≡ self.now }
         ensures rising { IsTrue (is_rising result.now) }
     {
-        &self.tags
+        self.tags.items()
     }
 
-    /// A label with the same tags.
-    pub fn copy(&self, alloc: Global) -> Result<Self, OutOfMemory>
+    /// One more owner of the same label. Takes no memory; `OutOfMemory` comes where it has too many owners.
+    pub fn share(&self) -> Result<Self, OutOfMemory>
         ensures { IfOk result (λ label. label ≡ self.now) }
     {
-        let tags = Vec::from_slice(alloc, &self.tags)?;
-        Ok(Label { tags })
+        Ok(Label {
+            tags: self.tags.share()?,
+        })
     }
 
     /// The tags of the list that aren't below another tag of it, rising, each once.
@@ -62,7 +74,7 @@ impl Label {
         let mut kept = Vec::new(alloc);
         insert_all(&mut kept, list)?;
         drop_below_another(tags, &mut kept, list);
-        Ok(Label { tags: kept })
+        Label::of(alloc, kept)
     }
 
     /// Whether each tag of this label is below some tag of the other: what is at this label may go to the other.
@@ -71,9 +83,10 @@ impl Label {
     pub fn flows(&self, tags: &Tags, other: &Label) -> bool
         ensures { result ≡ flows tags.now self.now other.now }
     {
-        self.tags
+        let others = other.tags();
+        self.tags()
             .iter()
-            .all(|tag| is_below_some(tags, *tag, &other.tags))
+            .all(|tag| is_below_some(tags, *tag, others))
     }
 
     /// The reduction of both labels' tags together. Costs what `reduce` does.
@@ -83,8 +96,8 @@ impl Label {
         ensures value { IfOk result (λ label. label ≡ union tags.now self.now other.now) }
         ensures made { IfOk result (λ label. AreMade (length tags.now) label) }
     {
-        let mut both = Vec::from_slice(alloc, &self.tags)?;
-        both.extend_from_slice(&other.tags)?;
+        let mut both = Vec::from_slice(alloc, self.tags())?;
+        both.extend_from_slice(other.tags())?;
         Label::reduce(alloc, tags, &both)
     }
 
@@ -98,7 +111,7 @@ impl Label {
     {
         // That parents are older than their tags, as `count` says, is what lets each tag be tested by itself.
         let _ = tags.count();
-        flow_to_either(tags, &self.tags, &first.tags, &second.tags)
+        flow_to_either(tags, self.tags(), first.tags(), second.tags())
     }
 
     /// The tags of this label that aren't below a tag of `of`: none of them exactly where this label flows to `of`.
@@ -108,9 +121,9 @@ impl Label {
         ensures value { IfOk result (λ label. label ≡ strip tags.now self.now of.now) }
         ensures made { IfOk result (λ label. AreMade (length tags.now) label) }
     {
-        let mut left = Vec::from_slice(alloc, &self.tags)?;
-        drop_below_some(tags, &mut left, &of.tags);
-        Ok(Label { tags: left })
+        let mut left = Vec::from_slice(alloc, self.tags())?;
+        drop_below_some(tags, &mut left, of.tags());
+        Label::of(alloc, left)
     }
 }
 

@@ -69,7 +69,7 @@ pub(crate) fn literal(alloc: Global, lexemes: &[Lexeme]) -> Read<'_, Value>
     match lexemes {
         [Lexeme::Number(number), rest @ ..] => Ok((Value::Int(plain(*number)), rest)),
         [Lexeme::Minus, rest @ ..] => negative(rest),
-        [Lexeme::Quoted(text), rest @ ..] => Ok((Value::Text(text.copy(alloc)?), rest)),
+        [Lexeme::Quoted(text), rest @ ..] => Ok((Value::Text(text.share()?), rest)),
         [Lexeme::Null, rest @ ..] => Ok((Value::Null, rest)),
         _ => Err(Stop::Left(lexemes.len())),
     }

@@ -36,7 +36,7 @@ fn source(alloc: Global, lexemes: &[Lexeme]) -> Read<'_, Source>
             Ok((Source { name, alias }, rest))
         }
         _ => {
-            let alias = name.copy(alloc)?;
+            let alias = name.share()?;
             Ok((Source { name, alias }, rest))
         }
     }
@@ -60,7 +60,7 @@ fn order_by(alloc: Global, lexemes: &[Lexeme]) -> Read<'_, OrderBy>
     ensures shorter { IsShorter result lexemes.now }
 {
     match lexemes {
-        [Lexeme::Name(name), rest @ ..] => Ok((OrderBy::Name(name.copy(alloc)?), rest)),
+        [Lexeme::Name(name), rest @ ..] => Ok((OrderBy::Name(name.share()?), rest)),
         [Lexeme::Number(place), rest @ ..] => Ok((OrderBy::Place(*place), rest)),
         _ => Err(Stop::Left(lexemes.len())),
     }

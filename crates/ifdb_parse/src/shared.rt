@@ -33,7 +33,7 @@ pub(crate) fn name(alloc: Global, lexemes: &[Lexeme]) -> Read<'_, Name>
     ensures shorter { IsShorter result lexemes.now }
 {
     match lexemes {
-        [Lexeme::Name(name), rest @ ..] => Ok((name.copy(alloc)?, rest)),
+        [Lexeme::Name(name), rest @ ..] => Ok((name.share()?, rest)),
         _ => Err(Stop::Left(lexemes.len())),
     }
 }
@@ -57,7 +57,7 @@ pub(crate) fn text(alloc: Global, lexemes: &[Lexeme]) -> Read<'_, Word>
     ensures shorter { IsShorter result lexemes.now }
 {
     match lexemes {
-        [Lexeme::Quoted(text), rest @ ..] => Ok((text.copy(alloc)?, rest)),
+        [Lexeme::Quoted(text), rest @ ..] => Ok((text.share()?, rest)),
         _ => Err(Stop::Left(lexemes.len())),
     }
 }

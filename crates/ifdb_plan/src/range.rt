@@ -149,7 +149,7 @@ fn with_value(alloc: Global, front: &Key, value: &Value) -> Result<Key, OutOfMem
     ensures { IfOk result (λ values. values ≡ front.now ++ value.now ∷ []) }
 {
     let mut values = copied(alloc, front)?;
-    values.push(value.copy(alloc)?)?;
+    values.push(value.share()?)?;
     Ok(values)
 }
 
@@ -157,7 +157,7 @@ fn with_value(alloc: Global, front: &Key, value: &Value) -> Result<Key, OutOfMem
 fn copied(alloc: Global, front: &Key) -> Result<Key, OutOfMemory>
     ensures { IfOk result (λ values. values ≡ front.now) }
 {
-    front.copy_by(alloc, |value| value.copy(alloc))
+    front.copy_by(alloc, |value| value.share())
 }
 
 /// The value that the first test leaves a column which leaves it one.

@@ -53,5 +53,5 @@ pub edge_falls : (e : Edge) → Falls (lies_before e)
 edge_falls (Table t) p q h k = let l = slot_lt_table p q h in grind (arith, nat_tests)
 edge_falls (Key t m) p q h k = grind (arith, nat_tests, slot_lt_table p q h, slot_lt_key p q h, at_most_lt p.key q.key m.now (key_cmp p.key q.key) refl)
 edge_falls (Past t m) p q h k = grind (arith, nat_tests, slot_lt_table p q h, slot_lt_key p q h, front_falls is_le refl refl p.key q.key m.now)
-edge_falls (At s) p q h k = slot_lt_trans p q s.now h k
+edge_falls (At t m l) p q h k = slot_lt_trans p q (slot_at t m.now l.now) h k
 edge_falls (Behind t m l) p q h k = before_down (slot_at t m.now l.now) p q h k

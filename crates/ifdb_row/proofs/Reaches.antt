@@ -70,6 +70,14 @@ leading_is p (x ∷ xs) = by (p x) refl (leading_is p xs) where
       ap (λ b. take (cond b (1 + prefix_len p xs) 0) (x ∷ xs)) e ∙ (ap (λ n. take n (x ∷ xs)) one ∙ (ap (λ ys. x ∷ ys) more ∙ sym (ap (λ b. cond b (x ∷ leading p xs) []) e)))
   by false e more = ap (λ b. take (cond b (1 + prefix_len p xs) 0) (x ∷ xs)) e ∙ sym (ap (λ b. cond b (x ∷ leading p xs) []) e)
 
+-- they are as many as are in reach
+pub reach_leads : {X : Type 0} (p : X → Bool) (xs : List X) → take (reach p xs) xs ≡ leading p xs
+reach_leads p [] = refl
+reach_leads p (x ∷ xs) = by (p x) refl (reach_leads p xs) where
+  by : (b : Bool) → p x ≡ b → take (reach p xs) xs ≡ leading p xs → take (reach p (x ∷ xs)) (x ∷ xs) ≡ leading p (x ∷ xs)
+  by true e more = ap (λ b. take (cond b (suc (reach p xs)) 0) (x ∷ xs)) e ∙ (ap (λ ys. x ∷ ys) more ∙ sym (ap (λ b. cond b (x ∷ leading p xs) []) e))
+  by false e more = ap (λ b. take (cond b (suc (reach p xs)) 0) (x ∷ xs)) e ∙ sym (ap (λ b. cond b (x ∷ leading p xs) []) e)
+
 -- they are as many as a partition point tells
 pub leading_take : {X : Type 0} (p : X → Bool) (xs : List X) (n : ℕ) → n ≤ length xs → list_all p (take n xs) ≡ true → list_all (λ x. not (p x)) (drop n xs) ≡ true → take n xs ≡ leading p xs
 leading_take p [] zero le a b = refl

@@ -17,5 +17,5 @@ abbrev pub lies_before : Edge → Slot → Bool
 lies_before (Table t) s = nat_lt s.table t
 lies_before (Key t k) s = if s.table == t then is_lt (key_cmp s.key k.now) else nat_lt s.table t
 lies_before (Past t k) s = if s.table == t then is_le (front_cmp s.key k.now) else nat_lt s.table t
-lies_before (At q) s = slot_lt s q.now
+lies_before (At t k l) s = slot_lt s (slot_at t k.now l.now)
 lies_before (Behind t k l) s = not (slot_lt (slot_at t k.now l.now) s)

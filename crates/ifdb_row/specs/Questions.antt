@@ -6,9 +6,11 @@ use Rattle.std.specs.Option.{option_copied}
 use Rattle.std.specs.Ordering.{is_lt}
 use Rattle.ifdb_value.specs.declared.value.Value.{Value}
 use Rattle.ifdb_row.specs.declared.slot.Slot.{Slot}
+use Rattle.ifdb_row.specs.declared.slot.SlotRef.{SlotRef}
 use Rattle.ifdb_row.specs.declared.row.Row.{Row}
 use Rattle.ifdb_row.specs.declared.edge.Edge.{Edge}
 use Rattle.ifdb_row.specs.Slots.{label_cmp, slot_lt, is_same_slot, is_of_key}
+use Rattle.ifdb_row.specs.ByReference.{option_slot, slot_of}
 use Rattle.ifdb_row.specs.Edges.{lies_before}
 use Rattle.ifdb_row.specs.Reach.{skip}
 
@@ -66,19 +68,19 @@ rows_from e rows = skip (λ (r : Row). lies_before e r.slot) rows
 abbrev pub first_row_from : Edge → List Row → Option Row
 first_row_from e rows = find (λ (r : Row). not (lies_before e r.slot)) rows
 
--- ---- the same questions, behind a slot or a label that is lent, if one is
+-- ---- the same questions, behind a slot by reference or a label that is lent, if one is
 
-abbrev pub next_behind : ℕ → Option (Bor Slot) → List Row → Option Row
-next_behind table after rows = next_row table (option_copied after) rows
+abbrev pub next_behind : ℕ → Option SlotRef → List Row → Option Row
+next_behind table after rows = next_row table (option_slot after) rows
 
 abbrev pub of_key_behind : ℕ → List Value → Option (Bor (List ℕ)) → List Row → Option Row
 of_key_behind table key after rows = row_of_key table key (option_copied after) rows
 
-abbrev pub bound_behind : Slot → Option (Bor Slot) → List Row → Option Row
-bound_behind s after rows = row_bound_to s (option_copied after) rows
+abbrev pub bound_behind : SlotRef → Option SlotRef → List Row → Option Row
+bound_behind s after rows = row_bound_to (slot_of s) (option_slot after) rows
 
-abbrev pub rows_behind : ℕ → Option (Bor Slot) → List Row → List Row
-rows_behind table after rows = later_rows table (option_copied after) rows
+abbrev pub rows_behind : ℕ → Option SlotRef → List Row → List Row
+rows_behind table after rows = later_rows table (option_slot after) rows
 
 -- the first rows of a list: at least one, where it has any
 pub record IsRun (run : List Row) (rows : List Row) : Type 0 where

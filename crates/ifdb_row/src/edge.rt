@@ -1,13 +1,12 @@
 // Places between slots.
 ghost use Rattle.std.specs.Prelude.{◌≡◌};
-ghost use Rattle.ifdb_row.specs.Slots.{slot_lt};
-ghost use Rattle.ifdb_row.specs.Edges.{lies_before, slot_at};
+ghost use Rattle.ifdb_row.specs.ByReference.{slot_of};
+ghost use Rattle.ifdb_row.specs.Edges.{lies_before};
 
 use crate::order::{compare_front, compare_keys};
-use crate::slot::{Key, Slot};
+use crate::slot::SlotRef;
 use ifdb_label::Label;
 use ifdb_value::{TableId, Value};
-use std::cmp::Ordering;
 
 /// A place between slots, from which rows are looked up.
 #[derive(Clone, Copy)]
@@ -18,50 +17,35 @@ pub enum Edge<'a> {
     Key(TableId, &'a [Value]),
     /// Behind all slots of a table whose keys begin with these values.
     Past(TableId, &'a [Value]),
-    /// Before a slot.
-    At(&'a Slot),
+    /// Before the slot with these parts.
+    At(TableId, &'a [Value], &'a Label),
     /// Behind the slot with these parts.
     Behind(TableId, &'a [Value], &'a Label),
 }
 
 impl<'a> Edge<'a> {
     /// Whether a slot stands before the edge.
-    pub fn is_behind(&self, slot: &Slot) -> bool
-        ensures { result ≡ lies_before self.now slot.now }
+    pub fn is_behind(&self, slot: SlotRef<'_>) -> bool
+        ensures { result ≡ lies_before self.now (slot_of slot.entry) }
     {
         match self {
-            Edge::Table(table) => slot.table < *table,
+            Edge::Table(table) => *slot.table < *table,
             Edge::Key(table, key) => {
-                if slot.table == *table {
-                    compare_keys(slot.key.items(), key).is_lt()
+                if *slot.table == *table {
+                    compare_keys(slot.key, key).is_lt()
                 } else {
-                    slot.table < *table
+                    *slot.table < *table
                 }
             }
             Edge::Past(table, values) => {
-                if slot.table == *table {
-                    compare_front(slot.key.items(), values).is_le()
+                if *slot.table == *table {
+                    compare_front(slot.key, values).is_le()
                 } else {
-                    slot.table < *table
+                    *slot.table < *table
                 }
             }
-            Edge::At(other) => slot.is_before(other),
-            Edge::Behind(table, key, label) => !stands_behind(slot, *table, key, label),
+            Edge::At(table, key, label) => slot.is_before(SlotRef { table, key, label }),
+            Edge::Behind(table, key, label) => !SlotRef { table, key, label }.is_before(slot),
         }
     }
-}
-
-/// Whether a slot stands behind the one with these parts.
-#[tactic(auto, unfolding(crate::specs::Slots::slot_cmp))]
-fn stands_behind(slot: &Slot, table: TableId, key: &[Value], label: &Label) -> bool
-    ensures { result ≡ slot_lt (slot_at table key.now label.now) slot.now }
-{
-    let order = match table.cmp(&slot.table) {
-        Ordering::Equal => match compare_keys(key, slot.key.items()) {
-            Ordering::Equal => label.tags().cmp(slot.label.tags()),
-            order => order,
-        },
-        order => order,
-    };
-    order.is_lt()
 }

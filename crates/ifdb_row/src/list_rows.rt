@@ -1,13 +1,15 @@
 // Rows in one list.
 ghost use Rattle.std.specs.Prelude.{◌≡◌, IsTrue, SomeIff};
-ghost use Rattle.std.specs.Option.{option_copied};
+ghost use Rattle.ifdb_row.specs.ByReference.{option_row, option_slot, row_of, slot_of};
 ghost use Rattle.ifdb_row.specs.Content.{rising};
 ghost use Rattle.ifdb_row.specs.Questions.{bound_behind, is_next_child, is_past, rows_from};
+ghost use Rattle.ifdb_row.specs.Runs.{rows_in};
 
 use crate::edge::Edge;
-use crate::row::Row;
+use crate::row::{Row, RowRef};
 use crate::rows::Rows;
-use crate::slot::Slot;
+use crate::run::{RowTest, Run};
+use crate::slot::SlotRef;
 use ifdb_value::Shared;
 use std::marker::Model;
 
@@ -50,22 +52,22 @@ impl ListRows {
     }
 
     /// The rows, in the order of their slots.
-    fn rows(&self) -> &[Shared<Row>]
-        ensures rows { result.now ≡ self.now }
-        ensures rising { IsTrue (rising result.now) }
+    fn rows(&self) -> Run<'_>
+        ensures rows { rows_in result ≡ self.now }
+        ensures rising { IsTrue (rising (rows_in result)) }
     {
-        self.rows.as_slice()
+        Run::Loose(self.rows.as_slice())
     }
 }
 
 impl Rows for ListRows {
     ghost rows = { λ r. r };
 
-    fn run_from(&self, edge: &Edge<'_>) -> &[Shared<Row>] {
+    fn run_from(&self, edge: &Edge<'_>) -> Run<'_> {
         rows_from(self.rows(), edge)
     }
 
-    fn bound_to(&self, slot: &Slot, after: Option<&Slot>) -> Option<&Row> {
+    fn bound_to<'a>(&'a self, slot: SlotRef<'_>, after: Option<SlotRef<'a>>) -> Option<RowRef<'a>> {
         first_bound(self.rows(), slot, after)
     }
 }
@@ -84,26 +86,42 @@ fn do_rise(rows: &[Shared<Row>]) -> bool
     true
 }
 
-/// The rows from an edge on, found by binary search.
-#[tactic(auto, using(crate::proofs::Edges::edge_falls))]
-fn rows_from<'a>(rows: &'a [Shared<Row>], edge: &Edge<'_>) -> &'a [Shared<Row>]
-    requires { IsTrue (rising rows.now) }
-    ensures { result.now ≡ rows_from edge.now rows.now }
-{
-    let at = rows.partition_point(|row| edge.is_behind(&row.get().slot));
-    rows.split_at(at).1
+/// A row before an edge.
+#[derive(Drop)]
+struct BeforeEdge<'a> {
+    edge: &'a Edge<'a>,
 }
 
-/// The first row of a list bound to a slot whose own slot is behind another, or the first row bound to it. Looks at each.
-pub fn first_bound<'a>(
-    rows: &'a [Shared<Row>],
-    slot: &Slot,
-    after: Option<&Slot>,
-) -> Option<&'a Row>
-    ensures { option_copied result ≡ bound_behind slot.now after.entry rows.now }
+impl RowTest for BeforeEdge<'_> {
+    ghost use Rattle.ifdb_row.specs.declared.row.Row.{Row};
+    ghost use Rattle.ifdb_row.specs.Edges.{lies_before};
+
+    ghost passes = { λ t (r : Row). lies_before t.edge.now r.slot };
+
+    fn passes(&self, row: RowRef<'_>) -> bool {
+        self.edge.is_behind(row.slot)
+    }
+}
+
+/// The rows from an edge on, found by binary search.
+#[tactic(auto, using(crate::proofs::Edges::edge_falls))]
+fn rows_from<'a>(rows: Run<'a>, edge: &Edge<'_>) -> Run<'a>
+    requires { IsTrue (rising (rows_in rows)) }
+    ensures { rows_in result ≡ rows_from edge.now (rows_in rows.entry) }
 {
-    for row in rows {
-        let row = row.get();
+    rows.from(rows.count_passing(&BeforeEdge { edge }))
+}
+
+/// The first of some rows bound to a slot whose own slot is behind another, or the first one bound to it. Looks at each.
+pub fn first_bound<'a>(
+    rows: Run<'a>,
+    slot: SlotRef<'_>,
+    after: Option<SlotRef<'_>>,
+) -> Option<RowRef<'a>>
+    ensures { option_row result ≡ bound_behind slot.entry after.entry (rows_in rows.entry) }
+{
+    for place in 0..rows.len() {
+        let row = rows.row(place);
         if is_bound(row, slot, after) {
             return Some(row);
         }
@@ -112,15 +130,15 @@ pub fn first_bound<'a>(
 }
 
 /// Whether a row behind a slot is bound to another.
-fn is_bound(row: &Row, slot: &Slot, after: Option<&Slot>) -> bool
-    ensures { result ≡ is_next_child slot.now (option_copied after.entry) row.now }
+fn is_bound(row: RowRef<'_>, slot: SlotRef<'_>, after: Option<SlotRef<'_>>) -> bool
+    ensures { result ≡ is_next_child (slot_of slot.entry) (option_slot after.entry) (row_of row.entry) }
 {
-    row.is_child_of(slot) && is_past(&row.slot, after)
+    row.is_child_of(slot) && is_past(row.slot, after)
 }
 
 /// Whether a slot is behind another, if there is one to be behind.
-fn is_past(slot: &Slot, after: Option<&Slot>) -> bool
-    ensures { result ≡ is_past (option_copied after.entry) slot.now }
+fn is_past(slot: SlotRef<'_>, after: Option<SlotRef<'_>>) -> bool
+    ensures { result ≡ is_past (option_slot after.entry) (slot_of slot.entry) }
 {
     match after {
         None => true,

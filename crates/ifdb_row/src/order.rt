@@ -1,21 +1,22 @@
 // The order of keys and of slots.
 ghost use Rattle.std.specs.Prelude.{◌≡◌};
+ghost use Rattle.ifdb_row.specs.ByReference.{slot_of};
 ghost use Rattle.ifdb_row.specs.Fronts.{front_cmp};
 ghost use Rattle.ifdb_row.specs.Slots.{is_of_key, is_same_slot, key_cmp, slot_cmp, slot_lt};
 
-use crate::slot::Slot;
+use crate::slot::{Slot, SlotRef};
 use ifdb_value::{TableId, Value};
 use std::cmp::Ordering;
 
-impl Slot {
+impl SlotRef<'_> {
     /// The order of slots: by table, then by key, then by label. Takes no memory; in time the shorter of each of the keys'
     /// and the labels' lengths, with the texts in the keys.
     #[tactic(auto, unfolding(crate::specs::Slots::slot_cmp))]
-    pub fn compare(&self, other: &Slot) -> Ordering
-        ensures { result ≡ slot_cmp self.now other.now }
+    pub fn compare(self, other: SlotRef<'_>) -> Ordering
+        ensures { result ≡ slot_cmp (slot_of self.entry) (slot_of other.entry) }
     {
-        match self.table.cmp(&other.table) {
-            Ordering::Equal => match compare_keys(self.key.items(), other.key.items()) {
+        match self.table.cmp(other.table) {
+            Ordering::Equal => match compare_keys(self.key, other.key) {
                 Ordering::Equal => self.label.tags().cmp(other.label.tags()),
                 order => order,
             },
@@ -24,24 +25,47 @@ impl Slot {
     }
 
     /// Whether the slot stands before another.
+    pub fn is_before(self, other: SlotRef<'_>) -> bool
+        ensures { result ≡ slot_lt (slot_of self.entry) (slot_of other.entry) }
+    {
+        self.compare(other).is_lt()
+    }
+
+    /// Whether the slot is the other one.
+    pub fn is_same(self, other: SlotRef<'_>) -> bool
+        ensures { result ≡ is_same_slot (slot_of self.entry) (slot_of other.entry) }
+    {
+        self.compare(other).is_eq()
+    }
+
+    /// Whether the slot is of a table's key, at any label.
+    pub fn is_of_key(self, table: TableId, key: &[Value]) -> bool
+        ensures { result ≡ is_of_key table key.now (slot_of self.entry) }
+    {
+        *self.table == table && compare_keys(self.key, key).is_eq()
+    }
+}
+
+impl Slot {
+    /// The order of slots, as that of their references.
+    pub fn compare(&self, other: &Slot) -> Ordering
+        ensures { result ≡ slot_cmp self.now other.now }
+    {
+        self.by_ref().compare(other.by_ref())
+    }
+
+    /// Whether the slot stands before another.
     pub fn is_before(&self, other: &Slot) -> bool
         ensures { result ≡ slot_lt self.now other.now }
     {
-        self.compare(other).is_lt()
+        self.by_ref().is_before(other.by_ref())
     }
 
     /// Whether the slot is the other one.
     pub fn is_same(&self, other: &Slot) -> bool
         ensures { result ≡ is_same_slot self.now other.now }
     {
-        self.compare(other).is_eq()
-    }
-
-    /// Whether the slot is of a table's key, at any label.
-    pub fn is_of_key(&self, table: TableId, key: &[Value]) -> bool
-        ensures { result ≡ is_of_key table key.now self.now }
-    {
-        self.table == table && compare_keys(self.key.items(), key).is_eq()
+        self.by_ref().is_same(other.by_ref())
     }
 }
 

@@ -2,13 +2,14 @@
 ghost use Rattle.std.specs.Prelude.{◌≡◌, ◌≤◌, ◌+◌, ◌++◌, [], length, find, slice_get, IsTrue, OnErr, OnOk};
 ghost use Rattle.std.specs.List.{list_any};
 ghost use Rattle.std.specs.Option.{option_copied};
+ghost use Rattle.ifdb_row.specs.ByReference.{slot_of};
 ghost use Rattle.ifdb_row.specs.Slots.{is_same_slot, slot_lt};
 ghost use Rattle.ifdb_row.specs.Writes.{are_fitting, are_rising, if_of, is_fitting, is_written, merged, put};
 ghost use Rattle.ifdb_row.specs.Reach.{reach};
 ghost use Rattle.ifdb_row.specs.Merging.{HasRoomFor, IsFirstTaken, fronts_cmp, merged_behind};
 
 use crate::OutOfMemory;
-use crate::slot::Slot;
+use crate::slot::{Slot, SlotRef};
 use crate::write::Write;
 use std::alloc::Global;
 use std::cmp::Ordering;
@@ -81,14 +82,22 @@ impl Writes {
     pub fn get(&self, slot: &Slot) -> Option<&Write>
         ensures { option_copied result ≡ find (λ w. is_same_slot slot.now w.slot) self.now }
     {
+        let slot = slot.by_ref();
         let at = place_of(&self.items, slot);
         if_of(self.at(at), slot)
     }
 
     /// Whether a slot is written. Found by binary search.
-    #[tactic(auto, using(crate::proofs::Children::written_there))]
     pub fn is_written(&self, slot: &Slot) -> bool
         ensures { result ≡ is_written self.now slot.now }
+    {
+        self.has(slot.by_ref())
+    }
+
+    /// Whether a slot by reference is written. Found by binary search.
+    #[tactic(auto, using(crate::proofs::Children::written_there))]
+    pub fn has(&self, slot: SlotRef<'_>) -> bool
+        ensures { result ≡ is_written self.now (slot_of slot.entry) }
     {
         let at = place_of(&self.items, slot);
         is_at(&self.items, at, slot)
@@ -139,7 +148,7 @@ fn place_of_first(items: &[Write], later: &[Write]) -> usize
 {
     match later {
         [] => items.len(),
-        [first, ..] => place_of(items, &first.slot),
+        [first, ..] => place_of(items, first.slot.by_ref()),
     }
 }
 
@@ -193,8 +202,9 @@ fn put(items: &mut Vec<Write>, write: Write) -> Result<(), OutOfMemory>
     ensures ok { OnOk result (items.new.items ≡ put write items.old.items) }
     ensures err { OnErr result (items.new.items ≡ items.old.items) }
 {
-    let at = place_of(items, &write.slot);
-    if is_at(items, at, &write.slot) {
+    let slot = write.slot.by_ref();
+    let at = place_of(items, slot);
+    if is_at(items, at, slot) {
         items[at] = write;
     } else {
         items.insert(at, write)?;
@@ -203,32 +213,32 @@ fn put(items: &mut Vec<Write>, write: Write) -> Result<(), OutOfMemory>
 }
 
 /// How many writes stand before a slot.
-fn place_of(items: &[Write], slot: &Slot) -> usize
+fn place_of(items: &[Write], slot: SlotRef<'_>) -> usize
     requires { IsTrue (are_rising items.now) }
-    ensures place { result ≡ reach (λ w. slot_lt w.slot slot.now) items.now }
+    ensures place { result ≡ reach (λ w. slot_lt w.slot (slot_of slot.entry)) items.now }
     ensures within { result ≤ length items.now }
 {
-    items.partition_point(|other| other.slot.is_before(slot))
+    items.partition_point(|other| other.slot.by_ref().is_before(slot))
 }
 
 /// Whether a write of the slot stands at its place.
-fn is_at(items: &[Write], at: usize, slot: &Slot) -> bool
+fn is_at(items: &[Write], at: usize, slot: SlotRef<'_>) -> bool
     requires rising { IsTrue (are_rising items.now) }
-    requires place { at ≡ reach (λ w. slot_lt w.slot slot.now) items.now }
-    ensures { result ≡ list_any (λ w. is_same_slot slot.now w.slot) items.now }
+    requires place { at ≡ reach (λ w. slot_lt w.slot (slot_of slot)) items.now }
+    ensures { result ≡ list_any (λ w. is_same_slot (slot_of slot.entry) w.slot) items.now }
 {
     match items.get(at) {
-        Some(other) => slot.is_same(&other.slot),
+        Some(other) => slot.is_same(other.slot.by_ref()),
         None => false,
     }
 }
 
 /// The write, if it is of the slot.
-fn if_of<'a>(write: Option<&'a Write>, slot: &Slot) -> Option<&'a Write>
-    ensures { option_copied result ≡ if_of slot.now (option_copied write.entry) }
+fn if_of<'a>(write: Option<&'a Write>, slot: SlotRef<'_>) -> Option<&'a Write>
+    ensures { option_copied result ≡ if_of (slot_of slot.entry) (option_copied write.entry) }
 {
     match write {
-        Some(write) if slot.is_same(&write.slot) => Some(write),
+        Some(write) if slot.is_same(write.slot.by_ref()) => Some(write),
         _ => None,
     }
 }

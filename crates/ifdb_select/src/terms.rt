@@ -20,7 +20,7 @@ pub fn bound_expr(alloc: Global, scope: &[ScopeSource<'_>], expr: &Expr) -> Resu
 {
     match expr {
         Expr::Column(column) => Ok(BoundExpr::Column(resolve(scope, column)?)),
-        Expr::Literal(value) => Ok(BoundExpr::Literal(value.copy(alloc)?)),
+        Expr::Literal(value) => Ok(BoundExpr::Literal(value.share()?)),
         Expr::Add(left, right) => {
             let left = Box::new(alloc, bound_expr(alloc, scope, left.get())?)?;
             let right = Box::new(alloc, bound_expr(alloc, scope, right.get())?)?;
@@ -51,7 +51,7 @@ fn bound_operand(
 {
     match operand {
         Operand::Column(column) => Ok(BoundOperand::Column(resolve(scope, column)?)),
-        Operand::Literal(value) => Ok(BoundOperand::Literal(value.copy(alloc)?)),
+        Operand::Literal(value) => Ok(BoundOperand::Literal(value.share()?)),
     }
 }
 

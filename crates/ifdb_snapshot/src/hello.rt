@@ -38,7 +38,7 @@ impl<'a> Snapshot<'a> {
     {
         match self.public.catalog().clearance(principal) {
             Some(label) => {
-                let label = label.copy(self.alloc)?;
+                let label = label.share()?;
                 Ok(Some(label))
             }
             None => Ok(None),

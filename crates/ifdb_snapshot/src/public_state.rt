@@ -113,7 +113,7 @@ fn new_tag(alloc: Global, change: &Change) -> Result<Option<Name>, OutOfMemory>
     ensures { IfOk result (λ name. name ≡ new_tag change.now) }
 {
     match change {
-        Change::Tag { name, .. } => Ok(Some(name.copy(alloc)?)),
+        Change::Tag { name, .. } => Ok(Some(name.share()?)),
         _ => Ok(None),
     }
 }
@@ -124,7 +124,7 @@ fn copy_names(alloc: Global, names: &[Name]) -> Result<Vec<Name>, OutOfMemory>
 {
     let mut copied = Vec::with_capacity(alloc, names.len())?;
     for name in names {
-        copied.push(name.copy(alloc)?)?;
+        copied.push(name.share()?)?;
     }
     Ok(copied)
 }

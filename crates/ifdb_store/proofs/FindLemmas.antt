@@ -1,8 +1,6 @@
 -- Runs of rows found in parts, and rows that no write touches.
 use Rattle.std.proofs.Common.{◌≡◌, ℕ, zero, suc, ◌<◌, ◌+◌, ◌-◌, Bool, true, false, List, [], ◌∷◌, ◌++◌, length, get_or, take, drop, refl, sym, ap, subst, ◌∙◌, arith}
 use Rattle.std.specs.Prelude.{not, cond, find, is_some, Option, Some, None}
-use Rattle.std.specs.Option.{option_copied}
-use denote.Ref.{Bor}
 use Rattle.std.specs.List.{list_all, flat_map}
 use Rattle.std.proofs.lemmas.Bool.{false≢true}
 use Rattle.std.proofs.lemmas.Bool.Decides.{nat_tests}
@@ -12,6 +10,8 @@ use Rattle.std.proofs.lemmas.List.Folds.{list_all-append}
 use Rattle.ifdb_value.proofs.Lists.{all_wider}
 use Rattle.ifdb_row.specs.declared.slot.Slot.{Slot}
 use Rattle.ifdb_row.specs.declared.row.Row.{Row}
+use Rattle.ifdb_row.specs.declared.row.RowRef.{RowRef}
+use Rattle.ifdb_row.specs.ByReference.{option_row}
 use Rattle.ifdb_row.specs.declared.write.Write.{Write}
 use Rattle.ifdb_row.specs.Slots.{is_same_slot, slot_lt}
 use Rattle.ifdb_row.specs.Writes.{are_rising}
@@ -219,13 +219,13 @@ none_front q (x ∷ xs) ys n = by (none_front q xs ys) (q x) refl where
   by more true u = grind (arith, nat_tests)
   by more false u = grind (arith, nat_tests, more)
 
-pub some_copied : (o : Option (Bor Row)) → is_some o ≡ is_some (option_copied o)
-some_copied None = refl
-some_copied (Some b) = refl
+pub some_row : (o : Option RowRef) → is_some o ≡ is_some (option_row o)
+some_row None = refl
+some_row (Some r) = refl
 
-pub none_copied : (o : Option (Bor Row)) → is_some o ≡ false → option_copied o ≡ None
-none_copied None e = refl
-none_copied (Some b) e = cc
+pub none_row : (o : Option RowRef) → is_some o ≡ false → option_row o ≡ None
+none_row None e = refl
+none_row (Some r) e = cc
 
 module _ {X : Type 0} (q : Row → Bool) (rows : X → List Row) where
   pub part_finds : (parts : List X) (i : ℕ) (x : X) → find q (flat_map rows (take i parts)) ≡ None → i < length parts → x ≡ get_or parts i x → is_some (find q (rows x)) ≡ true

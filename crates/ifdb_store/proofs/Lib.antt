@@ -11,3 +11,6 @@ pub mod Marks
 pub mod Prints
 pub mod Linking
 pub mod Walking
+mod Maps
+mod Shaping
+mod Splicing

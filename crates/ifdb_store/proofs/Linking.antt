@@ -1,7 +1,7 @@
 -- Links after writes, and children found by links.
-use Rattle.std.proofs.Common.{◌≡◌, ℕ, ◌<◌, ◌≤◌, Bool, true, false, List, [], ◌∷◌, ◌++◌, length, refl, sym, ap, subst, ◌∙◌, arith, Some, None, Option, ◌&&◌, ◌||◌}
-use Rattle.std.specs.Prelude.{not, find, filter, option_to_list}
-use Rattle.std.specs.List.{list_all, list_any}
+use Rattle.std.proofs.Common.{◌≡◌, ℕ, Bool, true, false, List, [], ◌∷◌, ◌++◌, refl, sym, ap, ◌∙◌, arith, Some, None, Option, ◌||◌}
+use Rattle.std.specs.Prelude.{option_to_list}
+use Rattle.std.specs.List.{list_all}
 use Rattle.std.proofs.lemmas.Bool.{false≢true}
 use Rattle.std.proofs.lemmas.Bool.Decides.{nat_tests}
 use Rattle.std.proofs.lemmas.List.Folds.{list_all-append}
@@ -10,10 +10,9 @@ use Rattle.ifdb_row.specs.declared.slot.Slot.{Slot}
 use Rattle.ifdb_row.specs.declared.row.Row.{Row}
 use Rattle.ifdb_row.specs.declared.write.Write.{Write}
 use Rattle.ifdb_row.specs.Slots.{is_same_slot, slot_lt}
-use Rattle.ifdb_row.specs.Writes.{is_fitting, are_fitting, are_rising, is_gone, deletes, merged, put}
+use Rattle.ifdb_row.specs.Writes.{is_fitting, are_fitting, are_rising, merged, put}
 use Rattle.ifdb_row.specs.Content.{place, after, live, rising}
 use Rattle.ifdb_row.proofs.SlotOrder.{slot_same, slot_itself, slot_lt_itself}
-use Rattle.ifdb_row.proofs.Rising.{lt_not_same}
 use Rattle.ifdb_row.proofs.ContentLaws.{above, above_more, all-place, rising_after}
 use Rattle.ifdb_row.proofs.LiveLaws.{live_after}
 use Rattle.ifdb_row.proofs.AfterMerged.{after_merged}

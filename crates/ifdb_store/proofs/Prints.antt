@@ -1,10 +1,8 @@
 -- Where links stand, and to which child each leads.
-use Rattle.std.proofs.Common.{◌≡◌, ℕ, zero, suc, ◌<◌, ◌≤◌, ◌+◌, ◌*◌, Bool, true, false, List, refl, sym, ap, ◌∙◌, arith, Ordering}
-use Rattle.std.specs.Prelude.{◌==◌, ◌/◌, ◌%◌, nat_lt}
+use Rattle.std.proofs.Common.{◌≡◌, ℕ, ◌<◌, ◌+◌, ◌*◌, true, sym, ap, ◌∙◌, arith}
+use Rattle.std.specs.Prelude.{◌/◌, ◌%◌}
 use Rattle.std.specs.Ordering.{nat_cmp, is_lt, ordering_then}
 use Rattle.std.proofs.lemmas.Bool.Decides.{nat_tests}
-use Rattle.std.proofs.lemmas.Nat.{div-mul-add}
-use Rattle.std.proofs.Math.Nat.{div-add-mod, mod-lt}
 use Rattle.ifdb_row.specs.declared.slot.Slot.{Slot}
 use Rattle.ifdb_row.specs.Slots.{is_same_slot, slot_cmp, slot_lt, key_cmp, label_cmp}
 use Rattle.ifdb_row.proofs.SlotOrder.{slot_same}

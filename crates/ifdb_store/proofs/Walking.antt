@@ -1,6 +1,6 @@
 -- Children found by links, one behind the other.
-use Rattle.std.proofs.Common.{◌≡◌, ℕ, ◌<◌, ◌≤◌, ◌*◌, ◌+◌, Bool, true, false, List, [], ◌∷◌, length, get_or, refl, sym, ap, ◌∙◌, arith, Some, None, Option, ◌&&◌, ◌||◌}
-use Rattle.std.specs.Prelude.{not, find, filter, is_some, nat_lt, ◌==◌, ◌++◌, ◌/◌, IsTrue}
+use Rattle.std.proofs.Common.{◌≡◌, ℕ, ◌<◌, ◌≤◌, ◌*◌, ◌+◌, Bool, true, false, List, [], ◌∷◌, length, get_or, refl, sym, ap, ◌∙◌, arith, Some, None, Option, ◌&&◌}
+use Rattle.std.specs.Prelude.{not, find, filter, is_some, nat_lt, ◌==◌, ◌++◌, IsTrue}
 use Rattle.std.specs.List.{list_all, list_any}
 use Rattle.std.proofs.lemmas.Bool.{false≢true}
 use Rattle.std.proofs.lemmas.Bool.Decides.{nat_tests}
@@ -11,12 +11,11 @@ use Rattle.ifdb_row.specs.Slots.{is_same_slot, slot_lt}
 use Rattle.ifdb_row.specs.Content.{live, rising}
 use Rattle.ifdb_row.specs.Reach.{skip}
 use Rattle.ifdb_row.specs.Questions.{IsRun, is_child_of, is_next_child, is_past, row_at, row_bound_to, if_passes}
-use Rattle.ifdb_row.proofs.SlotOrder.{slot_same, slot_itself, slot_lt_itself, slot_lt_trans}
+use Rattle.ifdb_row.proofs.SlotOrder.{slot_same, slot_lt_itself, slot_lt_trans}
 use Rattle.ifdb_row.proofs.Rising.{lt_not_back, lt_from}
 use Rattle.ifdb_row.proofs.Edges.{slot_lt_table}
 use Rattle.ifdb_row.proofs.ContentLaws.{above}
-use Rattle.ifdb_row.proofs.Children.{same_back}
-use Rattle.ifdb_store.specs.Links.{is_near, are_near, is_near_if, is_from, is_first, is_link, has_links, lead_to, are_links, link_slot, child_slot, print_of, is_next_link, is_link_from}
+use Rattle.ifdb_store.specs.Links.{is_near, are_near, is_from, is_first, has_links, lead_to, are_links, link_slot, child_slot, print_of, is_next_link}
 use Rattle.ifdb_store.proofs.Prints.{child_back, from_print, link_back, child_near, link_lt}
 
 -- rows of which none is left out by a test all pass it

@@ -1,3 +1,7 @@
+pub mod Shapes
+pub mod Stands
+pub mod Splices
+pub mod Layouts
 pub mod Pages
 pub mod Costs
 pub mod Kept

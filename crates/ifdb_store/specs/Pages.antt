@@ -1,5 +1,5 @@
 -- Rows in pages, and pages in nodes.
-use Rattle.std.specs.Prelude.{◌≡◌, ℕ, Bool, true, refl, List, [], ◌∷◌, ◌&&◌, ◌||◌, ◌+◌, ◌++◌, ◌≤◌, nat_lt, not, length, take, drop, get_or}
+use Rattle.std.specs.Prelude.{◌≡◌, ℕ, Bool, true, refl, List, [], ◌∷◌, ◌&&◌, ◌||◌, ◌+◌, ◌++◌, nat_lt, not, length, take, drop, get_or}
 use Rattle.std.proofs.Common.{ap, arith}
 use Rattle.std.proofs.lemmas.Bool.{false≢true}
 use Rattle.std.proofs.lemmas.Bool.Decides.{nat_tests}

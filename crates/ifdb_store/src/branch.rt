@@ -10,8 +10,7 @@ use crate::part::{Part, Regroup, are_full};
 use crate::search::Placed;
 use crate::steps::Steps;
 use crate::twig::Twig;
-use ifdb_row::{Edge, OutOfMemory, Row, Slot, Write};
-use ifdb_value::Shared;
+use ifdb_row::{Edge, OutOfMemory, RowRef, Run, SlotRef, Write};
 use std::alloc::Global;
 use std::marker::Model;
 use std::sync::ledger::Ledger;
@@ -38,7 +37,7 @@ impl Placed for Branch {
 
     ghost rows = { branch_rows };
 
-    fn slot(&self) -> &Slot {
+    fn slot(&self) -> SlotRef<'_> {
         self.node.slot()
     }
 }
@@ -72,15 +71,15 @@ impl Part for Branch {
         self.node.count_on(before)
     }
 
-    fn first_run(&self) -> &[Shared<Row>] {
+    fn first_run(&self) -> Run<'_> {
         self.node.first_run()
     }
 
-    fn run_from<L: Ledger>(&self, edge: &Edge<'_>, steps: &mut Steps<L>) -> &[Shared<Row>] {
+    fn run_from<L: Ledger>(&self, edge: &Edge<'_>, steps: &mut Steps<L>) -> Run<'_> {
         self.node.run_from(edge, steps)
     }
 
-    fn bound_to(&self, slot: &Slot, after: Option<&Slot>) -> Option<&Row> {
+    fn bound_to<'a>(&'a self, slot: SlotRef<'_>, after: Option<SlotRef<'a>>) -> Option<RowRef<'a>> {
         self.node.bound_to(slot, after)
     }
 }

@@ -1,6 +1,6 @@
 // Contents in versions.
 ghost use Rattle.std.specs.Prelude.{◌≡◌, ◌≤◌, ◌+◌, ◌-◌, ◌*◌, ◌^◌, [], length, IfOk, IfSome, IsTrue, None};
-ghost use Rattle.std.specs.Option.{option_copied};
+ghost use Rattle.ifdb_row.specs.ByReference.{option_row};
 ghost use Rattle.ifdb_row.specs.Content.{after, rising};
 ghost use Rattle.ifdb_row.specs.Questions.{first_row_from};
 ghost use Rattle.ifdb_store.specs.Links.{are_links};
@@ -8,7 +8,7 @@ ghost use Rattle.ifdb_store.specs.Links.{are_links};
 use crate::links::{are_near, first_child, links_after, writes_after};
 use crate::steps::Steps;
 use crate::tree::Tree;
-use ifdb_row::{Edge, OutOfMemory, Row, Rows, Slot, Writes};
+use ifdb_row::{Edge, OutOfMemory, RowRef, Rows, Run, SlotRef, Writes};
 use ifdb_value::Shared;
 use std::alloc::Global;
 use std::marker::Model;
@@ -108,8 +108,8 @@ impl Content {
 
     /// The first row from an edge on. Each comparison of slots is a step, and for n rows there are s steps with 2^s at most
     /// 4 * (n + 1)^2.
-    pub fn seek<L: Ledger>(&self, edge: &Edge<'_>, steps: &mut Steps<L>) -> Option<&Row>
-        ensures row { option_copied result ≡ first_row_from edge.now self.now }
+    pub fn seek<L: Ledger>(&self, edge: &Edge<'_>, steps: &mut Steps<L>) -> Option<RowRef<'_>>
+        ensures row { option_row result ≡ first_row_from edge.now self.now }
         ensures more { steps.old ≤ steps.new }
         ensures cost { 2 ^ (steps.new - steps.old) ≤ 4 * (length self.now + 1) ^ 2 }
     {
@@ -141,11 +141,11 @@ impl Content {
 impl Rows for Content {
     ghost rows = { λ c. c };
 
-    fn run_from(&self, edge: &Edge<'_>) -> &[Shared<Row>] {
+    fn run_from(&self, edge: &Edge<'_>) -> Run<'_> {
         self.rows().run_from(edge)
     }
 
-    fn bound_to(&self, slot: &Slot, after: Option<&Slot>) -> Option<&Row> {
+    fn bound_to<'a>(&'a self, slot: SlotRef<'_>, after: Option<SlotRef<'a>>) -> Option<RowRef<'a>> {
         if are_near(self.rows(), after) {
             first_child(self.rows(), self.links(), slot, after)
         } else {

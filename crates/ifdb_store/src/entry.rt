@@ -3,6 +3,7 @@ ghost use Rattle.std.specs.Prelude.{◌≡◌, IfOk};
 
 use crate::mark::Mark;
 use crate::search::{Item, Placed};
+use crate::share::Share;
 use ifdb_row::{Edge, OutOfMemory};
 use ifdb_value::Shared;
 use std::alloc::Global;
@@ -49,15 +50,17 @@ impl<T: Placed> Entry<T> {
     }
 }
 
-impl<T: Placed + Drop> Item for Entry<T> {
-    ghost spot = { T.place };
-
+impl<T: Placed + Drop> Share for Entry<T> {
     fn shared(&self) -> Result<Entry<T>, OutOfMemory> {
         Ok(Entry {
             mark: self.mark,
             part: self.part.share()?,
         })
     }
+}
+
+impl<T: Placed + Drop> Item for Entry<T> {
+    ghost spot = { T.place };
 
     #[tactic(auto, using(crate::proofs::Marks::told_less, crate::proofs::Marks::told_greater))]
     fn is_before(&self, edge: &Edge<'_>, mark: &Mark) -> bool {

@@ -6,8 +6,8 @@ ghost use Rattle.ifdb_store.specs.Pages.{are_joined, flat, is_page, is_small, ma
 
 use crate::entry::Entry;
 use crate::page::{PAGE_ROWS, Page};
-use crate::put::add_shared;
-use crate::search::Item;
+use crate::put::add_rows;
+use crate::share::Share;
 use ifdb_row::OutOfMemory;
 use std::alloc::Global;
 
@@ -123,7 +123,7 @@ fn one_page(
     ensures { IfOk result (λ both. both ≡ page.now ++ other.now) }
 {
     let mut rows = Vec::with_capacity(alloc, PAGE_ROWS)?;
-    add_shared(page.get().rows(), &mut rows)?;
-    add_shared(other.get().rows(), &mut rows)?;
-    Entry::new(alloc, Page::new(rows))
+    add_rows(page.get().rows(), &mut rows)?;
+    add_rows(other.get().rows(), &mut rows)?;
+    Entry::new(alloc, Page::of(alloc, &rows)?)
 }

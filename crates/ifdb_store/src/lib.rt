@@ -4,6 +4,7 @@
 mod branch;
 mod content;
 mod entry;
+mod even;
 mod join;
 mod laws;
 mod links;
@@ -14,6 +15,8 @@ mod part;
 mod print;
 mod put;
 mod search;
+mod share;
+mod splice;
 mod steps;
 mod store;
 mod tree;

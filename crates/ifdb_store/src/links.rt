@@ -1,17 +1,17 @@
 // Links: how children are found through their parent's slot.
 ghost use Rattle.std.specs.Prelude.{◌≡◌, ◌&&◌, ◌+◌, ◌*◌, ◌<◌, ◌∷◌, [], true, None, Some, IfOk, IsTrue, OnOk, find};
-ghost use Rattle.std.specs.Option.{option_copied};
+ghost use Rattle.ifdb_row.specs.ByReference.{option_row, option_slot, row_of, slot_of};
 ghost use Rattle.ifdb_row.specs.Content.{after, rising};
 ghost use Rattle.ifdb_row.specs.Edges.{slot_at};
 ghost use Rattle.ifdb_row.specs.Questions.{bound_behind, is_child_of, row_at, if_passes};
 ghost use Rattle.ifdb_row.specs.Writes.{are_fitting, is_fitting};
-ghost use Rattle.ifdb_store.specs.Links.{BringsLinks, Follows, LeavesOthers, are_links, are_near, is_near, is_near_if, is_next_link};
+ghost use Rattle.ifdb_store.specs.Links.{BringsLinks, Follows, LeavesOthers, are_links, are_near, is_from, is_near, is_near_if, is_next_link};
 ghost use Rattle.ifdb_store.specs.Links.{child_slot, is_link, is_link_from, link, link_slot, parents_of, print_of, row_behind};
 
 use crate::print::print_of;
 use crate::tree::Tree;
 use ifdb_label::Label;
-use ifdb_row::{Edge, OutOfMemory, Refs, Row, Rows, Slot, Values, Write, Writes};
+use ifdb_row::{Edge, OutOfMemory, Refs, Row, RowRef, Rows, Slot, SlotRef, Values, Write, Writes};
 use ifdb_value::{TableId, Value};
 use std::alloc::Global;
 
@@ -19,10 +19,11 @@ use std::alloc::Global;
 const NEAR_TABLES: u64 = 4294967296;
 
 /// Whether a row in a slot has links to it.
-fn is_near(slot: &Slot) -> bool
-    ensures { result ≡ is_near slot.now }
+fn is_near(slot: SlotRef<'_>) -> bool
+    ensures { result ≡ is_near (slot_of slot.entry) }
 {
-    slot.table.0 < NEAR_TABLES
+    let table = *slot.table;
+    table.0 < NEAR_TABLES
 }
 
 /// The table in which the links from a print to the children in a table stand.
@@ -38,10 +39,11 @@ fn link_slot(alloc: Global, print: u32, child: &Slot) -> Result<Slot, OutOfMemor
     requires { IsTrue (is_near child.now) }
     ensures { IfOk result (λ slot. slot ≡ link_slot print child.now) }
 {
+    let Slot { key, label, .. } = child.copy(alloc)?;
     Ok(Slot {
         table: link_table(print, child.table),
-        key: child.key.copy_by(alloc, |value| value.copy(alloc))?,
-        label: child.label.copy(alloc)?,
+        key,
+        label,
     })
 }
 
@@ -53,7 +55,7 @@ fn link(alloc: Global, print: u32, child: &Slot) -> Result<Row, OutOfMemory>
     Ok(Row {
         slot: link_slot(alloc, print, child)?,
         values: Values::new(alloc),
-        refs: Refs::single(alloc, child.copy(alloc)?)?,
+        refs: Refs::from_vec(alloc, Vec::from_array(alloc, [child.copy(alloc)?])?)?,
     })
 }
 
@@ -69,7 +71,7 @@ fn put_gone(
     ensures { OnOk result (LeavesOthers child.now writes.new) }
 {
     for parent in parents {
-        let slot = link_slot(alloc, print_of(parent), child)?;
+        let slot = link_slot(alloc, print_of(parent.by_ref()), child)?;
         writes.put(Write { slot, row: None })?;
     }
     Ok(())
@@ -88,18 +90,18 @@ fn put_links(
     ensures links { OnOk result (BringsLinks child.now parents.now writes.new) }
 {
     for parent in parents {
-        let row = link(alloc, print_of(parent), child)?;
+        let row = link(alloc, print_of(parent.by_ref()), child)?;
         writes.put(Write::of_row(alloc, row)?)?;
     }
     Ok(())
 }
 
 /// What a row refers to, if there is one.
-fn parents_of(row: Option<&Row>) -> &[Slot]
-    ensures { result.now ≡ parents_of (option_copied row.entry) }
+fn parents_of(row: Option<RowRef<'_>>) -> &[Slot]
+    ensures { result.now ≡ parents_of (option_row row.entry) }
 {
     match row {
-        Some(row) => row.refs.items(),
+        Some(row) => row.parents(),
         None => &[],
     }
 }
@@ -115,11 +117,15 @@ fn parents_written(write: &Write) -> &[Slot]
 }
 
 /// The links' writes that follow a write. Those of the row that stood in its slot are given up.
-fn writes_for(alloc: Global, before: Option<&Row>, write: &Write) -> Result<Writes, OutOfMemory>
+fn writes_for(
+    alloc: Global,
+    before: Option<RowRef<'_>>,
+    write: &Write,
+) -> Result<Writes, OutOfMemory>
     requires { IsTrue (is_fitting write.now.slot write.now.row) }
     ensures { IfOk result (λ writes. Follows (write.now ∷ []) writes) }
 {
-    if is_near(&write.slot) {
+    if is_near(write.slot.by_ref()) {
         near_writes(alloc, before, write)
     } else {
         Ok(Writes::new(alloc))
@@ -127,7 +133,11 @@ fn writes_for(alloc: Global, before: Option<&Row>, write: &Write) -> Result<Writ
 }
 
 /// The same, where a row in the slot has links to it.
-fn near_writes(alloc: Global, before: Option<&Row>, write: &Write) -> Result<Writes, OutOfMemory>
+fn near_writes(
+    alloc: Global,
+    before: Option<RowRef<'_>>,
+    write: &Write,
+) -> Result<Writes, OutOfMemory>
     requires near { IsTrue (is_near write.now.slot) }
     requires fitting { IsTrue (is_fitting write.now.slot write.now.row) }
     ensures { IfOk result (λ writes. Follows (write.now ∷ []) writes) }
@@ -150,7 +160,7 @@ pub(crate) fn writes_after(
 {
     match writes {
         [] => Ok(Writes::new(alloc)),
-        [write] => writes_for(alloc, row_in(rows, &write.slot), write),
+        [write] => writes_for(alloc, row_in(rows, write.slot.by_ref()), write),
         _ => {
             let (front, back) = writes.split_at(writes.len() / 2);
             let mut links = writes_after(alloc, rows, front)?;
@@ -161,7 +171,7 @@ pub(crate) fn writes_after(
 }
 
 /// The row in a slot, if the rows are known.
-fn row_in<'a>(rows: Option<&'a Tree>, slot: &Slot) -> Option<&'a Row> {
+fn row_in<'a>(rows: Option<&'a Tree>, slot: SlotRef<'_>) -> Option<RowRef<'a>> {
     match rows {
         Some(rows) => rows.get(slot),
         None => None,
@@ -180,16 +190,16 @@ pub(crate) fn links_after(alloc: Global, links: &Tree, writes: &Writes) -> Resul
 }
 
 /// Whether all of some rows have links to them, and a row in a slot would have them, if there is one.
-pub(crate) fn are_near(rows: &Tree, slot: Option<&Slot>) -> bool
-    ensures near { result ≡ is_near_if (option_copied slot.entry) && are_near rows.now }
+pub(crate) fn are_near(rows: &Tree, slot: Option<SlotRef<'_>>) -> bool
+    ensures near { result ≡ is_near_if (option_slot slot.entry) && are_near rows.now }
     ensures rising { result ≡ true → rising rows.now ≡ true }
 {
     is_near_if(slot) && are_all_near(rows)
 }
 
 /// Whether a row in a slot has links to it, if there is a slot.
-fn is_near_if(slot: Option<&Slot>) -> bool
-    ensures { result ≡ is_near_if (option_copied slot.entry) }
+fn is_near_if(slot: Option<SlotRef<'_>>) -> bool
+    ensures { result ≡ is_near_if (option_slot slot.entry) }
 {
     match slot {
         Some(slot) => is_near(slot),
@@ -203,7 +213,6 @@ fn are_all_near(rows: &Tree) -> bool
     ensures rising { IsTrue (rising rows.now) }
 {
     let _key: Option<&[Value]> = None;
-    let _slot: Option<&Slot> = None;
     let _label: Option<&Label> = None;
     rows.run_from(&Edge::Table(TableId(NEAR_TABLES))).is_empty()
 }
@@ -213,18 +222,18 @@ fn are_all_near(rows: &Tree) -> bool
 pub(crate) fn first_child<'a>(
     rows: &'a Tree,
     links: &'a Tree,
-    slot: &Slot,
-    after: Option<&Slot>,
-) -> Option<&'a Row>
+    slot: SlotRef<'_>,
+    after: Option<SlotRef<'a>>,
+) -> Option<RowRef<'a>>
     requires links { IsTrue (are_links links.now rows.now) }
     requires near { IsTrue (are_near rows.now) }
     requires rising { IsTrue (rising rows.now) }
-    requires near_slot { IsTrue (is_near_if (option_copied after)) }
-    ensures row { option_copied result ≡ bound_behind slot.now after.entry rows.now }
+    requires near_slot { IsTrue (is_near_if (option_slot after)) }
+    ensures row { option_row result ≡ bound_behind slot.entry after.entry rows.now }
     ensures rising { IsTrue (rising rows.now) }
 {
     let print = print_of(slot);
-    let mut behind: Option<&Slot> = after;
+    let mut behind: Option<SlotRef<'a>> = after;
     'links: while let Some(link) = next_link(links, print, behind) {
         let child = child_of(link);
         let row = child_in(rows, child, slot);
@@ -237,10 +246,10 @@ pub(crate) fn first_child<'a>(
 }
 
 /// The first link from a print whose child is behind a slot, or the first one from it.
-fn next_link<'a>(links: &'a Tree, print: u32, behind: Option<&Slot>) -> Option<&'a Row>
-    requires { IsTrue (is_near_if (option_copied behind)) }
-    ensures link { option_copied result
-        ≡ find (is_next_link print (option_copied behind.entry)) links.now }
+fn next_link<'a>(links: &'a Tree, print: u32, behind: Option<SlotRef<'_>>) -> Option<RowRef<'a>>
+    requires { IsTrue (is_near_if (option_slot behind)) }
+    ensures link { option_row result
+        ≡ find (is_next_link print (option_slot behind.entry)) links.now }
     ensures rising { IsTrue (rising links.now) }
 {
     match behind {
@@ -250,67 +259,80 @@ fn next_link<'a>(links: &'a Tree, print: u32, behind: Option<&Slot>) -> Option<&
 }
 
 /// The first link from a print.
-fn first_link(links: &Tree, print: u32) -> Option<&Row>
-    ensures link { option_copied result ≡ find (is_next_link print None) links.now }
+fn first_link(links: &Tree, print: u32) -> Option<RowRef<'_>>
+    ensures link { option_row result ≡ find (is_next_link print None) links.now }
     ensures rising { IsTrue (rising links.now) }
 {
     let _key: Option<&[Value]> = None;
-    let _slot: Option<&Slot> = None;
     let _label: Option<&Label> = None;
     let table = TableId(u64::from(print) * NEAR_TABLES);
     if_from(links.first_from(&Edge::Table(table)), print)
 }
 
 /// The first link from a print whose child is behind a slot.
-fn link_behind<'a>(links: &'a Tree, print: u32, child: &Slot) -> Option<&'a Row>
-    requires { IsTrue (is_near child.now) }
-    ensures link { option_copied result ≡ find (is_next_link print (Some child.now)) links.now }
+fn link_behind<'a>(links: &'a Tree, print: u32, child: SlotRef<'_>) -> Option<RowRef<'a>>
+    requires { IsTrue (is_near (slot_of child)) }
+    ensures link { option_row result
+        ≡ find (is_next_link print (Some (slot_of child.entry))) links.now }
     ensures rising { IsTrue (rising links.now) }
 {
-    let table = link_table(print, child.table);
-    let link = row_behind(links, table, child.key.items(), &child.label);
+    let table = link_table(print, *child.table);
+    let link = row_behind(links, table, child.key, child.label);
     if_from(link, print)
 }
 
 /// The first row behind the slot with these parts.
-fn row_behind<'a>(rows: &'a Tree, table: TableId, key: &[Value], label: &Label) -> Option<&'a Row>
-    ensures row { option_copied result ≡ row_behind (slot_at table key.now label.now) rows.now }
+fn row_behind<'a>(
+    rows: &'a Tree,
+    table: TableId,
+    key: &[Value],
+    label: &Label,
+) -> Option<RowRef<'a>>
+    ensures row { option_row result ≡ row_behind (slot_at table key.now label.now) rows.now }
     ensures rising { IsTrue (rising rows.now) }
 {
-    let _slot: Option<&Slot> = None;
     rows.first_from(&Edge::Behind(table, key, label))
 }
 
 /// The link, if it is from a print.
-fn if_from(link: Option<&Row>, print: u32) -> Option<&Row>
-    ensures { option_copied result ≡ if_passes (is_link_from print) (option_copied link.entry) }
+fn if_from(link: Option<RowRef<'_>>, print: u32) -> Option<RowRef<'_>>
+    ensures { option_row result ≡ if_passes (is_link_from print) (option_row link.entry) }
 {
     match link {
-        Some(link) if link.slot.table.0 / NEAR_TABLES == u64::from(print) => Some(link),
+        Some(link) if is_from(link.slot, print) => Some(link),
         _ => None,
     }
 }
 
-/// The child to which a link leads.
-fn child_of(link: &Row) -> &Slot
-    requires { IsTrue (is_link link.now) }
-    ensures { result.now ≡ child_slot link.now.slot }
+/// Whether the link in a slot is from a print.
+fn is_from(slot: SlotRef<'_>, print: u32) -> bool
+    ensures { result ≡ is_from print (slot_of slot.entry) }
 {
-    &link.refs.items()[0]
+    let table = *slot.table;
+    table.0 / NEAR_TABLES == u64::from(print)
+}
+
+/// The child to which a link leads.
+fn child_of(link: RowRef<'_>) -> SlotRef<'_>
+    requires { IsTrue (is_link (row_of link)) }
+    ensures { slot_of result ≡ child_slot (row_of link.entry).slot }
+{
+    link.parents()[0].by_ref()
 }
 
 /// The row in a slot, if it is bound to another.
-fn child_in<'a>(rows: &'a Tree, child: &Slot, slot: &Slot) -> Option<&'a Row>
-    ensures row { option_copied result
-        ≡ if_passes (is_child_of slot.now) (row_at child.now rows.now) }
+fn child_in<'a>(rows: &'a Tree, child: SlotRef<'_>, slot: SlotRef<'_>) -> Option<RowRef<'a>>
+    ensures row { option_row result
+        ≡ if_passes (is_child_of (slot_of slot.entry)) (row_at (slot_of child.entry) rows.now) }
     ensures rising { IsTrue (rising rows.now) }
 {
     if_child_of(rows.get(child), slot)
 }
 
 /// The row, if it is bound to a slot.
-fn if_child_of<'a>(row: Option<&'a Row>, slot: &Slot) -> Option<&'a Row>
-    ensures { option_copied result ≡ if_passes (is_child_of slot.now) (option_copied row.entry) }
+fn if_child_of<'a>(row: Option<RowRef<'a>>, slot: SlotRef<'_>) -> Option<RowRef<'a>>
+    ensures { option_row result
+        ≡ if_passes (is_child_of (slot_of slot.entry)) (option_row row.entry) }
 {
     match row {
         Some(row) if row.is_child_of(slot) => Some(row),

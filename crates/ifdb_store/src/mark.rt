@@ -1,8 +1,9 @@
 // Marks: plain values that tell most slots apart.
 ghost use Rattle.std.specs.Prelude.{◌≡◌};
+ghost use Rattle.ifdb_row.specs.ByReference.{slot_of};
 ghost use Rattle.ifdb_store.specs.Marks.{edge_mark, first_number, mark_at, mark_of, marks_tell, numbers_tell};
 
-use ifdb_row::{Edge, Slot};
+use ifdb_row::{Edge, SlotRef};
 use ifdb_value::{TableId, Value};
 use std::cmp::Ordering;
 
@@ -15,10 +16,10 @@ pub(crate) struct Mark {
 
 impl Mark {
     /// The mark of a slot.
-    pub(crate) fn of_slot(slot: &Slot) -> Mark
-        ensures { result ≡ mark_of slot.now }
+    pub(crate) fn of_slot(slot: SlotRef<'_>) -> Mark
+        ensures { result ≡ mark_of (slot_of slot.entry) }
     {
-        Mark::at(slot.table, slot.key.items())
+        Mark::at(*slot.table, slot.key)
     }
 
     /// The mark of an edge.
@@ -29,8 +30,7 @@ impl Mark {
             Edge::Table(table) => Mark::at(*table, &[]),
             Edge::Key(table, key) => Mark::at(*table, key),
             Edge::Past(table, values) => Mark::at(*table, values),
-            Edge::At(slot) => Mark::of_slot(slot),
-            Edge::Behind(table, key, _) => Mark::at(*table, key),
+            Edge::At(table, key, _) | Edge::Behind(table, key, _) => Mark::at(*table, key),
         }
     }
 

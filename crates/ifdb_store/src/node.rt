@@ -1,19 +1,20 @@
 // Nodes: parts side by side.
 ghost use Rattle.std.specs.Prelude.{◌≡◌, ◌≤◌, ◌<◌, ◌+◌, ◌-◌, ◌^◌, ◌++◌, IfOk, IfSome, IsTrue, None, OnOk, length};
 ghost use Rattle.std.specs.List.{flat_map, list_all};
-ghost use Rattle.std.specs.Option.{option_copied};
+ghost use Rattle.ifdb_row.specs.ByReference.{option_row, slot_of};
 ghost use Rattle.ifdb_row.specs.Content.{after, rising};
 ghost use Rattle.ifdb_row.specs.Questions.{IsRun, bound_behind, rows_from};
+ghost use Rattle.ifdb_row.specs.Runs.{rows_in};
 ghost use Rattle.ifdb_row.specs.Writes.{are_fitting, are_rising};
 ghost use Rattle.ifdb_store.specs.Costs.{SearchedIn};
 ghost use Rattle.ifdb_store.specs.Pages.{are_full, are_nodes, front, in_nodes, is_full_node, is_node};
 
 use crate::entry::Entry;
 use crate::part::{Part, Regroup, bound_to, end_of, parts_after, run_from};
-use crate::put::{add_shared, shared};
+use crate::share::{add_shared, shared};
 use crate::steps::Steps;
-use ifdb_row::{Edge, OutOfMemory, Row, Slot, Write};
-use ifdb_value::{Sequence, Shared};
+use ifdb_row::{Edge, OutOfMemory, RowRef, Run, SlotRef, Write};
+use ifdb_value::Sequence;
 use std::alloc::Global;
 use std::marker::Model;
 use std::sync::ledger::Ledger;
@@ -72,8 +73,8 @@ impl<P: Part> Node<P> {
     }
 
     /// Its first row's slot.
-    pub(crate) fn slot(&self) -> &Slot
-        ensures { result.now ≡ front (flat_map P.rows self.now) }
+    pub(crate) fn slot(&self) -> SlotRef<'_>
+        ensures { slot_of result ≡ front (flat_map P.rows self.now) }
     {
         self.parts()[0].get().slot()
     }
@@ -92,19 +93,15 @@ impl<P: Part> Node<P> {
     }
 
     /// Its first rows, as many as lie side by side.
-    pub(crate) fn first_run(&self) -> &[Shared<Row>]
-        ensures { IsRun result.now (flat_map P.rows self.now) }
+    pub(crate) fn first_run(&self) -> Run<'_>
+        ensures { IsRun (rows_in result) (flat_map P.rows self.now) }
     {
         self.parts()[0].get().first_run()
     }
 
     /// Its first rows from an edge on, as many as lie side by side. Each comparison of slots is a step.
-    pub(crate) fn run_from<L: Ledger>(
-        &self,
-        edge: &Edge<'_>,
-        steps: &mut Steps<L>,
-    ) -> &[Shared<Row>]
-        ensures run { IsRun result.now (rows_from edge.now (flat_map P.rows self.now)) }
+    pub(crate) fn run_from<L: Ledger>(&self, edge: &Edge<'_>, steps: &mut Steps<L>) -> Run<'_>
+        ensures run { IsRun (rows_in result) (rows_from edge.now (flat_map P.rows self.now)) }
         ensures more { steps.old ≤ steps.new }
         ensures cost { SearchedIn P.bounds self.now (2 ^ (steps.new - steps.old)) }
     {
@@ -112,9 +109,13 @@ impl<P: Part> Node<P> {
     }
 
     /// Its first row bound to a slot whose own slot is behind another, or its first row bound to it.
-    pub(crate) fn bound_to(&self, slot: &Slot, after: Option<&Slot>) -> Option<&Row>
-        ensures { option_copied result
-            ≡ bound_behind slot.now after.entry (flat_map P.rows self.now) }
+    pub(crate) fn bound_to<'a>(
+        &'a self,
+        slot: SlotRef<'_>,
+        after: Option<SlotRef<'a>>,
+    ) -> Option<RowRef<'a>>
+        ensures { option_row result
+            ≡ bound_behind slot.entry after.entry (flat_map P.rows self.now) }
     {
         bound_to(self.parts(), slot, after)
     }

@@ -1,21 +1,21 @@
 // Parts of a content: what is found in them, and what they are after writes.
 ghost use Rattle.std.specs.Prelude.{◌≡◌, ◌≤◌, ◌<◌, ◌+◌, ◌-◌, ◌*◌, ◌^◌, ◌/◌, ℕ, Bool, true, IfOk, IfSome, IsTrue, None, OnOk, length, take, drop};
 ghost use Rattle.std.specs.List.{list_all, flat_map};
+ghost use Rattle.ifdb_row.specs.ByReference.{option_row, slot_of};
 ghost use Rattle.ifdb_row.specs.Edges.{lies_before};
+ghost use Rattle.ifdb_row.specs.Runs.{rows_in};
 ghost use Rattle.ifdb_row.specs.Writes.{are_fitting, are_rising};
 ghost use Rattle.ifdb_row.specs.Content.{after, rising};
-ghost use Rattle.std.specs.Option.{option_copied};
 ghost use Rattle.ifdb_row.specs.Questions.{IsRun, bound_behind, rows_from};
 ghost use Rattle.ifdb_row.specs.Reach.{reach};
 ghost use Rattle.ifdb_store.specs.Pages.{AddsAfter, AddsAllAfter, AddsParts, Begins, Divides, Leaves, are_before, are_from, are_full};
 ghost use Rattle.ifdb_store.specs.Costs.{SearchedIn};
 
 use crate::entry::Entry;
-use crate::put::add_shared;
 use crate::search::{Item, Placed, place, reach};
+use crate::share::{Share, add_shared};
 use crate::steps::Steps;
-use ifdb_row::{Edge, OutOfMemory, Row, Slot, Write};
-use ifdb_value::{Shared, Value};
+use ifdb_row::{Edge, OutOfMemory, RowRef, Run, SlotRef, Write};
 use std::alloc::Global;
 use std::sync::ledger::Ledger;
 
@@ -56,21 +56,21 @@ pub(crate) trait Part: Placed + Drop {
         ensures none { result ≡ None → 2 ^ 64 ≤ before + length (Self.rows self.now) };
 
     /// Its first rows, as many as lie side by side.
-    fn first_run(&self) -> &[Shared<Row>]
+    fn first_run(&self) -> Run<'_>
         requires { IsTrue (is_part self.now) }
-        ensures { IsRun result.now (Self.rows self.now) };
+        ensures { IsRun (rows_in result) (Self.rows self.now) };
 
     /// Its first rows from an edge on, as many as lie side by side. Each comparison of slots is a step.
-    fn run_from<L: Ledger>(&self, edge: &Edge<'_>, steps: &mut Steps<L>) -> &[Shared<Row>]
+    fn run_from<L: Ledger>(&self, edge: &Edge<'_>, steps: &mut Steps<L>) -> Run<'_>
         requires { IsTrue (is_part self.now) }
-        ensures run { IsRun result.now (rows_from edge.now (Self.rows self.now)) }
+        ensures run { IsRun (rows_in result) (rows_from edge.now (Self.rows self.now)) }
         ensures more { steps.old ≤ steps.new }
         ensures cost { bounds self.now (2 ^ (steps.new - steps.old)) };
 
     /// Its first row bound to a slot whose own slot is behind another, or its first row bound to it.
-    fn bound_to(&self, slot: &Slot, after: Option<&Slot>) -> Option<&Row>
+    fn bound_to<'a>(&'a self, slot: SlotRef<'_>, after: Option<SlotRef<'a>>) -> Option<RowRef<'a>>
         requires { IsTrue (is_part self.now) }
-        ensures { option_copied result ≡ bound_behind slot.now after.entry (Self.rows self.now) };
+        ensures { option_row result ≡ bound_behind slot.entry after.entry (Self.rows self.now) };
 
     /// It has a first row, by whose slot it stands.
     ghost begins: { (x : Self) → is_part x ≡ true → Begins (Self.rows x) (Self.place x) };
@@ -120,13 +120,13 @@ pub(crate) fn end_of(from: usize, len: usize, most: usize) -> usize
 }
 
 /// How many writes are of slots before this one.
-fn writes_before(writes: &[Write], slot: &Slot) -> usize
+fn writes_before(writes: &[Write], slot: SlotRef<'_>) -> usize
     requires { IsTrue (are_rising writes.now) }
     ensures within { result ≤ length writes.now }
-    ensures before { IsTrue (are_before slot.now (take result writes.now)) }
-    ensures behind { IsTrue (are_from slot.now (drop result writes.now)) }
+    ensures before { IsTrue (are_before (slot_of slot.entry) (take result writes.now)) }
+    ensures behind { IsTrue (are_from (slot_of slot.entry) (drop result writes.now)) }
 {
-    writes.partition_point(|write| write.slot.is_before(slot))
+    writes.partition_point(|write| write.slot.by_ref().is_before(slot))
 }
 
 /// How many of the writes are of the part at a place: all of them, where it is the last.
@@ -179,9 +179,8 @@ fn untouched<P: Part>(parts: &[Entry<P>], writes: &[Write]) -> usize
     match writes {
         [] => 0,
         [write, ..] => {
-            let slot: &Slot = &write.slot;
-            let key: &[Value] = slot.key.items();
-            let at = place(parts, &Edge::Behind(slot.table, key, &slot.label));
+            let slot = write.slot.by_ref();
+            let at = place(parts, &Edge::Behind(*slot.table, slot.key, slot.label));
             if at == 0 { 0 } else { at - 1 }
         }
     }
@@ -256,11 +255,11 @@ pub(crate) fn run_from<'a, P: Part, L: Ledger>(
     parts: &'a [Entry<P>],
     edge: &Edge<'_>,
     steps: &mut Steps<L>,
-) -> &'a [Shared<Row>]
+) -> Run<'a>
     requires some { 0 < length parts.now }
     requires parts { IsTrue (list_all P.is_part parts.now) }
     requires in_order { IsTrue (rising (flat_map P.rows parts.now)) }
-    ensures run { IsRun result.now (rows_from edge.now (flat_map P.rows parts.now)) }
+    ensures run { IsRun (rows_in result) (rows_from edge.now (flat_map P.rows parts.now)) }
     ensures more { steps.old ≤ steps.new }
     ensures cost { SearchedIn P.bounds parts.now (2 ^ (steps.new - steps.old)) }
 {
@@ -287,13 +286,13 @@ fn part_at<P: Part, L: Ledger>(parts: &[Entry<P>], edge: &Edge<'_>, steps: &mut 
 }
 
 /// The first rows of the parts from a place on.
-fn run_at<P: Part>(parts: &[Entry<P>], at: usize) -> &[Shared<Row>]
+fn run_at<P: Part>(parts: &[Entry<P>], at: usize) -> Run<'_>
     requires { IsTrue (list_all P.is_part parts.now) }
-    ensures { IsRun result.now (flat_map P.rows (drop at parts.now)) }
+    ensures { IsRun (rows_in result) (flat_map P.rows (drop at parts.now)) }
 {
     match parts.get(at) {
         Some(part) => part.get().first_run(),
-        None => &[],
+        None => Run::Loose(&[]),
     }
 }
 
@@ -301,11 +300,11 @@ fn run_at<P: Part>(parts: &[Entry<P>], at: usize) -> &[Shared<Row>]
 /// row.
 pub(crate) fn bound_to<'a, P: Part>(
     parts: &'a [Entry<P>],
-    slot: &Slot,
-    after: Option<&Slot>,
-) -> Option<&'a Row>
+    slot: SlotRef<'_>,
+    after: Option<SlotRef<'a>>,
+) -> Option<RowRef<'a>>
     requires { IsTrue (list_all P.is_part parts.now) }
-    ensures { option_copied result ≡ bound_behind slot.now after.entry (flat_map P.rows parts.now) }
+    ensures { option_row result ≡ bound_behind slot.entry after.entry (flat_map P.rows parts.now) }
 {
     for part in parts {
         let row = part.get().bound_to(slot, after);

@@ -1,16 +1,15 @@
 // Binary search for an edge.
-ghost use Rattle.std.specs.Prelude.{◌≡◌, ◌≤◌, ◌+◌, ◌-◌, ◌*◌, ◌^◌, ◌<◌, List, IfOk, IsTrue, length};
+ghost use Rattle.std.specs.Prelude.{◌≡◌, ◌≤◌, ◌+◌, ◌-◌, ◌*◌, ◌^◌, ◌<◌, List, IsTrue, length};
 ghost use Rattle.ifdb_row.specs.declared.slot.Slot.{Slot as AnySlot};
 ghost use Rattle.ifdb_row.specs.declared.row.Row.{Row as AnyRow};
+ghost use Rattle.ifdb_row.specs.ByReference.{slot_of};
 ghost use Rattle.ifdb_row.specs.Edges.{lies_before};
 ghost use Rattle.ifdb_row.specs.Reach.{reach, is_parted};
 ghost use Rattle.ifdb_store.specs.Marks.{edge_mark};
 
 use crate::mark::Mark;
 use crate::steps::Steps;
-use ifdb_row::{Edge, OutOfMemory, Row, Slot};
-use ifdb_value::Shared;
-use std::cmp::Ordering;
+use ifdb_row::{Edge, RowRef, SlotRef};
 use std::marker::Brand;
 use std::sync::ledger::{Blank, Ledger};
 
@@ -23,18 +22,14 @@ pub(crate) trait Placed {
     ghost rows: { Self → List AnyRow };
 
     /// The slot that it stands by.
-    fn slot(&self) -> &Slot
-        ensures { result.now ≡ place self.now };
+    fn slot(&self) -> SlotRef<'_>
+        ensures { slot_of result ≡ place self.now };
 }
 
-/// An item of a list in the order of slots. It is shared, and never copied.
-pub(crate) trait Item: Drop {
+/// An item of a list in the order of slots.
+pub(crate) trait Item {
     /// The slot that it stands by.
     ghost spot: { Self → AnySlot };
-
-    /// The same item, shared. `OutOfMemory` comes where it has too many owners; it takes no memory.
-    fn shared(&self) -> Result<Self, OutOfMemory>
-        ensures { IfOk result (λ item. item ≡ self.now) };
 
     /// Whether it stands before an edge, of which this is the mark. It touches no row where the marks tell.
     fn is_before(&self, edge: &Edge<'_>, mark: &Mark) -> bool
@@ -42,23 +37,14 @@ pub(crate) trait Item: Drop {
         ensures { result ≡ lies_before edge.now (spot self.now) };
 }
 
-impl Item for Shared<Row> {
-    ghost use Rattle.ifdb_row.specs.declared.row.Row.{Row};
+impl Item for RowRef<'_> {
+    ghost use Rattle.ifdb_row.specs.ByReference.{slot_of};
+    ghost use Rattle.ifdb_row.specs.declared.row.RowRef.{RowRef};
 
-    ghost spot = { λ (r : Row). r.slot };
+    ghost spot = { λ (r : RowRef). slot_of r.slot };
 
-    fn shared(&self) -> Result<Shared<Row>, OutOfMemory> {
-        self.share()
-    }
-
-    #[tactic(auto, using(crate::proofs::Marks::told_less, crate::proofs::Marks::told_greater))]
-    fn is_before(&self, edge: &Edge<'_>, mark: &Mark) -> bool {
-        let slot = &self.get().slot;
-        match Mark::of_slot(slot).tell(mark) {
-            Ordering::Less => true,
-            Ordering::Equal => edge.is_behind(slot),
-            Ordering::Greater => false,
-        }
+    fn is_before(&self, edge: &Edge<'_>, _mark: &Mark) -> bool {
+        edge.is_behind(self.slot)
     }
 }
 

@@ -1,10 +1,11 @@
 // Rows in pages, in versions.
 ghost use Rattle.std.specs.Prelude.{◌≡◌, ◌≤◌, ◌<◌, ◌+◌, ◌-◌, ◌*◌, ◌^◌, [], length, IfOk, IfSome, IsTrue, None, OnOk};
 ghost use Rattle.std.specs.List.{list_all};
-ghost use Rattle.std.specs.Option.{option_copied};
+ghost use Rattle.ifdb_row.specs.ByReference.{option_row};
 ghost use Rattle.ifdb_row.specs.Content.{after, rising};
 ghost use Rattle.ifdb_row.specs.Writes.{are_fitting, are_rising};
 ghost use Rattle.ifdb_row.specs.Questions.{IsRun, first_row_from, rows_from};
+ghost use Rattle.ifdb_row.specs.Runs.{rows_in};
 ghost use Rattle.ifdb_store.specs.Pages.{are_full, is_branch, is_full_node, rows_of};
 
 use crate::branch::{Branch, branches_of};
@@ -14,7 +15,7 @@ use crate::part::{Part, Regroup, bound_to, parts_after, run_from};
 use crate::put::rows_after;
 use crate::steps::Steps;
 use crate::twig::twigs_of;
-use ifdb_row::{Edge, OutOfMemory, Row, Rows, Slot, Write, Writes, first_of_run};
+use ifdb_row::{Edge, OutOfMemory, RowRef, Rows, Run, SlotRef, Write, Writes};
 use ifdb_value::{Sequence, Shared};
 use std::alloc::Global;
 use std::marker::{Brand, Model};
@@ -83,34 +84,38 @@ impl Tree {
 
     /// The first row from an edge on. Each comparison of slots is a step, and for n rows there are s steps with 2^s at most
     /// 4 * (n + 1)^2.
-    pub(crate) fn seek<L: Ledger>(&self, edge: &Edge<'_>, steps: &mut Steps<L>) -> Option<&Row>
-        ensures row { option_copied result ≡ first_row_from edge.now self.now }
+    pub(crate) fn seek<L: Ledger>(
+        &self,
+        edge: &Edge<'_>,
+        steps: &mut Steps<L>,
+    ) -> Option<RowRef<'_>>
+        ensures row { option_row result ≡ first_row_from edge.now self.now }
         ensures more { steps.old ≤ steps.new }
         ensures cost { 2 ^ (steps.new - steps.old) ≤ 4 * (length self.now + 1) ^ 2 }
     {
-        first_of_run(self.seek_run(edge, steps))
+        self.seek_run(edge, steps).first()
     }
 
     /// The first rows from an edge on, as many as lie side by side. Each comparison of slots is a step.
-    fn seek_run<L: Ledger>(&self, edge: &Edge<'_>, steps: &mut Steps<L>) -> &[Shared<Row>]
-        ensures run { IsRun result.now (rows_from edge.now self.now) }
+    fn seek_run<L: Ledger>(&self, edge: &Edge<'_>, steps: &mut Steps<L>) -> Run<'_>
+        ensures run { IsRun (rows_in result) (rows_from edge.now self.now) }
         ensures rising { IsTrue (rising self.now) }
         ensures more { steps.old ≤ steps.new }
         ensures cost { 2 ^ (steps.new - steps.old) ≤ 4 * (length self.now + 1) ^ 2 }
     {
         let branches = self.branches();
         if branches.is_empty() {
-            return &[];
+            return Run::Loose(&[]);
         }
         run_from(branches, edge, steps)
     }
 
     /// The same, with steps that nobody reads.
-    fn uncounted_run<L: Ledger>(&self, edge: &Edge<'_>, blank: Blank) -> &[Shared<Row>]
+    fn uncounted_run<L: Ledger>(&self, edge: &Edge<'_>, blank: Blank) -> Run<'_>
         requires name { blank.name ≡ L.name }
         requires parts { blank.parts ≡ L.parts }
         requires some { 0 < blank.parts }
-        ensures run { IsRun result.now (rows_from edge.now self.now) }
+        ensures run { IsRun (rows_in result) (rows_from edge.now self.now) }
         ensures rising { IsTrue (rising self.now) }
     {
         let mut steps = Steps::<L>::new(blank);
@@ -131,11 +136,11 @@ impl Tree {
 impl Rows for Tree {
     ghost rows = { λ c. c };
 
-    fn run_from(&self, edge: &Edge<'_>) -> &[Shared<Row>] {
+    fn run_from(&self, edge: &Edge<'_>) -> Run<'_> {
         self.uncounted_run::<Brand>(edge, Blank::new(1))
     }
 
-    fn bound_to(&self, slot: &Slot, after: Option<&Slot>) -> Option<&Row> {
+    fn bound_to<'a>(&'a self, slot: SlotRef<'_>, after: Option<SlotRef<'a>>) -> Option<RowRef<'a>> {
         bound_to(self.branches(), slot, after)
     }
 }
@@ -174,8 +179,8 @@ fn first_branches(alloc: Global, writes: &[Write]) -> Result<Vec<Entry<Branch>>,
     ensures full { IfOk result (λ all. IsTrue (are_full is_full_node all.items)) }
     ensures rising { IfOk result (λ all. IsTrue (rising (rows_of all.items))) }
 {
-    let rows = rows_after(alloc, &[], writes)?;
+    let rows = rows_after(alloc, Run::Loose(&[]), writes)?;
     let mut pages = Vec::new(alloc);
-    cut(alloc, rows, &mut pages)?;
+    cut(alloc, &rows, &mut pages)?;
     branches_of(alloc, twigs_of(alloc, pages)?)
 }

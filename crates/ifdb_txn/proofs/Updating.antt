@@ -2,13 +2,14 @@
 use Rattle.std.proofs.Common.{◌≡◌, ◌⊎◌, inl, inr, ℕ, ◌<◌, ◌+◌, Bool, true, List, [], ◌∷◌, ◌++◌, ◌∙◌, length, get_or, drop, refl, sym, ap, arith, Some, None, Option}
 use Rattle.std.specs.Prelude.{Ok, Err, Result, map}
 use Rattle.std.specs.List.{list_all}
-use Rattle.std.specs.Borrow.{Bor}
 use Rattle.std.proofs.lemmas.List.{drop_more}
 use Rattle.std.proofs.lemmas.Grind.{common_steps}
 use Rattle.std.proofs.lemmas.Bool.Decides.{nat_tests}
 use Rattle.ifdb_value.specs.declared.value.Value.{Value}
 use Rattle.ifdb_row.specs.declared.slot.Slot.{Slot}
 use Rattle.ifdb_row.specs.declared.row.Row.{Row}
+use Rattle.ifdb_row.specs.declared.row.RowRef.{RowRef}
+use Rattle.ifdb_row.specs.ByReference.{row_of}
 use Rattle.ifdb_row.specs.declared.write.Write.{Write}
 use Rattle.ifdb_row.specs.Slots.{slot_lt}
 use Rattle.ifdb_row.specs.Writes.{are_rising, is_fitting, are_fitting}
@@ -19,7 +20,6 @@ use Rattle.ifdb_bound.specs.declared.request.BoundAssignment.{BoundAssignment}
 use Rattle.ifdb_wire.specs.declared.fault.Fault.{Fault}
 use Rattle.ifdb_wire.specs.declared.fault.Fault.TheVariants as fault
 use Rattle.ifdb_model.specs.Writes.{Scene, update_one, update_to, updated, update_all, and_write, assigned, rebound, new_write}
-use Rattle.ifdb_txn.specs.Matches.{now_of}
 use Rattle.ifdb_txn.specs.Rebinding.{before}
 
 module _ (x : Scene) (schema : Schema) (sets : List BoundAssignment) where
@@ -30,21 +30,21 @@ module _ (x : Scene) (schema : Schema) (sets : List BoundAssignment) where
   before_one front w (Err f) = refl
   before_one front w (Ok ws) = ap Ok (grind (arith, common_steps))
 
-  pub one_more : (rows : List (Bor Row)) (i : ℕ) (r : Bor Row) (front : List Write) (w : Write) → i < length rows → get_or rows i r ≡ r → update_one x schema sets r.now ≡ Ok w
-      → before front (all_of (map now_of (drop i rows))) ≡ before (front ++ w ∷ []) (all_of (map now_of (drop (i + 1) rows)))
+  pub one_more : (rows : List RowRef) (i : ℕ) (r : RowRef) (front : List Write) (w : Write) → i < length rows → get_or rows i r ≡ r → update_one x schema sets (row_of r) ≡ Ok w
+      → before front (all_of (map row_of (drop i rows))) ≡ before (front ++ w ∷ []) (all_of (map row_of (drop (i + 1) rows)))
   one_more rows i r front w lt at e =
-      ap (λ d. before front (all_of (map now_of d))) (drop_more rows i r lt)
-      ∙ (ap (λ b. before front (and_write (update_one x schema sets b.now) (all_of (map now_of (drop (i + 1) rows))))) at
-      ∙ (ap (λ o. before front (and_write o (all_of (map now_of (drop (i + 1) rows))))) e ∙ before_one front w (all_of (map now_of (drop (i + 1) rows)))))
+      ap (λ d. before front (all_of (map row_of d))) (drop_more rows i r lt)
+      ∙ (ap (λ b. before front (and_write (update_one x schema sets (row_of b)) (all_of (map row_of (drop (i + 1) rows))))) at
+      ∙ (ap (λ o. before front (and_write o (all_of (map row_of (drop (i + 1) rows))))) e ∙ before_one front w (all_of (map row_of (drop (i + 1) rows)))))
 
-  pub one_refused : (rows : List (Bor Row)) (i : ℕ) (r : Bor Row) (front : List Write) (f : Fault) → i < length rows → get_or rows i r ≡ r
-      → all_of (map now_of rows) ≡ before front (all_of (map now_of (drop i rows)))
-      → (f ≡ fault.OutOfMemory) ⊎ (update_one x schema sets r.now ≡ Err f) → (f ≡ fault.OutOfMemory) ⊎ (all_of (map now_of rows) ≡ Err f)
+  pub one_refused : (rows : List RowRef) (i : ℕ) (r : RowRef) (front : List Write) (f : Fault) → i < length rows → get_or rows i r ≡ r
+      → all_of (map row_of rows) ≡ before front (all_of (map row_of (drop i rows)))
+      → (f ≡ fault.OutOfMemory) ⊎ (update_one x schema sets (row_of r) ≡ Err f) → (f ≡ fault.OutOfMemory) ⊎ (all_of (map row_of rows) ≡ Err f)
   one_refused rows i r front f lt at e (inl k) = inl k
   one_refused rows i r front f lt at e (inr k) = inr (e
-      ∙ (ap (λ d. before front (all_of (map now_of d))) (drop_more rows i r lt)
-      ∙ (ap (λ b. before front (and_write (update_one x schema sets b.now) (all_of (map now_of (drop (i + 1) rows))))) at
-      ∙ ap (λ o. before front (and_write o (all_of (map now_of (drop (i + 1) rows))))) k)))
+      ∙ (ap (λ d. before front (all_of (map row_of d))) (drop_more rows i r lt)
+      ∙ (ap (λ b. before front (and_write (update_one x schema sets (row_of b)) (all_of (map row_of (drop (i + 1) rows))))) at
+      ∙ ap (λ o. before front (and_write o (all_of (map row_of (drop (i + 1) rows))))) k)))
 
   -- ---- the writes stand as their rows
   one_slot : (r : Row) (w : Write) (o : Option (List Value)) → update_to x schema sets r o ≡ Ok w → (w.slot ≡ r.slot) × (is_fitting w.slot w.row ≡ true)

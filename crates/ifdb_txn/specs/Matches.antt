@@ -1,6 +1,5 @@
 -- The rows that UPDATE and DELETE are about.
 use Rattle.std.specs.Prelude.{ℕ, Bool, List, [], ◌∷◌, ◌&&◌, filter, Option}
-use Rattle.std.specs.Borrow.{Bor}
 use Rattle.ifdb_label.specs.Tags.{MadeTag}
 use Rattle.ifdb_label.specs.Label.{flows}
 use Rattle.ifdb_row.specs.declared.row.Row.{Row}
@@ -15,7 +14,3 @@ is_wanted tags cond label r = flows tags r.slot.label label && passes cond (r.va
 -- those of some rows that the label sees and of which the condition holds
 abbrev pub wanted_of : Standpoint → Option BoundCond → List Row → List Row
 wanted_of from cond rows = filter (is_wanted from.tags.now cond from.label.now) rows
-
--- the row that is referred to
-abbrev pub now_of : Bor Row → Row
-now_of r = r.now

@@ -64,7 +64,7 @@ pub(crate) fn copied(alloc: Global, values: &[Value]) -> Result<Values, OutOfMem
 {
     let mut copies = Values::with_capacity(alloc, values.len())?;
     for value in values {
-        copies.push(value.copy(alloc)?)?;
+        copies.push(value.share()?)?;
     }
     Ok(copies)
 }

@@ -13,7 +13,7 @@ use crate::parents::{bind_parents, values_at};
 use crate::target::Target;
 use ifdb_key::is_free;
 use ifdb_row::{Refs, Row, Rows, Slot, Values, Write, Writes};
-use ifdb_value::{Shared, Value, ValueRow};
+use ifdb_value::{Sequence, Shared, Value, ValueRow};
 use ifdb_wire::Fault;
 use std::alloc::Global;
 
@@ -74,7 +74,7 @@ fn insert_one<R: Rows>(
     }
     let refs = bind_parents(target, rows, values.items())?;
     let values = copied(target.alloc, values.items())?;
-    let write = write_of(target.alloc, &slot, values, refs)?;
+    let write = write_of(target.alloc, slot, values, refs)?;
     earlier.put(write)?;
     Ok(())
 }
@@ -106,7 +106,7 @@ fn slot_of(target: &Target<'_>, values: &[Value]) -> Result<Slot, OutOfMemory>
     ensures { IfOk result (λ slot. slot ≡ slot_of target.now values.now) }
 {
     let key = values_at(target.alloc, values, target.schema.key.items())?;
-    let label = target.from.label.copy(target.alloc)?;
+    let label = target.from.label.share()?;
     Ok(Slot {
         table: target.table,
         key,
@@ -117,19 +117,18 @@ fn slot_of(target: &Target<'_>, values: &[Value]) -> Result<Slot, OutOfMemory>
 /// A row that is written.
 pub(crate) fn write_of(
     alloc: Global,
-    slot: &Slot,
+    slot: Slot,
     values: Values,
-    refs: Refs,
+    refs: Sequence<Slot>,
 ) -> Result<Write, OutOfMemory>
-    ensures { IfOk result (λ write. write ≡ new_write slot.now values refs) }
+    ensures { IfOk result (λ write. write ≡ new_write slot values refs) }
 {
     let row = Row {
         slot: slot.copy(alloc)?,
         values,
-        refs,
+        refs: Refs::from_vec(alloc, refs.into_vec())?,
     };
     let row = Shared::new(alloc, row)?;
-    let slot = slot.copy(alloc)?;
     Ok(Write {
         slot,
         row: Some(row),

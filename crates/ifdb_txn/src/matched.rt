@@ -2,13 +2,15 @@
 ghost use Rattle.std.specs.Prelude.{◌≡◌, ◌∷◌, ◌++◌, [], IfOk, OnOk, IsTrue, length, map};
 ghost use Rattle.ifdb_label.specs.Tags.{AreMade};
 ghost use Rattle.ifdb_bound.specs.Conditions.{passes};
+ghost use Rattle.ifdb_row.specs.ByReference.{row_of};
 ghost use Rattle.ifdb_row.specs.Content.{rising};
+ghost use Rattle.ifdb_row.specs.Runs.{rows_in};
 ghost use Rattle.ifdb_row.specs.Seen.{are_rows_made};
 ghost use Rattle.ifdb_row.specs.Slots.{is_same_label};
 ghost use Rattle.ifdb_foreign.specs.Parents.{IsMade};
 ghost use Rattle.ifdb_model.specs.Writes.{are_writable, deletion};
 ghost use Rattle.ifdb_plan.specs.Ranges.{HasRange};
-ghost use Rattle.ifdb_txn.specs.Matches.{is_wanted, now_of, wanted_of};
+ghost use Rattle.ifdb_txn.specs.Matches.{is_wanted, wanted_of};
 ghost use Rattle.ifdb_txn.specs.Scenes.{are_under_keys, matched_of};
 
 use crate::OutOfMemory;
@@ -18,8 +20,8 @@ use ifdb_expr::{Frame, SeenRow, holds};
 use ifdb_foreign::Standpoint;
 use ifdb_label::Label;
 use ifdb_plan::cond_range;
-use ifdb_row::{KeyRange, Row, Rows, Slot, Write};
-use ifdb_value::{Shared, Value};
+use ifdb_row::{KeyRange, RowRef, Rows, Run, SlotRef, Write};
+use ifdb_value::Value;
 use std::alloc::Global;
 
 /// The rows of the table that the session's label sees and of which the condition holds, in the order of slots.
@@ -30,12 +32,12 @@ pub(crate) fn matched<'a, R: Rows>(
     target: &Target<'_>,
     rows: &'a R,
     cond: &Option<BoundCond>,
-) -> Result<Vec<&'a Row>, OutOfMemory>
+) -> Result<Vec<RowRef<'a>>, OutOfMemory>
     requires made { IsMade target.now.from (R.rows rows.now) }
     requires keyed { IsTrue (are_under_keys target.now (R.rows rows.now)) }
-    ensures rows { IfOk result (λ found. map now_of found.items
+    ensures rows { IfOk result (λ found. map row_of found.items
         ≡ matched_of target.now (R.rows rows.now) cond.now) }
-    ensures rising { IfOk result (λ found. IsTrue (rising (map now_of found.items))) }
+    ensures rising { IfOk result (λ found. IsTrue (rising (map row_of found.items))) }
 {
     let range = cond_range(target.alloc, cond, target.schema.key.items())?;
     matched_within(target, rows, cond, &range)
@@ -47,40 +49,40 @@ fn matched_within<'a, R: Rows>(
     rows: &'a R,
     cond: &Option<BoundCond>,
     range: &KeyRange,
-) -> Result<Vec<&'a Row>, OutOfMemory>
+) -> Result<Vec<RowRef<'a>>, OutOfMemory>
     requires made { IsMade target.now.from (R.rows rows.now) }
     requires keyed { IsTrue (are_under_keys target.now (R.rows rows.now)) }
     requires has_range { HasRange cond.now target.now.schema.now.key range.now }
-    ensures rows { IfOk result (λ found. map now_of found.items
+    ensures rows { IfOk result (λ found. map row_of found.items
         ≡ matched_of target.now (R.rows rows.now) cond.now) }
-    ensures rising { IfOk result (λ found. IsTrue (rising (map now_of found.items))) }
+    ensures rising { IfOk result (λ found. IsTrue (rising (map row_of found.items))) }
 {
-    let mut found: Vec<&'a Row> = Vec::new(target.alloc);
-    let mut after: Option<&'a Slot> = None;
+    let mut found: Vec<RowRef<'a>> = Vec::new(target.alloc);
+    let mut after: Option<SlotRef<'a>> = None;
     loop {
         let run = rows.within(target.table, range, after);
-        let Some((last, _)) = run.split_last() else {
+        let Some(last) = run.last() else {
             return Ok(found);
         };
         keep_matched(target.from, run, cond, &mut found)?;
-        after = Some(&last.get().slot);
+        after = Some(last.slot);
     }
 }
 
 /// Adds those of some rows that the label sees and of which the condition holds.
 fn keep_matched<'a>(
     from: Standpoint<'_>,
-    run: &'a [Shared<Row>],
+    run: Run<'a>,
     cond: &Option<BoundCond>,
-    found: &mut Vec<&'a Row>,
+    found: &mut Vec<RowRef<'a>>,
 ) -> Result<(), OutOfMemory>
-    requires rows_made { IsTrue (are_rows_made (length from.tags.now) run.now) }
+    requires rows_made { IsTrue (are_rows_made (length from.tags.now) (rows_in run)) }
     requires label_made { AreMade (length from.tags.now) from.label.now }
-    ensures { OnOk result (map now_of found.new.items
-        ≡ map now_of found.old.items ++ wanted_of from.entry cond.now run.now) }
+    ensures { OnOk result (map row_of found.new.items
+        ≡ map row_of found.old.items ++ wanted_of from.entry cond.now (rows_in run.entry)) }
 {
-    for row in run {
-        keep_wanted(from, row.get(), cond, found)?;
+    for place in 0..run.len() {
+        keep_wanted(from, run.row(place), cond, found)?;
     }
     Ok(())
 }
@@ -88,14 +90,14 @@ fn keep_matched<'a>(
 /// Adds a row, if the label sees it and the condition holds.
 fn keep_wanted<'a>(
     from: Standpoint<'_>,
-    row: &'a Row,
+    row: RowRef<'a>,
     cond: &Option<BoundCond>,
-    found: &mut Vec<&'a Row>,
+    found: &mut Vec<RowRef<'a>>,
 ) -> Result<(), OutOfMemory>
-    requires row_made { AreMade (length from.tags.now) row.now.slot.label }
+    requires row_made { AreMade (length from.tags.now) (row_of row).slot.label }
     requires label_made { AreMade (length from.tags.now) from.label.now }
-    ensures { OnOk result (map now_of found.new.items
-        ≡ map now_of found.old.items ++ wanted_of from.entry cond.now (row.now ∷ [])) }
+    ensures { OnOk result (map row_of found.new.items
+        ≡ map row_of found.old.items ++ wanted_of from.entry cond.now (row_of row.entry ∷ [])) }
 {
     if is_wanted(from, row, cond) {
         found.push(row)?;
@@ -104,12 +106,12 @@ fn keep_wanted<'a>(
 }
 
 /// Whether the label sees the row, and the condition holds.
-fn is_wanted(from: Standpoint<'_>, row: &Row, cond: &Option<BoundCond>) -> bool
-    requires row_made { AreMade (length from.tags.now) row.now.slot.label }
+fn is_wanted(from: Standpoint<'_>, row: RowRef<'_>, cond: &Option<BoundCond>) -> bool
+    requires row_made { AreMade (length from.tags.now) (row_of row).slot.label }
     requires label_made { AreMade (length from.tags.now) from.label.now }
-    ensures { result ≡ is_wanted from.entry.tags.now cond.now from.entry.label.now row.now }
+    ensures { result ≡ is_wanted from.entry.tags.now cond.now from.entry.label.now (row_of row.entry) }
 {
-    row.slot.label.flows(from.tags, from.label) && passes(cond, row.values.items())
+    row.slot.label.flows(from.tags, from.label) && passes(cond, row.values)
 }
 
 /// Whether a condition that may be left out holds of one row.
@@ -127,11 +129,11 @@ fn passes(cond: &Option<BoundCond>, values: &[Value]) -> bool
 
 /// Whether each row has the label.
 #[tactic(auto, using(crate::proofs::Matching::all_map))]
-pub(crate) fn are_writable(label: &Label, rows: &[&Row]) -> bool
-    ensures { result ≡ are_writable label.now (map now_of rows.now) }
+pub(crate) fn are_writable(label: &Label, rows: &[RowRef<'_>]) -> bool
+    ensures { result ≡ are_writable label.now (map row_of rows.now) }
 {
     for row in rows {
-        if !is_same_label(&row.slot.label, label) {
+        if !is_same_label(row.slot.label, label) {
             return false;
         }
     }
@@ -146,12 +148,12 @@ fn is_same_label(label: &Label, other: &Label) -> bool
 }
 
 /// The deletions of some rows.
-pub(crate) fn deletions(alloc: Global, rows: &[&Row]) -> Result<Vec<Write>, OutOfMemory>
-    ensures { IfOk result (λ writes. writes.items ≡ map deletion (map now_of rows.now)) }
+pub(crate) fn deletions(alloc: Global, rows: &[RowRef<'_>]) -> Result<Vec<Write>, OutOfMemory>
+    ensures { IfOk result (λ writes. writes.items ≡ map deletion (map row_of rows.now)) }
 {
     let mut writes = Vec::with_capacity(alloc, rows.len())?;
     for row in rows {
-        let slot = row.slot.copy(alloc)?;
+        let slot = row.slot.to_slot(alloc)?;
         writes.push(Write { slot, row: None })?;
     }
     Ok(writes)

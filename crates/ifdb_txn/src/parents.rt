@@ -4,6 +4,7 @@ ghost use Rattle.std.specs.Option.{option_copied};
 ghost use Rattle.ifdb_bound.specs.Expressions.{value_at};
 ghost use Rattle.ifdb_catalog.specs.Statements.{values_at};
 ghost use Rattle.ifdb_model.specs.Writes.{binds, bound_parent, refs_behind};
+ghost use Rattle.ifdb_row.specs.ByReference.{row_of};
 ghost use Rattle.ifdb_foreign.specs.Parents.{Binds, IsMade};
 ghost use Rattle.ifdb_txn.specs.Scenes.{parents_of, rebound_of, scene_of};
 ghost use Rattle.ifdb_txn.specs.Rebinding.{kept_of, kept_or_bound, parent_where};
@@ -15,8 +16,8 @@ use ifdb_bound::{BoundAssignment, Foreign};
 use ifdb_catalog::are_given;
 use ifdb_expr::value_in;
 use ifdb_foreign::bind_parent;
-use ifdb_row::{Refs, Row, Rows, Slot, Values};
-use ifdb_value::Value;
+use ifdb_row::{RowRef, Rows, Slot, Values};
+use ifdb_value::{Sequence, Value};
 use ifdb_wire::Fault;
 use std::alloc::Global;
 
@@ -26,11 +27,11 @@ pub(crate) fn bind_parents<R: Rows>(
     target: &Target<'_>,
     rows: &R,
     values: &[Value],
-) -> Result<Refs, Fault>
+) -> Result<Sequence<Slot>, Fault>
     requires made { IsMade target.now.from (R.rows rows.now) }
     ensures { Binds (parents_of target.now (R.rows rows.now) values.now) result }
 {
-    let mut refs = Refs::new(target.alloc);
+    let mut refs = Sequence::new(target.alloc);
     for foreign in target.schema.foreign.items() {
         let parent = parent_where(target, rows, values, foreign, None)?;
         push(&mut refs, parent)?;
@@ -45,20 +46,21 @@ pub(crate) fn rebind_parents<R: Rows>(
     target: &Target<'_>,
     rows: &R,
     assignments: &[BoundAssignment],
-    row: &Row,
+    row: RowRef<'_>,
     values: &[Value],
-) -> Result<Refs, Fault>
+) -> Result<Sequence<Slot>, Fault>
     requires made { IsMade target.now.from (R.rows rows.now) }
-    ensures { Binds (rebound_of target.now (R.rows rows.now) assignments.now row.now values.now)
+    ensures { Binds (rebound_of target.now (R.rows rows.now) assignments.now (row_of row.entry)
+        values.now)
         result }
 {
-    let mut found = Refs::new(target.alloc);
-    let mut refs = row.refs.items();
+    let mut found = Sequence::new(target.alloc);
+    let mut refs = row.parents();
     for foreign in target.schema.foreign.items() {
         let kept = kept(assignments, foreign, refs.first());
         let parent = parent_where(target, rows, values, foreign, kept)?;
         push(&mut found, parent)?;
-        refs = behind(refs, binds(row.values.items(), foreign));
+        refs = behind(refs, binds(row.values, foreign));
     }
     Ok(found)
 }
@@ -92,7 +94,7 @@ fn binds(values: &[Value], foreign: &Foreign) -> bool
 }
 
 /// One parent more, where there is one.
-fn push(refs: &mut Refs, parent: Option<Slot>) -> Result<(), OutOfMemory>
+fn push(refs: &mut Sequence<Slot>, parent: Option<Slot>) -> Result<(), OutOfMemory>
     ensures { OnOk result (refs.new ≡ refs.old ++ option_to_list parent) }
 {
     match parent {

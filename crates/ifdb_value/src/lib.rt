@@ -11,6 +11,7 @@ mod ids;
 mod name;
 mod sequence;
 mod shared;
+mod shared_list;
 mod value;
 mod word;
 
@@ -21,6 +22,7 @@ pub use ids::{Principal, TableId, ViewId};
 pub use name::{LONGEST_NAME, Name, NameFault, names_are_bounded};
 pub use sequence::Sequence;
 pub use shared::Shared;
+pub use shared_list::SharedList;
 pub use std::alloc::AllocError as OutOfMemory;
 pub use value::{Compare, TermKind, Value, ValueKind, ValueRow, ValueRows};
 pub use word::Word;

@@ -182,8 +182,11 @@ fn write_of(alloc: Global, tags: &Tags, put: Put) -> Result<Write, OutOfMemory>
     let slot = slot_of(alloc, tags, key, at)?;
     let refs = match holds {
         Nothing => return Ok(Write { slot, row: None }),
-        Plain => Refs::new(alloc),
-        Child(parent) => Refs::single(alloc, slot_of(alloc, tags, parent, Low)?)?,
+        Plain => Refs::new(),
+        Child(parent) => Refs::from_vec(
+            alloc,
+            Vec::from_array(alloc, [slot_of(alloc, tags, parent, Low)?])?,
+        )?,
     };
     let row = Shared::new(
         alloc,
@@ -226,19 +229,19 @@ fn label_of(alloc: Global, tags: &Tags, at: At) -> Result<Label, OutOfMemory>
 fn came_of(judged: &Judged<'_>) -> Came {
     match judged {
         Judged::Go => Came::Go,
-        Judged::CommitLabel(slot) => Came::CommitLabel(key_of(slot)),
-        Judged::Conflict(later) => Came::Conflict(key_of(later.slot), later.stamp),
-        Judged::BrokenReference(slot) => Came::BrokenReference(key_of(slot)),
+        Judged::CommitLabel(slot) => Came::CommitLabel(key_of(slot.key.items())),
+        Judged::Conflict(later) => Came::Conflict(key_of(later.slot.key.items()), later.stamp),
+        Judged::BrokenReference(slot) => Came::BrokenReference(key_of(slot.key.items())),
         Judged::StillReferenced(left) => Came::StillReferenced(
-            key_of(left.child),
-            key_of(left.parent),
+            key_of(left.child.key),
+            key_of(left.parent.key.items()),
         ),
     }
 }
 
-/// The number that is a slot's key.
-fn key_of(slot: &Slot) -> i64 {
-    match slot.key.items() {
+/// The number that is a key.
+fn key_of(key: &[Value]) -> i64 {
+    match key {
         [Value::Int(number)] => *number,
         _ => 0,
     }

@@ -201,9 +201,12 @@ fn writes_break_references(rt: HostRuntime) -> Result<(), Fail> {
     for breaking in &BREAKINGS {
         let Breaking(puts, broken, left) = breaking;
         let writes = writes_of(alloc, &tags, puts)?;
-        let broke = first_broken(&rows, &writes).map(|write| key_of(&write.slot));
+        let broke = first_broken(&rows, &writes).map(|write| key_of(write.slot.key.items()));
         assert_eq!(rt; broke, *broken);
-        let lost = first_left(&rows, &writes).map(|row| (key_of(row.child), key_of(row.parent)));
+        let lost = first_left(&rows, &writes).map(|row| (
+            key_of(row.child.key),
+            key_of(row.parent.key.items()),
+        ));
         assert_eq!(rt; lost, *left);
     }
     Ok(())
@@ -255,14 +258,14 @@ fn row_of(
     requires { length tags.now ≡ 2 }
     ensures { IfOk result (λ row. row.slot ≡ slot.now) }
 {
-    let mut refs = Refs::new(alloc);
+    let mut refs = Vec::new(alloc);
     for parent in parents {
         refs.push(slot_of(alloc, tags, *parent)?)?;
     }
     let row = Row {
         slot: slot.copy(alloc)?,
         values: Values::new(alloc),
-        refs,
+        refs: Refs::from_vec(alloc, refs)?,
     };
     Shared::new(alloc, row)
 }
@@ -308,9 +311,9 @@ fn write_of(alloc: Global, tags: &Tags, put: Put) -> Result<Write, OutOfMemory>
     Ok(Write { slot, row })
 }
 
-/// The number that is a slot's key.
-fn key_of(slot: &Slot) -> i64 {
-    match slot.key.items() {
+/// The number that is a key.
+fn key_of(key: &[Value]) -> i64 {
+    match key {
         [Value::Int(number)] => *number,
         _ => 0,
     }

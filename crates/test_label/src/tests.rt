@@ -168,17 +168,17 @@ fn compares(
 fn the_empty_label_flows(rt: HostRuntime) -> Result<(), Fail> {
     let tags = diamond(rt.alloc())?;
     let whole = Label::reduce(rt.alloc(), &tags, &[Tag(0)])?;
-    let empty = Label::empty(rt.alloc());
+    let empty = Label::empty();
     assert!(rt; empty.flows(&tags, &whole));
     assert!(rt; !whole.flows(&tags, &empty));
     Ok(())
 }
 
 #[test]
-fn a_label_is_copied(rt: HostRuntime) -> Result<(), Fail> {
+fn a_label_is_shared(rt: HostRuntime) -> Result<(), Fail> {
     let tags = diamond(rt.alloc())?;
     let member = Label::reduce(rt.alloc(), &tags, &[Tag(3), Tag(4)])?;
-    let copy = member.copy(rt.alloc())?;
-    assert_eq!(rt; copy.tags(), member.tags());
+    let same = member.share()?;
+    assert_eq!(rt; same.tags(), member.tags());
     Ok(())
 }

@@ -90,7 +90,7 @@ fn values_are_ordered(rt: HostRuntime) -> Result<(), Fail> {
 }
 
 fn is_its_copy(rt: &impl Abort, alloc: Global, value: &Value) -> Result<(), OutOfMemory> {
-    let copy = value.copy(alloc)?;
+    let copy = value.share()?;
     assert_eq!(rt; value.compare(&copy), Ordering::Equal);
     Ok(())
 }
@@ -99,7 +99,7 @@ fn is_its_copy(rt: &impl Abort, alloc: Global, value: &Value) -> Result<(), OutO
 fn columns_of(alloc: Global, name: &Name) -> Result<Columns, OutOfMemory> {
     let mut columns = Columns::new(alloc);
     columns.push(Column {
-        name: name.copy(alloc)?,
+        name: name.share()?,
         kind: ValueKind::Int,
     })?;
     Ok(Columns::from_vec(columns.into_vec()))
@@ -135,7 +135,7 @@ fn lists_are_copied(rt: HostRuntime) -> Result<(), Fail> {
 #[test]
 fn lists_are_copied_by_their_items(rt: HostRuntime) -> Result<(), Fail> {
     let texts = texts(rt.alloc())?;
-    let again = texts.copy_by(rt.alloc(), |word| word.copy(rt.alloc()))?;
+    let again = texts.copy_by(rt.alloc(), |word| word.share())?;
     assert!(rt; matches!(again.items(), [word] if word.as_str() == "x"));
     Ok(())
 }

@@ -99,7 +99,7 @@ impl Catalog {
         ensures done { OnOk result (self.new ≡ changed self.old (change.Table _asker schema)) }
         ensures err { OnErr result (self.new ≡ self.old) }
     {
-        let name = schema.name.copy(self.alloc)?;
+        let name = schema.name.share()?;
         self.tables.insert(name, schema)?;
         Ok(())
     }
@@ -135,7 +135,7 @@ impl Catalog {
         ensures done { OnOk result (self.new ≡ changed self.old (change.View view)) }
         ensures err { OnErr result (self.new ≡ self.old) }
     {
-        let name = view.name.copy(self.alloc)?;
+        let name = view.name.share()?;
         self.views.insert(name, view)?;
         Ok(())
     }

@@ -71,7 +71,7 @@ fn insert_of(alloc: Global, values: ValueRow) -> Result<Bound, OutOfMemory>
     Ok(Bound::Insert {
         table: TableId(0),
         rows: ValueRows::single(alloc, values)?,
-        given: Label::empty(alloc),
+        given: Label::empty(),
     })
 }
 
@@ -79,7 +79,7 @@ fn insert_of(alloc: Global, values: ValueRow) -> Result<Bound, OutOfMemory>
 fn written_by(alloc: Global, catalog: &Catalog, found: &Bound) -> Result<Written, Fault>
     requires { IsTrue (bound_fits catalog.now found.now) }
 {
-    let label = Label::empty(alloc);
+    let label = Label::empty();
     let writer = Writer {
         alloc,
         catalog,

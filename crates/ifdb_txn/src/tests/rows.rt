@@ -109,24 +109,25 @@ fn refs_of(alloc: Global, tags: &Tags, one: &One) -> Result<Refs, OutOfMemory>
 {
     let One(which, id, number, _, parent) = one;
     match which {
-        Which::Note => Ok(Refs::new(alloc)),
-        Which::Visit => note_refs(alloc, tags, *number, *parent),
+        Which::Note => Ok(Refs::new()),
+        Which::Visit => Refs::from_vec(alloc, note_refs(alloc, tags, *number, *parent)?),
         Which::Pair => {
             let mut refs = note_refs(alloc, tags, *number, *parent)?;
             refs.push(slot_of(alloc, tags, Which::Visit, *id, *parent)?)?;
-            Ok(refs)
+            Refs::from_vec(alloc, refs)
         }
     }
 }
 
 /// A note, if there is its id.
-fn note_refs(alloc: Global, tags: &Tags, id: Option<i64>, at: At) -> Result<Refs, OutOfMemory>
+fn note_refs(alloc: Global, tags: &Tags, id: Option<i64>, at: At) -> Result<Vec<Slot>, OutOfMemory>
     requires { length tags.now ≡ 1 }
 {
-    match id {
-        Some(id) => Refs::single(alloc, slot_of(alloc, tags, Which::Note, id, at)?),
-        None => Ok(Refs::new(alloc)),
+    let mut refs = Vec::new(alloc);
+    if let Some(id) = id {
+        refs.push(slot_of(alloc, tags, Which::Note, id, at)?)?;
     }
+    Ok(refs)
 }
 
 /// A slot.

@@ -142,7 +142,7 @@ fn row_of(alloc: Global, tags: &Tags, one: &One) -> Result<Shared<Row>, OutOfMem
     let row = Row {
         slot: slot_of(alloc, tags, one)?,
         values: values_of(alloc, one)?,
-        refs: Refs::new(alloc),
+        refs: Refs::new(),
     };
     Shared::new(alloc, row)
 }

@@ -124,7 +124,10 @@ fn table_of(key: i64) -> TableId {
 fn child(alloc: Global, table: TableId, key: i64, parent: i64) -> Result<Write, OutOfMemory>
     ensures { IfOk result (λ write. IsTrue (is_fitting write.slot write.row)) }
 {
-    let refs = Refs::single(alloc, slot_in(alloc, TableId(0), parent)?)?;
+    let refs = Refs::from_vec(
+        alloc,
+        Vec::from_array(alloc, [slot_in(alloc, TableId(0), parent)?])?,
+    )?;
     let row = Row {
         slot: slot_in(alloc, table, key)?,
         values: Values::new(alloc),

@@ -1,6 +1,6 @@
 //! What contents hold.
 use super::writes::slot_of;
-use ifdb_row::{ListRows, OutOfMemory, Row, Rows, Slot};
+use ifdb_row::{ListRows, OutOfMemory, Row, RowRef, Rows, Slot, SlotRef};
 use ifdb_store::Content;
 use ifdb_value::{Shared, TableId, Value};
 use std::alloc::Global;
@@ -20,16 +20,16 @@ pub(crate) fn walk<R: Rows>(content: &R) -> Found {
         runs: 0,
         sum: 0,
     };
-    let mut after: Option<&Slot> = None;
+    let mut after: Option<SlotRef<'_>> = None;
     for _ in 0..u32::MAX {
         let run = content.run(TableId(0), after);
-        for row in run {
+        for place in 0..run.len() {
             found.rows = found.rows.saturating_add(1);
-            found.sum = found.sum.saturating_add(value_of(row.get()));
+            found.sum = found.sum.saturating_add(value_of(run.row(place)));
         }
         match run.last() {
             None => break,
-            Some(last) => after = Some(&last.get().slot),
+            Some(last) => after = Some(last.slot),
         }
         found.runs = found.runs.saturating_add(1);
     }
@@ -44,15 +44,15 @@ pub(crate) fn value_at<R: Rows>(content: &R, alloc: Global, key: i64) -> Result<
 
 /// The value of the row in a slot; 0 where there is none.
 fn value_in<R: Rows>(content: &R, slot: &Slot) -> i64 {
-    match content.get(slot) {
+    match content.get(slot.by_ref()) {
         Some(row) => value_of(row),
         None => 0,
     }
 }
 
 /// The value of a row.
-fn value_of(row: &Row) -> i64 {
-    match row.values.items() {
+fn value_of(row: RowRef<'_>) -> i64 {
+    match row.values {
         [_, Value::Int(value)] => *value,
         _ => 0,
     }
@@ -61,11 +61,11 @@ fn value_of(row: &Row) -> i64 {
 /// How many rows are bound to a slot, each found behind the one before.
 pub(crate) fn children_of<R: Rows>(content: &R, slot: &Slot) -> usize {
     let mut found = 0usize;
-    let mut after: Option<&Slot> = None;
+    let mut after: Option<SlotRef<'_>> = None;
     for _ in 0..u32::MAX {
-        match content.bound_to(slot, after) {
+        match content.bound_to(slot.by_ref(), after) {
             None => break,
-            Some(row) => after = Some(&row.slot),
+            Some(row) => after = Some(row.slot),
         }
         found = found.saturating_add(1);
     }
@@ -88,13 +88,13 @@ fn add_rows(
     table: TableId,
     rows: &mut Vec<Shared<Row>>,
 ) -> Result<(), OutOfMemory> {
-    let mut after: Option<&Slot> = None;
+    let mut after: Option<SlotRef<'_>> = None;
     for _ in 0..u32::MAX {
         match content.next(table, after) {
             None => break,
             Some(row) => {
-                rows.push(Shared::new(alloc, row.copy(alloc)?)?)?;
-                after = Some(&row.slot);
+                rows.push(Shared::new(alloc, row.to_row(alloc)?)?)?;
+                after = Some(row.slot);
             }
         }
     }

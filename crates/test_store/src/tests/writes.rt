@@ -52,7 +52,7 @@ pub(crate) fn write_of(alloc: Global, key: i64, value: i64) -> Result<Write, Out
     let row = Row {
         slot,
         values: values_of(alloc, key, value)?,
-        refs: Refs::new(alloc),
+        refs: Refs::new(),
     };
     Write::of_row(alloc, row)
 }
@@ -74,6 +74,6 @@ pub(crate) fn slot_in(alloc: Global, table: TableId, key: i64) -> Result<Slot, O
     Ok(Slot {
         table,
         key: Key::single(alloc, Value::Int(key))?,
-        label: Label::empty(alloc),
+        label: Label::empty(),
     })
 }

@@ -30,4 +30,4 @@ returns-in-Equal c =
     let a : option_copied c.front.result ≡ slice_get own 0 = front_found own _ c.front.result (search rules) c.front.ensures.variant c.front.ensures.lookup in
     let b : option_copied c.front-2.result ≡ slice_get later 0 = front_found later _ c.front-2.result (search rules) c.front-2.ensures.variant c.front-2.ensures.lookup in
     let e : fronts_cmp (slice_get own 0) (slice_get later 0) ≡ order.Equal = fronts_given _ _ _ _ _ _ a b c.compare_fronts.ensures c.in-Equal.is in
-    equal_taken own later _ _ _ e c.pop_front-in-Equal.ensures.rest c.pop_front-in-Equal-2.ensures.items c.pop_front-in-Equal-2.ensures.rest c.requires.rising c.requires.later_rising
+    equal_taken own later _ _ _ e c.pop_front-in-Equal.ensures.rest c.pop_front-in-Equal-4.ensures.items c.pop_front-in-Equal-4.ensures.rest c.requires.rising c.requires.later_rising

@@ -4,6 +4,7 @@ use Rattle.ifdb_row.specs.declared.row.Row.{Row}
 use Rattle.ifdb_row.specs.Edges.{lies_before}
 use Rattle.ifdb_row.specs.Questions.{IsRun, rows_from}
 use Rattle.ifdb_row.specs.Reach.{skip}
+use Rattle.ifdb_row.specs.Runs.{rows_in}
 use Rattle.ifdb_row.proofs.Edges.{edge_falls}
 use Rattle.ifdb_store.proofs.FindLemmas.{skipped_at, run_more, same_run, empty_run, some_run}
 use Rattle.ifdb_store.proofs.Costs.{pow_join}
@@ -15,11 +16,11 @@ returns-then-is_empty-clause-run g c =
     let y = c.index-parts-at.result in
     let some = c.requires.some in
     let all = skipped_at p (edge_falls c.args.edge.now) g.P.Placed.rows g.P.Placed.place g.P.Part.is_part g.met.P.Part.begins c.args.parts.now c.part_at-at.result y some c.part_at-at.ensures.place c.index-parts-at.is c.requires.parts c.requires.in_order in
-    let found : IsRun c.run_from-run.result.now (skip (λ (r : Row). p r.slot) (g.P.Placed.rows c.get.result.now)) = c.run_from-run.ensures.run in
-    let no : c.run_from-run.result.now ≡ [] = empty_run c.run_from-run.result.now (search rules) in
+    let found : IsRun (rows_in c.run_from-run.result) (skip (λ (r : Row). p r.slot) (g.P.Placed.rows c.get.result.now)) = c.run_from-run.ensures.run in
+    let no : (rows_in c.run_from-run.result) ≡ [] = empty_run (rows_in c.run_from-run.result) (search rules) in
     let none : skip (λ (r : Row). p r.slot) (g.P.Placed.rows y) ≡ [] = ap (λ x. skip (λ (r : Row). p r.slot) (g.P.Placed.rows x)) (sym c.get.ensures) ∙ found.some no in
     let rest = flat_map g.P.Placed.rows (drop (c.part_at-at.result + 1) c.args.parts.now) in
-    same_run c.run_at.result.now rest (rows_from c.args.edge.now (flat_map g.P.Placed.rows c.args.parts.now)) (sym (all ∙ ap (λ xs. xs ++ rest) none)) c.run_at.ensures
+    same_run (rows_in c.run_at.result) rest (rows_from c.args.edge.now (flat_map g.P.Placed.rows c.args.parts.now)) (sym (all ∙ ap (λ xs. xs ++ rest) none)) c.run_at.ensures
 
 pub returns-clause-run : goal.returns-clause-run
 returns-clause-run g c =
@@ -27,11 +28,11 @@ returns-clause-run g c =
     let y = c.index-parts-at.result in
     let some = c.requires.some in
     let all = skipped_at p (edge_falls c.args.edge.now) g.P.Placed.rows g.P.Placed.place g.P.Part.is_part g.met.P.Part.begins c.args.parts.now c.part_at-at.result y some c.part_at-at.ensures.place c.index-parts-at.is c.requires.parts c.requires.in_order in
-    let found : IsRun c.run_from-run.result.now (skip (λ (r : Row). p r.slot) (g.P.Placed.rows c.get.result.now)) = c.run_from-run.ensures.run in
-    let here : IsRun c.run_from-run.result.now (skip (λ (r : Row). p r.slot) (g.P.Placed.rows y)) = same_run c.run_from-run.result.now _ _ (ap (λ x. skip (λ (r : Row). p r.slot) (g.P.Placed.rows x)) c.get.ensures) found in
-    let is = some_run c.run_from-run.result.now (search rules) in
+    let found : IsRun (rows_in c.run_from-run.result) (skip (λ (r : Row). p r.slot) (g.P.Placed.rows c.get.result.now)) = c.run_from-run.ensures.run in
+    let here : IsRun (rows_in c.run_from-run.result) (skip (λ (r : Row). p r.slot) (g.P.Placed.rows y)) = same_run (rows_in c.run_from-run.result) _ _ (ap (λ x. skip (λ (r : Row). p r.slot) (g.P.Placed.rows x)) c.get.ensures) found in
+    let is = some_run (rows_in c.run_from-run.result) (search rules) in
     let rest = flat_map g.P.Placed.rows (drop (c.part_at-at.result + 1) c.args.parts.now) in
-    same_run c.run_from-run.result.now _ (rows_from c.args.edge.now (flat_map g.P.Placed.rows c.args.parts.now)) (sym all) (run_more c.run_from-run.result.now (skip (λ (r : Row). p r.slot) (g.P.Placed.rows y)) rest here is)
+    same_run (rows_in c.run_from-run.result) _ (rows_from c.args.edge.now (flat_map g.P.Placed.rows c.args.parts.now)) (sym all) (run_more (rows_in c.run_from-run.result) (skip (λ (r : Row). p r.slot) (g.P.Placed.rows y)) rest here is)
 
 pub returns-then-is_empty-clause-cost : goal.returns-then-is_empty-clause-cost
 returns-then-is_empty-clause-cost g c = record {

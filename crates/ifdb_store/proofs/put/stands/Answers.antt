@@ -1,17 +1,27 @@
-use Rattle.std.proofs.Common.{◌∙◌, ◌≤◌, ◌<◌, length, ap, sym, arith, rules}
+use Rattle.std.proofs.Common.{◌≡◌, ◌∙◌, ◌≤◌, ◌<◌, ap, arith, get_or, length, map, sym}
+use Rattle.std.proofs.Math.ListN.{get_or-map}
+use Rattle.std.proofs.lemmas.List.{length-map}
 use Rattle.ifdb_row.specs.declared.row.Row.{Row}
-use Rattle.ifdb_row.specs.Slots.{is_same_slot}
+use Rattle.ifdb_row.specs.ByReference.{row_of, slot_of}
 use Rattle.ifdb_row.proofs.Sorted.{taken_is, all_under, rising_sorted}
 use Rattle.ifdb_store.proofs.put.stands.Goals as goal
 
-pub returns-in-Some : goal.returns-in-Some
-returns-in-Some c =
-    let lt : c.args.at < length c.args.rows.now = search rules in
-    c.is_same.ensures ∙ (ap (λ (r : Row). is_same_slot c.args.slot.now r.slot) c.get-in-Some.ensures
-    ∙ taken_is (λ (r : Row). r.slot) c.args.slot.now c.args.rows.now c.args.at c.in-Some.row.now (sym (rising_sorted c.args.rows.now) ∙ c.requires.rising) c.requires.place lt (search rules))
+pub returns-then-at-rows : goal.returns-then-at-rows
+returns-then-at-rows c =
+    let rows = map row_of c.args.rows.now in
+    let s = slot_of c.args.slot in
+    let at = c.args.at in
+    let x = get_or c.args.rows.now at c.index-rows-at.result in
+    let many = length-map c.args.rows.now row_of in
+    let lt : at < length rows = omega arith in
+    let same : x ≡ c.index-rows-at.result = sym c.index-rows-at.is in
+    let is : row_of x ≡ get_or rows at (row_of x) = ap row_of (ap (λ y. get_or c.args.rows.now at y) (sym same)) ∙ sym (get_or-map row_of c.args.rows.now at x) in
+    c.is_same.ensures ∙ taken_is (λ (r : Row). r.slot) s rows at (row_of x) (sym (rising_sorted rows) ∙ c.requires.rising) c.requires.place lt is
 
-pub returns-in-None : goal.returns-in-None
-returns-in-None c =
-    let le : length c.args.rows.now ≤ c.args.at = search rules in
-    let t = all_under (λ (r : Row). r.slot) c.args.slot.now c.args.rows.now in
+pub returns-else-at-rows : goal.returns-else-at-rows
+returns-else-at-rows c =
+    let rows = map row_of c.args.rows.now in
+    let many = length-map c.args.rows.now row_of in
+    let le : length rows ≤ c.args.at = omega arith in
+    let t = all_under (λ (r : Row). r.slot) (slot_of c.args.slot) rows in
     grind (arith, t, c.requires.place)

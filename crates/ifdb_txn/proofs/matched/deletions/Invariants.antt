@@ -1,8 +1,8 @@
 use Rattle.std.proofs.Common.{◌≡◌, take}
 use Rattle.std.specs.Prelude.{map}
 use Rattle.ifdb_model.specs.Writes.{deletion}
-use Rattle.ifdb_txn.specs.Matches.{now_of}
+use Rattle.ifdb_row.specs.ByReference.{row_of}
 use Rattle.ifdb_txn.proofs.matched.deletions.Given as goal
 
 abbrev pub invariant-loop-row : goal.invariant-loop-row
-invariant-loop-row l = l.writes.items ≡ map deletion (map now_of (take l.row-index l.rows))
+invariant-loop-row l = l.writes.items ≡ map deletion (map row_of (take l.row-index l.rows))

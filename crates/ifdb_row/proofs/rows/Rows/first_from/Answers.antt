@@ -2,6 +2,7 @@ use Rattle.std.proofs.Common.{◌∙◌, sym}
 use Rattle.ifdb_row.specs.declared.row.Row.{Row}
 use Rattle.ifdb_row.specs.Edges.{lies_before}
 use Rattle.ifdb_row.specs.Questions.{rows_from}
+use Rattle.ifdb_row.specs.Runs.{rows_in}
 use Rattle.ifdb_row.proofs.Reaches.{find_skip}
 use Rattle.ifdb_row.proofs.Questions.{first_of_run}
 use Rattle.ifdb_row.proofs.rows.Rows.first_from.Goals as goal
@@ -9,4 +10,4 @@ use Rattle.ifdb_row.proofs.rows.Rows.first_from.Goals as goal
 pub returns-clause-row : goal.returns-clause-row
 returns-clause-row g c =
     let rows = g.Self.Rows.rows c.args.self.now in
-    c.first_of_run.ensures ∙ (sym (first_of_run c.run_from.result.now (rows_from c.args.edge.now rows) c.run_from.ensures.run) ∙ sym (find_skip (λ (r : Row). lies_before c.args.edge.now r.slot) rows))
+    c.first.ensures ∙ (sym (first_of_run (rows_in c.run_from.result) (rows_from c.args.edge.now rows) c.run_from.ensures.run) ∙ sym (find_skip (λ (r : Row). lies_before c.args.edge.now r.slot) rows))

@@ -6,6 +6,7 @@ use Rattle.ifdb_row.specs.Edges.{lies_before}
 use Rattle.ifdb_row.specs.Questions.{IsRun}
 use Rattle.ifdb_row.specs.Ranges.{is_below, is_within, rows_within}
 use Rattle.ifdb_row.specs.Reach.{skip}
+use Rattle.ifdb_row.specs.Runs.{rows_in}
 use Rattle.ifdb_row.proofs.Edges.{edge_falls}
 use Rattle.ifdb_row.proofs.Reaches.{leading_is}
 use Rattle.ifdb_row.proofs.Questions.{skip_parted, parted_run, run_of}
@@ -18,7 +19,7 @@ below-requires g c =
     let x = c.args.range.now in
     let rows = g.Self.Rows.rows c.args.self.now in
     let p = λ (r : Row). lies_before c.edge.result r.slot in
-    let run : IsRun c.run_from.result.now (skip p rows) = c.run_from.ensures.run in
+    let run : IsRun (rows_in c.run_from.result) (skip p rows) = c.run_from.ensures.run in
     parted_run (is_below t x) _ _ run
     (skip_parted p (is_below t x) (is_within t x None) (λ r. first_same t x p (λ s. c.edge.ensures s.slot) r) (λ r s. edge_falls c.edge.result r.slot s.slot) (λ r s h e u. first_down t x p (λ s. c.edge.ensures s.slot) r s h e u) rows c.run_from.ensures.rising)
 
@@ -28,6 +29,6 @@ returns-clause-run g c =
     let x = c.args.range.now in
     let rows = g.Self.Rows.rows c.args.self.now in
     let p = λ (r : Row). lies_before c.edge.result r.slot in
-    let run : IsRun c.run_from.result.now (skip p rows) = c.run_from.ensures.run in
-    let all = run_of p (is_below t x) (is_within t x None) (λ r. first_same t x p (λ s. c.edge.ensures s.slot) r) (λ r s. edge_falls c.edge.result r.slot s.slot) (λ r s h e u. first_down t x p (λ s. c.edge.ensures s.slot) r s h e u) c.run_from.result.now rows c.run_from.ensures.rising run in
-    subst (λ xs. IsRun xs (rows_within t x None rows)) (sym (leading_is (is_below t x) c.run_from.result.now) ∙ sym c.below.ensures) all
+    let run : IsRun (rows_in c.run_from.result) (skip p rows) = c.run_from.ensures.run in
+    let all = run_of p (is_below t x) (is_within t x None) (λ r. first_same t x p (λ s. c.edge.ensures s.slot) r) (λ r s. edge_falls c.edge.result r.slot s.slot) (λ r s h e u. first_down t x p (λ s. c.edge.ensures s.slot) r s h e u) (rows_in c.run_from.result) rows c.run_from.ensures.rising run in
+    subst (λ xs. IsRun xs (rows_within t x None rows)) (sym (leading_is (is_below t x) (rows_in c.run_from.result)) ∙ sym c.below.ensures) all

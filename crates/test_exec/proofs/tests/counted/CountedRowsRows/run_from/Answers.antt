@@ -1,7 +1,8 @@
 -- The first row of a run is a run.
-use Rattle.std.proofs.Common.{◌≡◌, ◌∙◌, ℕ, zero, suc, List, [], ◌∷◌, ◌++◌, length, take, drop, min, refl, sym, ap, arith, append_assoc, take-append-drop}
+use Rattle.std.proofs.Common.{◌≡◌, ◌∙◌, ℕ, zero, suc, List, [], ◌∷◌, ◌++◌, length, take, drop, min, refl, sym, subst, ap, arith, append_assoc, take-append-drop}
 use Rattle.ifdb_row.specs.declared.row.Row.{Row}
-use Rattle.ifdb_row.specs.Questions.{IsRun}
+use Rattle.ifdb_row.specs.Questions.{IsRun, rows_from}
+use Rattle.ifdb_row.specs.Runs.{rows_in}
 use Rattle.test_exec.proofs.tests.counted.CountedRowsRows.run_from.Goals as goal
 
 none_by : (n : ℕ) (run : List Row) → n ≡ min (length run) 1 → take n run ≡ [] → run ≡ []
@@ -17,4 +18,7 @@ cut_run n run rows e is = record {
 }
 
 pub returns-clause-run : goal.returns-clause-run
-returns-clause-run c = cut_run c.min.result c.run_from-run.result.now _ c.min.ensures c.run_from-run.ensures.run
+returns-clause-run c =
+    let run = rows_in c.run_from-run.result in
+    let n : c.min.result ≡ min (length run) 1 = c.min.ensures ∙ ap (λ l. min l 1) c.len.ensures in
+    subst (λ rows. IsRun rows (rows_from c.args.edge.now c.args.self.now.rows)) (sym c.front.ensures) (cut_run c.min.result run (rows_from c.args.edge.now c.args.self.now.rows) n c.run_from-run.ensures.run)

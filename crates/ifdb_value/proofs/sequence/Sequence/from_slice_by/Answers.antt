@@ -1,7 +1,7 @@
 use Rattle.std.proofs.Common.{◌≡◌, IfOk, refl, arith, subst}
 use Rattle.std.proofs.lemmas.Fn.{says_at}
 use Rattle.std.proofs.lemmas.Grind.{common_steps}
-use Rattle.ifdb_value.proofs.sequence.Sequence.copy_by.Goals as goal
+use Rattle.ifdb_value.proofs.sequence.Sequence.from_slice_by.Goals as goal
 
 pub loop-item-preserved : goal.loop-item-preserved
 loop-item-preserved g c =
