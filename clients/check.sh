@@ -1,6 +1,6 @@
 #!/usr/bin/env bash
 # Tests what runs outside the kit, over the built program: the client, the shell, the stored dialogues, the clinic, recorded
-# runs of the example scripts, journals in files, and ranges of keys beside passes.
+# runs of the example scripts, journals in files, ranges of keys beside passes, and transactions of many writes.
 #
 #   clients/check.sh      the variable IFDB names another program than crates/ifdb/out/ifdb
 #
@@ -30,5 +30,6 @@ python3 examples/clinic/check.py || status=$FAILED
 python3 examples/traces.py || status=$FAILED
 python3 examples/kept.py || status=$FAILED
 python3 examples/ranges.py || status=$FAILED
+python3 examples/many.py || status=$FAILED
 if ((status == 0)); then echo "clients/check.sh: all passed"; else echo "clients/check.sh: something failed" >&2; fi
 exit $status

@@ -152,13 +152,15 @@ fn first_written<'a>(writes: &Writes, items: &'a [Write]) -> Option<RowRef<'a>>
     requires fitting { IsTrue (are_fitting items.now) }
     ensures { option_row result ≡ first_written (is_left writes.now) items.now }
 {
-    match items {
-        [] => None,
-        [write, rest @ ..] => match left_row(writes, write) {
-            Some(row) => Some(row),
-            None => first_written(writes, rest),
-        },
+    // A loop, since a transaction may have more writes than a stack has room for calls.
+    let mut items = items;
+    while let [write, rest @ ..] = items {
+        if let Some(row) = left_row(writes, write) {
+            return Some(row);
+        }
+        items = rest;
     }
+    None
 }
 
 /// The write's row, if it is bound to a slot which the writes empty.

@@ -1,5 +1,0 @@
-use Rattle.std.proofs.Common.{length}
-use Rattle.ifdb_foreign.proofs.broken.+first_written.Given as goal
-
-abbrev pub decreases-first_written : goal.decreases-first_written
-decreases-first_written l = length l.items.now
