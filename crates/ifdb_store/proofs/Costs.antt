@@ -79,25 +79,44 @@ branch_square a t j k n h most le e = by (nat_lt t 91) refl where
       omega (arith, p, m, q, e)
 
 -- behind the first of a + 1 branches of 256 rows at least, and in one whose rows and 1 are t
-pub tree_square : (a t j k n : ℕ) → 3 * j ≤ 10 * (t * t) → j ≤ 512001 → 256 * a + t ≤ n → k ≤ (2 * a + 1) * j → k ≤ 4 * (n * n)
-tree_square a t j k n h most le e = by (nat_lt t 392) refl where
-  by : (b : Bool) → nat_lt t 392 ≡ b → k ≤ 4 * (n * n)
+pub limb_square : (a t j k n : ℕ) → 3 * j ≤ 10 * (t * t) → j ≤ 512001 → 256 * a + t ≤ n → k ≤ (2 * a + 1) * j → 5 * k ≤ 19 * (n * n)
+limb_square a t j k n h most le e = by (nat_lt t 388) refl where
+  by : (b : Bool) → nat_lt t 388 ≡ b → 5 * k ≤ 19 * (n * n)
   by true c =
-      let few : t ≤ 391 = grind (arith, nat_tests) in
-      let h1 : t * t ≤ 391 * t = mul-le-mul_right t few in
-      let h2 : a * (t * t) ≤ a * (391 * t) = mul-le-mul_left a h1 in
-      let h3 : a * t ≤ a * 391 = mul-le-mul_left a few in
+      let few : t ≤ 387 = grind (arith, nat_tests) in
+      let h1 : t * t ≤ 387 * t = mul-le-mul_right t few in
+      let h2 : a * (t * t) ≤ a * (387 * t) = mul-le-mul_left a h1 in
+      let h3 : a * t ≤ a * 387 = mul-le-mul_left a few in
       let p : (2 * a + 1) * (3 * j) ≤ (2 * a + 1) * (10 * (t * t)) = mul-le-mul_left (2 * a + 1) h in
       let m : (256 * a + t) * (256 * a + t) ≤ n * n = mul-le-mul le le in
       let q = self_square a in
       omega (arith, h2, h3, p, m, q, e)
   by false c =
-      let many : 392 ≤ t = grind (arith, nat_tests) in
-      let least : 256 * a + 392 ≤ n = omega (arith, many, le) in
+      let many : 388 ≤ t = grind (arith, nat_tests) in
+      let least : 256 * a + 388 ≤ n = omega (arith, many, le) in
       let p : (2 * a + 1) * j ≤ (2 * a + 1) * 512001 = mul-le-mul_left (2 * a + 1) most in
-      let m : (256 * a + 392) * (256 * a + 392) ≤ n * n = mul-le-mul least least in
+      let m : (256 * a + 388) * (256 * a + 388) ≤ n * n = mul-le-mul least least in
       let q = self_square a in
-      omega (arith, p, m, q, e)
+      let r = squares a 1 in
+      omega (arith, p, m, q, r, e)
+
+-- behind the first of a + 1 limbs of 4096 rows at least, and in one whose rows and 1 are t
+pub tree_square : (a t j k n : ℕ) → 5 * j ≤ 19 * (t * t) → j ≤ 32256063 → 4096 * a + t ≤ n → k ≤ (2 * a + 1) * j → k ≤ 4 * (n * n)
+tree_square a t j k n h most le e = by (nat_lt t 3000) refl where
+  by : (b : Bool) → nat_lt t 3000 ≡ b → k ≤ 4 * (n * n)
+  by true c =
+      let few : t ≤ 2999 = grind (arith, nat_tests) in
+      let h1 : t * t ≤ 2999 * t = mul-le-mul_right t few in
+      let h2 : a * (t * t) ≤ a * (2999 * t) = mul-le-mul_left a h1 in
+      let p : (2 * a + 1) * (5 * j) ≤ (2 * a + 1) * (19 * (t * t)) = mul-le-mul_left (2 * a + 1) h in
+      let m : (4096 * a + t) * (4096 * a + t) ≤ n * n = mul-le-mul le le in
+      omega (arith, h2, p, m, e)
+  by false c =
+      let many : 3000 ≤ t = grind (arith, nat_tests) in
+      let least : 4096 * a + 3000 ≤ n = omega (arith, many, le) in
+      let p : (2 * a + 1) * j ≤ (2 * a + 1) * 32256063 = mul-le-mul_left (2 * a + 1) most in
+      let m : (4096 * a + 3000) * (4096 * a + 3000) ≤ n * n = mul-le-mul least least in
+      omega (arith, p, m, e)
 
 pub square_is : (x : ℕ) → x ^ 2 ≡ x * x
 square_is x =

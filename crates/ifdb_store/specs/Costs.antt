@@ -1,7 +1,7 @@
 -- What searches cost. A search that made s comparisons is said to cost 2 ^ s.
 use Rattle.std.specs.Prelude.{◌≡◌, ℕ, List, ◌+◌, ◌-◌, ◌*◌, ◌<◌, ◌≤◌, length, get_or}
 use Rattle.ifdb_row.specs.declared.row.Row.{Row}
-use Rattle.ifdb_store.specs.Pages.{branch_rows, flat}
+use Rattle.ifdb_store.specs.Pages.{branch_rows, flat, limb_rows}
 
 -- a search in a page costs no more than this
 abbrev pub PageBounds : List Row → ℕ → Type 0
@@ -26,3 +26,8 @@ pub record TwigBounds (pages : List (List Row)) (cost : ℕ) : Type 0 where
 pub record BranchBounds (twigs : List (List (List Row))) (cost : ℕ) : Type 0 where
   pub square : 3 * cost ≤ 10 * ((length (branch_rows twigs) + 1) * (length (branch_rows twigs) + 1))
   pub most : cost ≤ 512001
+
+-- and one in a limb no more than three times and four fifths of it
+pub record LimbBounds (branches : List (List (List (List Row)))) (cost : ℕ) : Type 0 where
+  pub square : 5 * cost ≤ 19 * ((length (limb_rows branches) + 1) * (length (limb_rows branches) + 1))
+  pub most : cost ≤ 32256063

@@ -72,12 +72,19 @@ branch_rows twigs = flat_map flat twigs
 abbrev pub is_branch : List (List (List Row)) → Bool
 is_branch twigs = is_node flat is_twig is_full_node twigs
 
--- and branches in a tree
-abbrev pub rows_of : List (List (List (List Row))) → List Row
-rows_of branches = flat_map branch_rows branches
+-- branches in limbs
+abbrev pub limb_rows : List (List (List (List Row))) → List Row
+limb_rows branches = flat_map branch_rows branches
 
-abbrev pub is_tree : List (List (List (List Row))) → Bool
-is_tree branches = are_parts branch_rows is_branch is_full_node branches
+abbrev pub is_limb : List (List (List (List Row))) → Bool
+is_limb branches = is_node branch_rows is_branch is_full_node branches
+
+-- and limbs in a tree
+abbrev pub rows_of : List (List (List (List (List Row)))) → List Row
+rows_of limbs = flat_map limb_rows limbs
+
+abbrev pub is_tree : List (List (List (List (List Row)))) → Bool
+is_tree limbs = are_parts limb_rows is_limb is_full_node limbs
 
 -- the slot of the first row
 abbrev pub front : List Row → Slot
@@ -105,6 +112,9 @@ twig_begins pages h = node_begins (λ page. page) front is_page is_full_page pag
 
 pub branch_begins : (twigs : List (List (List Row))) → is_branch twigs ≡ true → Begins (branch_rows twigs) (front (branch_rows twigs))
 branch_begins twigs h = node_begins flat (λ pages. front (flat pages)) is_twig is_full_node twig_begins twigs h
+
+pub limb_begins : (branches : List (List (List (List Row)))) → is_limb branches ≡ true → Begins (limb_rows branches) (front (limb_rows branches))
+limb_begins branches h = node_begins branch_rows (λ twigs. front (branch_rows twigs)) is_branch is_full_node branch_begins branches h
 
 -- the first n writes are those of the part at a place, and the others those of the parts behind it
 abbrev pub Divides : {X : Type 0} → (X → List Row) → List X → ℕ → List Write → ℕ → Type 0

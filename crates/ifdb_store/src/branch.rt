@@ -2,7 +2,7 @@
 ghost use Rattle.std.specs.Prelude.{◌≡◌, ◌++◌, IfOk, IsTrue, OnOk};
 ghost use Rattle.std.specs.List.{list_all};
 ghost use Rattle.ifdb_row.specs.Content.{rising};
-ghost use Rattle.ifdb_store.specs.Pages.{are_full, rows_of, branch_rows, in_nodes, is_full_node, is_twig, is_branch};
+ghost use Rattle.ifdb_store.specs.Pages.{are_full, branch_rows, in_nodes, is_branch, is_full_node, is_twig, limb_rows};
 
 use crate::entry::Entry;
 use crate::node::{Node, add_parts, nodes_of};
@@ -87,8 +87,8 @@ impl Part for Branch {
 impl Regroup for Branch {
     fn regroup(alloc: Global, parts: &mut Vec<Entry<Branch>>) -> Result<(), OutOfMemory>
         requires parts { IsTrue (list_all is_branch parts.old.items) }
-        requires rising { IsTrue (rising (rows_of parts.old.items)) }
-        ensures rows { OnOk result (rows_of parts.new.items ≡ rows_of parts.old.items) }
+        requires rising { IsTrue (rising (limb_rows parts.old.items)) }
+        ensures rows { OnOk result (limb_rows parts.new.items ≡ limb_rows parts.old.items) }
         ensures parts { OnOk result (IsTrue (list_all is_branch parts.new.items)) }
         ensures full { OnOk result (IsTrue (are_full is_full_node parts.new.items)) }
     {
@@ -106,7 +106,7 @@ pub(crate) fn branches_of(
 ) -> Result<Vec<Entry<Branch>>, OutOfMemory>
     requires good { IsTrue (list_all is_twig twigs.items) }
     requires rising { IsTrue (rising (branch_rows twigs.items)) }
-    ensures rows { IfOk result (λ branches. rows_of branches.items ≡ branch_rows twigs.items) }
+    ensures rows { IfOk result (λ branches. limb_rows branches.items ≡ branch_rows twigs.items) }
     ensures good { IfOk result (λ branches. IsTrue (list_all is_branch branches.items)) }
     ensures full { IfOk result (λ branches. IsTrue (are_full is_full_node branches.items)) }
 {
@@ -133,7 +133,7 @@ fn add_branches(
 /// The twigs of branches, shared.
 fn twigs_of(alloc: Global, branches: &[Entry<Branch>]) -> Result<Vec<Entry<Twig>>, OutOfMemory>
     requires { IsTrue (list_all is_branch branches.now) }
-    ensures rows { IfOk result (λ twigs. branch_rows twigs.items ≡ rows_of branches.now) }
+    ensures rows { IfOk result (λ twigs. branch_rows twigs.items ≡ limb_rows branches.now) }
     ensures good { IfOk result (λ twigs. IsTrue (list_all is_twig twigs.items)) }
 {
     let mut twigs = Vec::new(alloc);

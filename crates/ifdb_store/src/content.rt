@@ -91,7 +91,7 @@ impl Content {
         ensures { IsTrue (rising self.now) }
     {
         let rows = self.rows();
-        if self.links().branches().is_empty() {
+        if self.links().limbs().is_empty() {
             None
         } else {
             Some(rows)
@@ -122,8 +122,8 @@ impl Content {
         ensures rising { IsTrue (rising self.now) }
     {
         let rows = &self.body.get().rows;
-        // Its branches also say that the rows rise.
-        let _ = rows.branches();
+        // Its limbs also say that the rows rise.
+        let _ = rows.limbs();
         rows
     }
 
@@ -133,7 +133,7 @@ impl Content {
         ensures rising { IsTrue (rising result.now) }
     {
         let links = &self.body.get().links;
-        let _ = links.branches();
+        let _ = links.limbs();
         links
     }
 }

@@ -7,6 +7,7 @@ mod entry;
 mod even;
 mod join;
 mod laws;
+mod limb;
 mod links;
 mod mark;
 mod node;

@@ -6,10 +6,11 @@ ghost use Rattle.ifdb_row.specs.Content.{after, rising};
 ghost use Rattle.ifdb_row.specs.Writes.{are_fitting, are_rising};
 ghost use Rattle.ifdb_row.specs.Questions.{IsRun, first_row_from, rows_from};
 ghost use Rattle.ifdb_row.specs.Runs.{rows_in};
-ghost use Rattle.ifdb_store.specs.Pages.{are_full, is_branch, is_full_node, rows_of};
+ghost use Rattle.ifdb_store.specs.Pages.{are_full, is_full_node, is_limb, rows_of};
 
-use crate::branch::{Branch, branches_of};
+use crate::branch::branches_of;
 use crate::entry::Entry;
+use crate::limb::{Limb, limbs_of};
 use crate::page::cut;
 use crate::part::{Part, Regroup, bound_to, parts_after, run_from};
 use crate::put::rows_after;
@@ -21,11 +22,12 @@ use std::alloc::Global;
 use std::marker::{Brand, Model};
 use std::sync::ledger::{Blank, Ledger};
 
-/// Rows in the order of their slots, each slot once, in pages, pages in twigs, twigs in branches. It never changes: a later
-/// version is a tree of its own, which shares what it has in common with this one. Contracts see the list of the rows.
+/// Rows in the order of their slots, each slot once, in pages, pages in twigs, twigs in branches, branches in limbs. It never
+/// changes: a later version is a tree of its own, which shares what it has in common with this one. Contracts see the list of
+/// the rows.
 #[derive(Drop)]
 pub(crate) struct Tree {
-    branches: Shared<Sequence<Entry<Branch>>>,
+    limbs: Shared<Sequence<Entry<Limb>>>,
 }
 
 impl Model for Tree {
@@ -35,9 +37,9 @@ impl Model for Tree {
 
     ghost Value = { List Row };
 
-    ghost view = { λ c. rows_of c.branches };
+    ghost view = { λ c. rows_of c.limbs };
 
-    ghost invariant = { λ c. IsTrue (is_tree c.branches) };
+    ghost invariant = { λ c. IsTrue (is_tree c.limbs) };
 }
 
 impl Tree {
@@ -46,7 +48,7 @@ impl Tree {
         ensures { IfOk result (λ c. c ≡ []) }
     {
         Ok(Tree {
-            branches: Shared::new(alloc, Sequence::new(alloc))?,
+            limbs: Shared::new(alloc, Sequence::new(alloc))?,
         })
     }
 
@@ -55,7 +57,7 @@ impl Tree {
         ensures { IfOk result (λ c. c ≡ self.now) }
     {
         Ok(Tree {
-            branches: self.branches.share()?,
+            limbs: self.limbs.share()?,
         })
     }
 
@@ -63,9 +65,9 @@ impl Tree {
     pub(crate) fn after(&self, alloc: Global, writes: &Writes) -> Result<Tree, OutOfMemory>
         ensures { IfOk result (λ c. c ≡ after self.now writes.now) }
     {
-        let branches = branches_after(alloc, self.branches.get().items(), writes.items())?;
+        let limbs = limbs_after(alloc, self.limbs.get().items(), writes.items())?;
         Ok(Tree {
-            branches: Shared::new(alloc, Sequence::from_vec(branches))?,
+            limbs: Shared::new(alloc, Sequence::from_vec(limbs))?,
         })
     }
 
@@ -74,10 +76,10 @@ impl Tree {
         ensures some { IfSome result (λ n. n ≡ length self.now) }
         ensures none { result ≡ None → 2 ^ 64 ≤ length self.now }
     {
-        let branches = self.branches();
+        let limbs = self.limbs();
         let mut count = 0;
-        for branch in branches {
-            count = branch.get().count_on(count)?;
+        for limb in limbs {
+            count = limb.get().count_on(count)?;
         }
         Some(count)
     }
@@ -103,11 +105,11 @@ impl Tree {
         ensures more { steps.old ≤ steps.new }
         ensures cost { 2 ^ (steps.new - steps.old) ≤ 4 * (length self.now + 1) ^ 2 }
     {
-        let branches = self.branches();
-        if branches.is_empty() {
+        let limbs = self.limbs();
+        if limbs.is_empty() {
             return Run::Loose(&[]);
         }
-        run_from(branches, edge, steps)
+        run_from(limbs, edge, steps)
     }
 
     /// The same, with steps that nobody reads.
@@ -122,14 +124,14 @@ impl Tree {
         self.seek_run(edge, &mut steps)
     }
 
-    /// The branches.
-    pub(crate) fn branches(&self) -> &[Entry<Branch>]
+    /// The limbs.
+    pub(crate) fn limbs(&self) -> &[Entry<Limb>]
         ensures rows { rows_of result.now ≡ self.now }
-        ensures good { IsTrue (list_all is_branch result.now) }
+        ensures good { IsTrue (list_all is_limb result.now) }
         ensures full { IsTrue (are_full is_full_node result.now) }
         ensures rising { IsTrue (rising self.now) }
     {
-        self.branches.get().items()
+        self.limbs.get().items()
     }
 }
 
@@ -141,46 +143,46 @@ impl Rows for Tree {
     }
 
     fn bound_to<'a>(&'a self, slot: SlotRef<'_>, after: Option<SlotRef<'a>>) -> Option<RowRef<'a>> {
-        bound_to(self.branches(), slot, after)
+        bound_to(self.limbs(), slot, after)
     }
 }
 
-/// The branches that hold the rows of some branches after writes.
+/// The limbs that hold the rows of some limbs after writes.
 #[tactic(auto, using(ifdb_row::proofs::ContentLaws::rising_after))]
-fn branches_after(
+fn limbs_after(
     alloc: Global,
-    branches: &[Entry<Branch>],
+    limbs: &[Entry<Limb>],
     writes: &[Write],
-) -> Result<Vec<Entry<Branch>>, OutOfMemory>
-    requires good { IsTrue (list_all is_branch branches.now) }
-    requires in_order { IsTrue (rising (rows_of branches.now)) }
+) -> Result<Vec<Entry<Limb>>, OutOfMemory>
+    requires good { IsTrue (list_all is_limb limbs.now) }
+    requires in_order { IsTrue (rising (rows_of limbs.now)) }
     requires fitting { IsTrue (are_fitting writes.now) }
     requires rising { IsTrue (are_rising writes.now) }
-    ensures rows { IfOk result (λ all. rows_of all.items ≡ after (rows_of branches.now) writes.now) }
-    ensures good { IfOk result (λ all. IsTrue (list_all is_branch all.items)) }
+    ensures rows { IfOk result (λ all. rows_of all.items ≡ after (rows_of limbs.now) writes.now) }
+    ensures good { IfOk result (λ all. IsTrue (list_all is_limb all.items)) }
     ensures full { IfOk result (λ all. IsTrue (are_full is_full_node all.items)) }
     ensures rising { IfOk result (λ all. IsTrue (rising (rows_of all.items))) }
 {
-    if branches.is_empty() {
-        return first_branches(alloc, writes);
+    if limbs.is_empty() {
+        return first_limbs(alloc, writes);
     }
-    let mut all = Vec::with_capacity(alloc, branches.len() + 1)?;
-    parts_after(alloc, branches, writes, &mut all)?;
-    Branch::regroup(alloc, &mut all)?;
+    let mut all = Vec::with_capacity(alloc, limbs.len() + 1)?;
+    parts_after(alloc, limbs, writes, &mut all)?;
+    Limb::regroup(alloc, &mut all)?;
     Ok(all)
 }
 
-/// The branches of what is written where no row stands.
-fn first_branches(alloc: Global, writes: &[Write]) -> Result<Vec<Entry<Branch>>, OutOfMemory>
+/// The limbs of what is written where no row stands.
+fn first_limbs(alloc: Global, writes: &[Write]) -> Result<Vec<Entry<Limb>>, OutOfMemory>
     requires fitting { IsTrue (are_fitting writes.now) }
     requires rising { IsTrue (are_rising writes.now) }
     ensures rows { IfOk result (λ all. rows_of all.items ≡ after [] writes.now) }
-    ensures good { IfOk result (λ all. IsTrue (list_all is_branch all.items)) }
+    ensures good { IfOk result (λ all. IsTrue (list_all is_limb all.items)) }
     ensures full { IfOk result (λ all. IsTrue (are_full is_full_node all.items)) }
     ensures rising { IfOk result (λ all. IsTrue (rising (rows_of all.items))) }
 {
     let rows = rows_after(alloc, Run::Loose(&[]), writes)?;
     let mut pages = Vec::new(alloc);
     cut(alloc, &rows, &mut pages)?;
-    branches_of(alloc, twigs_of(alloc, pages)?)
+    limbs_of(alloc, branches_of(alloc, twigs_of(alloc, pages)?)?)
 }
