@@ -4,21 +4,56 @@ ghost use Rattle.std.specs.List.{list_all, list_any};
 ghost use Rattle.ifdb_value.specs.declared.value.Value.TheVariants as value;
 ghost use Rattle.ifdb_bound.specs.Query.{values_of};
 ghost use Rattle.ifdb_bound.specs.Truth.{comes_to};
+ghost use Rattle.ifdb_bound.specs.Expressions.{column_value};
 ghost use Rattle.ifdb_bound.specs.Conditions.{truth, holds, compares, compared, null_test, operand_value};
 ghost use Rattle.ifdb_expr.specs.ByReference.{owned};
 
 use crate::frame::Frame;
 use crate::value_ref::ValueRef;
-use ifdb_bound::{BoundCond, BoundOperand};
-use ifdb_value::Compare;
+use ifdb_bound::{BoundColumn, BoundCond, BoundOperand};
+use ifdb_value::{Compare, Value};
 use std::cmp::Ordering;
 
-/// Whether a condition is True of the rows. Takes no memory.
-#[tactic(auto, using(crate::proofs::Deciding::holds_is))]
+/// Whether a condition is True of the rows. Takes no memory. A column beside a literal, which most conditions of a pass are, is
+/// compared without the walk over a tree that other conditions take.
+#[tactic(auto, using(crate::proofs::Deciding::holds_is, crate::proofs::Deciding::compare_holds))]
 pub fn holds(cond: &BoundCond, frame: &Frame<'_>) -> bool
     ensures { result ≡ holds (values_of frame.now) cond.now }
 {
-    comes_to(cond, true, frame)
+    match cond {
+        BoundCond::Compare { left, how, right } => operands_compare(left, *how, right, frame),
+        _ => comes_to(cond, true, frame),
+    }
+}
+
+/// Whether two operands compare so; NULL compares with nothing.
+fn operands_compare(
+    left: &BoundOperand,
+    how: Compare,
+    right: &BoundOperand,
+    frame: &Frame<'_>,
+) -> bool
+    ensures { result ≡ comes_to true (compared how (operand_value (values_of frame.now) left.now)
+        (operand_value (values_of frame.now) right.now)) }
+{
+    match (left, right) {
+        (BoundOperand::Column(column), BoundOperand::Literal(value)) => {
+            column_compares(*column, how, value, frame)
+        }
+        _ => compare_comes_to(left, how, right, true, frame),
+    }
+}
+
+/// Whether the value of a column and another one compare so; NULL compares with nothing.
+fn column_compares(column: BoundColumn, how: Compare, value: &Value, frame: &Frame<'_>) -> bool
+    ensures { result
+        ≡ comes_to true (compared how (column_value (values_of frame.now) column) value.now) }
+{
+    match (frame.column(column), value) {
+        (ValueRef::Int(left), Value::Int(right)) => numbers_compare(how, left, *right),
+        (ValueRef::Null, _) | (_, Value::Null) => false,
+        (left, right) => compares(how, left, ValueRef::of(right)),
+    }
 }
 
 /// Whether a condition is True of the rows, or, where False is wanted, False. What is unknown is neither, so NOT asks for

@@ -1,7 +1,7 @@
 -- Keys by their first values: what stands before a key stands, by its first values, where that key does or before.
 use Rattle.std.proofs.Common.{◌≡◌, Bool, true, false, List, [], ◌∷◌, ◌∙◌, refl, sym, ap, Ordering}
 use Rattle.std.specs.declared.cmp.Ordering.TheVariants.{Less, Equal, Greater}
-use Rattle.std.specs.Ordering.{is_gt, is_le, is_lt, ordering_then}
+use Rattle.std.specs.Ordering.{is_gt, is_lt, ordering_then}
 use Rattle.std.proofs.lemmas.Bool.{false≢true}
 use Rattle.ifdb_value.specs.declared.value.Value.{Value}
 use Rattle.ifdb_value.specs.Value.{value_cmp}

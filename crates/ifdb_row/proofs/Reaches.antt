@@ -1,9 +1,11 @@
 -- How far a test holds from the front of a list, what is behind that, and where a binary search for it ends.
-use Rattle.std.proofs.Common.{◌≡◌, ℕ, zero, suc, ◌+◌, ◌<◌, ◌≤◌, Bool, true, false, List, [], ◌∷◌, ◌∙◌, length, get_or, take, drop, refl, sym, ap, arith, Some, None}
+use Rattle.std.proofs.Common.{◌≡◌, ℕ, zero, suc, ◌+◌, ◌-◌, ◌<◌, ◌≤◌, Bool, true, false, List, [], ◌∷◌, ◌∙◌, length, get_or, take, drop, refl, sym, ap, arith, Some, None}
 use Rattle.std.specs.Prelude.{not, cond, find, filter, slice_get, take_while}
 use Rattle.std.specs.List.{list_all, prefix_len}
 use Rattle.std.specs.List.Sorted.{IsPartitionedBy}
 use Rattle.std.proofs.lemmas.Bool.Decides.{nat_tests}
+use Rattle.std.proofs.lemmas.Grind.{common_steps}
+use Rattle.std.proofs.lemmas.Option.{get_or_from_slice_get, slice_get_within}
 use Rattle.ifdb_value.proofs.Lists.{all_at}
 use Rattle.ifdb_row.specs.Reach.{reach, is_parted, skip}
 
@@ -148,3 +150,12 @@ none_more p (y ∷ xs) (suc k) x n lt e h = by (λ i. none_more p xs k x i (omeg
 
 pub none_here : {X : Type 0} (p : X → Bool) (xs : List X) (k : ℕ) (x : X) → find p (take k xs) ≡ None → k < length xs → x ≡ get_or xs k x → p x ≡ false → find p (take (k + 1) xs) ≡ None
 none_here p xs k x n lt e h = let one : suc k ≡ k + 1 = omega arith in ap (λ m. find p (take m xs)) (sym one) ∙ none_more p xs k x n lt e h
+
+-- where the last one passes, all of them do
+pub all_leading : {X : Type 0} (p : X → Bool) (xs : List X) (x : X) → is_parted p xs ≡ true → slice_get xs (length xs - 1) ≡ Some x → p x ≡ true → take_while p xs ≡ xs
+all_leading p xs x h e t =
+    let below = slice_get_within xs (length xs - 1) x e in
+    let last = read_above p xs (length xs - 1) x h below (sym (get_or_from_slice_get xs (length xs - 1) x x e)) t in
+    let all : reach p xs ≡ length xs = let w = reach_within p xs in omega arith in
+    let whole : take (length xs) xs ≡ xs = grind (arith, common_steps) in
+    leading_is p xs ∙ (sym (reach_leads p xs) ∙ (ap (λ n. take n xs) all ∙ whole))

@@ -1,5 +1,5 @@
 -- Rows side by side.
-use Rattle.std.specs.Prelude.{ℕ, ◌-◌, ◌*◌, List, [], ◌∷◌, Option, slice_get, take, drop}
+use Rattle.std.specs.Prelude.{ℕ, ◌-◌, List, [], ◌∷◌, slice_get, take, drop}
 use Rattle.ifdb_value.specs.declared.value.Value.{Value}
 use Rattle.ifdb_value.specs.Lists.{listed}
 use Rattle.ifdb_row.specs.declared.slot.Slot.{Slot}

@@ -193,7 +193,7 @@ fn of_table(rows: Run<'_>, table: TableId) -> Run<'_>
     requires { IsTrue (is_parted (λ r. r.slot.table == table) (rows_in rows)) }
     ensures { rows_in result ≡ take_while (λ r. r.slot.table == table) (rows_in rows.entry) }
 {
-    rows.front(rows.count_passing(&OfTable { table }))
+    rows.passing(&OfTable { table })
 }
 
 /// The rows of a table at the front whose keys stand before the end of a range.
@@ -201,7 +201,7 @@ fn below<'r>(rows: Run<'r>, table: TableId, range: &KeyRange) -> Run<'r>
     requires { IsTrue (is_parted (is_below table range.now) (rows_in rows)) }
     ensures { rows_in result ≡ take_while (is_below table range.now) (rows_in rows.entry) }
 {
-    rows.front(rows.count_passing(&BelowEnd { table, range }))
+    rows.passing(&BelowEnd { table, range })
 }
 
 /// The row, if it stands in the slot.

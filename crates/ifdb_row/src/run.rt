@@ -1,5 +1,5 @@
 // Rows side by side.
-ghost use Rattle.std.specs.Prelude.{◌≡◌, ◌==◌, ◌≤◌, ◌<◌, ◌-◌, Bool, Some, IsTrue, drop, length, slice_get, take};
+ghost use Rattle.std.specs.Prelude.{◌≡◌, ◌==◌, ◌≤◌, ◌<◌, ◌-◌, Bool, Some, IsTrue, drop, length, slice_get, take, take_while};
 ghost use Rattle.ifdb_row.specs.declared.row.Row.{Row as AnyRow};
 ghost use Rattle.ifdb_row.specs.ByReference.{option_row, row_of};
 ghost use Rattle.ifdb_row.specs.Reach.{is_parted, reach};
@@ -90,6 +90,18 @@ impl<'a> Run<'a> {
         match self {
             Run::Loose(rows) => Run::Loose(rows.split_at(count).1),
             Run::Even(rows) => Run::Even(rows.from(count)),
+        }
+    }
+
+    /// The rows at the front that pass a test that none passes behind one that doesn't. They are found by binary search, but
+    /// where all pass, as mostly a page does that lies within what is asked for: then the last one tells it.
+    pub fn passing<T: RowTest>(self, test: &T) -> Run<'a>
+        requires { IsTrue (is_parted (T.passes test.now) (rows_in self)) }
+        ensures { rows_in result ≡ take_while (T.passes test.now) (rows_in self.entry) }
+    {
+        match self.last() {
+            Some(row) if test.passes(row) => self,
+            _ => self.front(self.count_passing(test)),
         }
     }
 

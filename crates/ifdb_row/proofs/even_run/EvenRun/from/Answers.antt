@@ -1,4 +1,4 @@
-use Rattle.std.proofs.Common.{◌≡◌, ◌*◌, ◌≤◌, ◌∙◌, ap, arith, drop, length}
+use Rattle.std.proofs.Common.{◌≤◌, ◌∙◌, ap, arith, drop, length}
 use Rattle.ifdb_row.specs.Runs.{even_rows}
 use Rattle.ifdb_row.proofs.EvenRows.{even_from, even_length, front_within}
 use Rattle.ifdb_row.proofs.even_run.EvenRun.from.Goals as goal

@@ -1,4 +1,4 @@
-use Rattle.std.proofs.Common.{◌≤◌, ◌∙◌, ap, arith, length}
+use Rattle.std.proofs.Common.{◌∙◌, ap, arith}
 use Rattle.ifdb_row.specs.Runs.{even_rows}
 use Rattle.ifdb_row.proofs.EvenRows.{even_front, even_length}
 use Rattle.ifdb_row.proofs.even_run.EvenRun.front.Goals as goal

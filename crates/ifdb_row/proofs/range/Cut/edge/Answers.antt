@@ -1,10 +1,9 @@
-use Rattle.std.proofs.Common.{◌≡◌, ◌∙◌, sym, ap}
+use Rattle.std.proofs.Common.{◌∙◌, sym, ap}
 use Rattle.std.specs.Prelude.{nat_lt, ◌==◌, if◌then◌else◌}
 use Rattle.std.specs.Ordering.{is_lt}
-use Rattle.ifdb_value.specs.declared.value.Value.{Value as AnyValue}
 use Rattle.ifdb_row.specs.Slots.{key_cmp}
 use Rattle.ifdb_row.specs.Fronts.{front_cmp}
-use Rattle.ifdb_row.specs.Ranges.{is_before, stands_before}
+use Rattle.ifdb_row.specs.Ranges.{is_before}
 use Rattle.ifdb_row.proofs.Fronts.{front_lt}
 use Rattle.ifdb_row.proofs.range.Cut.edge.Goals as goal
 

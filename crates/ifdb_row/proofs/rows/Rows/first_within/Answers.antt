@@ -1,6 +1,5 @@
-use Rattle.std.proofs.Common.{◌≡◌, ◌∙◌, false, true, sym, subst}
+use Rattle.std.proofs.Common.{◌∙◌, sym, subst}
 use Rattle.std.specs.Prelude.{None}
-use Rattle.ifdb_row.specs.declared.slot.Slot.{Slot}
 use Rattle.ifdb_row.specs.declared.row.Row.{Row}
 use Rattle.ifdb_row.specs.Edges.{lies_before}
 use Rattle.ifdb_row.specs.Questions.{IsRun}
