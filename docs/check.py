@@ -1,12 +1,15 @@
 #!/usr/bin/env python3
-"""Checks the pages against the repository: examples, links, files, crates, and the lines that PROVED counts.
+"""Checks the pages against the repository: examples, links, files, crates, and the lines that PROVED counts. And checks of each
+edit that must fail whether it can still be made, and of those that stand aside whether their crate is as when all were refused.
 
-Prints a line for each that is wrong, and at the end how many of the pages passed. Needs python3 alone.
+Prints a line for each that is wrong, and at the end how many of the edits and of the pages passed. Needs python3 alone.
 """
 
 import re
 import sys
 from pathlib import Path
+
+import edits as aside
 
 TOP = Path(__file__).resolve().parent.parent
 CRATES = TOP / "crates"
@@ -94,6 +97,39 @@ def wrong_counts(text: str) -> list[str]:
     return wrong
 
 
+def wrong_places(edit: Path) -> list[str]:
+    """The lines that an edit replaces and that don't stand in its file exactly once."""
+    wrong, text = [], ""
+    for line in edit.read_text().split("\n"):
+        word, _, rest = line.partition(": ")
+        if word == "file":
+            file = edit.parent.parent / rest
+            text = file.read_text() if file.is_file() else ""
+        elif word == "old" and text.count(rest) != 1:
+            wrong.append(f"stands {text.count(rest)} times in its file: {rest.strip()}")
+    return wrong
+
+
+def wrong_sums() -> list[str]:
+    """The crates with edits that stand aside whose text isn't the one over which all their edits were refused."""
+    noted = aside.noted()
+    wrong = []
+    for crate in aside.with_aside():
+        if noted.get(crate, "").split(" ")[0] != aside.text_sum(crate):
+            wrong.append(f"not noted for the text of {crate}, whose edits docs/edits.py {crate} tries")
+    return wrong + [f"has no edits that stand aside: {crate}" for crate in set(noted) - set(aside.with_aside())]
+
+
+def told(what: str, wrong: dict[Path, list[str]]) -> int:
+    """Prints what is wrong of each file, and how many files passed. How many didn't."""
+    for file, lines in wrong.items():
+        for line in lines:
+            print(f"{file.relative_to(TOP)}: {line}")
+    failed = sum(map(bool, wrong.values()))
+    print(f"{what}: {len(wrong) - failed} passed, {failed} failed")
+    return failed
+
+
 def main() -> int:
     known: set[tuple[str, str]] = set()
     for script in (TOP / "examples").rglob("*.script"):
@@ -103,17 +139,15 @@ def main() -> int:
         for file in TOP.rglob("*")
         if not {".git", "out", "wip"} & set(file.relative_to(TOP).parts)
     }
-    failed = 0
+    pages = {}
     for page in PAGES:
         text = page.read_text()
-        wrong = wrong_examples(text, known) + wrong_links(page, text) + wrong_names(text, names)
+        pages[page] = wrong_examples(text, known) + wrong_links(page, text) + wrong_names(text, names)
         if page.name == "PROVED.md":
-            wrong += wrong_counts(text)
-        failed += bool(wrong)
-        for line in wrong:
-            print(f"{page.relative_to(TOP)}: {line}")
-    print(f"pages: {len(PAGES) - failed} passed, {failed} failed")
-    return 1 if failed else 0
+            pages[page] += wrong_counts(text)
+    edits = {edit: wrong_places(edit) for edit in sorted(CRATES.glob("*/must-fail/*.edit*"))}
+    edits[aside.REFUSED] = wrong_sums()
+    return 1 if told("edits", edits) + told("pages", pages) else 0
 
 
 if __name__ == "__main__":
