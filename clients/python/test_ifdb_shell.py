@@ -212,9 +212,9 @@ class Terminal:
             os.execve(sys.executable, [sys.executable, SHELL, *words], env)
         self.seen = ""
 
-    def expect(self, text: str) -> str:
+    def expect(self, text: str, patience: float = served.PATIENCE) -> str:
         """Waits until this is shown, and returns what was shown before it."""
-        until = time.monotonic() + served.PATIENCE
+        until = time.monotonic() + patience
         while text not in self.seen:
             if not select.select([self._link], [], [], max(0.0, until - time.monotonic()))[0]:
                 raise AssertionError(f"{text!r} isn't shown, but {self.seen!r}")
@@ -224,6 +224,18 @@ class Terminal:
 
     def type(self, keys: str) -> None:
         os.write(self._link, keys.encode())
+
+    def interrupt(self, prompt: str) -> None:
+        """Presses ^C until the prompt is shown: Python's readline goes on waiting for a key where ^C comes just before it waits."""
+        until = time.monotonic() + served.PATIENCE
+        while True:
+            self.type("\x03")
+            try:
+                self.expect(prompt, patience=1.0)
+                return
+            except AssertionError:
+                if time.monotonic() > until:
+                    raise
 
     def status(self) -> int:
         """The status with which the shell ends."""
@@ -285,8 +297,7 @@ class AtATerminal(OverAServer):
         shell.expect("{}\nann {}> ")
         shell.type("\x1b[A")
         shell.expect("SHOW LABEL")  # so the line is being edited, and isn't only about to be
-        shell.type("\x03")
-        shell.expect("ann {}> ")
+        shell.interrupt("ann {}> ")
         shell.type("SHOW LABEL\n")
         shell.expect("{}\nann {}> ")
         shell.type("\x04")
