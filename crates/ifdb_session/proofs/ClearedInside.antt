@@ -1,5 +1,5 @@
 -- A session of a principal with a clearance is inside the levels to which that flows.
-use Rattle.std.proofs.Common.{◌≡◌, ℕ, List, ◌++◌, ◌∙◌, sym, ap, subst}
+use Rattle.std.proofs.Common.{ℕ, List, ◌++◌, ◌∙◌, subst}
 use Rattle.ifdb_model.specs.Step.{Reader}
 use Rattle.ifdb_model.specs.Run.{Step}
 use Rattle.ifdb_history.specs.declared.entry.Entry.{Entry}

@@ -12,7 +12,8 @@ use Rattle.ifdb_session.specs.Turns.{IsAsked}
 use Rattle.ifdb_session.specs.declared.shared.Asked.TheVariants as asked
 use Rattle.ifdb_session.specs.declared.shared.SharedRoom.{SharedRoom}
 use Rattle.ifdb_session.proofs.Counting.{lent_if_open}
-use Rattle.ifdb_session.proofs.Turned.{seat_found, may_be_back, may_ask, may_look, may_refuse, ended_asked, ended_looked, ended_refused, bare_asked}
+use Rattle.ifdb_session.proofs.MayAdd.{seat_found, may_be_back, may_ask, may_look, may_refuse}
+use Rattle.ifdb_session.proofs.Turned.{ended_asked, ended_looked, ended_refused, bare_asked}
 use Rattle.ifdb_session.proofs.turns.ask_in_turn.Goals as goal
 
 pub ask-requires : goal.ask-requires

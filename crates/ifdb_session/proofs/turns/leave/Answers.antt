@@ -5,7 +5,8 @@ use Rattle.ifdb_turn.specs.Turns.{pass_of}
 use Rattle.ifdb_history.specs.History.{root_in}
 use Rattle.ifdb_session.specs.declared.shared.SharedRoom.{SharedRoom}
 use Rattle.ifdb_session.specs.Standing.{StandsForHistory}
-use Rattle.ifdb_session.proofs.Turned.{seat_found, may_be_back, may_leave, ended_sees, ended_left_adds, ended_left_lines, ended_left_texts, ended_left_over, ended_left_leaves}
+use Rattle.ifdb_session.proofs.MayAdd.{seat_found, may_be_back, may_leave}
+use Rattle.ifdb_session.proofs.Turned.{ended_sees, ended_left_adds, ended_left_lines, ended_left_texts, ended_left_over, ended_left_leaves}
 use Rattle.ifdb_session.proofs.turns.leave.Goals as goal
 
 pub leave-requires : goal.leave-requires

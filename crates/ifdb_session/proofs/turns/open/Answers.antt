@@ -3,7 +3,8 @@ use Rattle.ifdb_turn.specs.Passes.{history}
 use Rattle.ifdb_turn.specs.Turns.{pass_of}
 use Rattle.ifdb_session.specs.declared.shared.SharedRoom.{SharedRoom}
 use Rattle.ifdb_session.specs.Standing.{StandsForHistory}
-use Rattle.ifdb_session.proofs.Turned.{may_open, ended_sees, ended_new, bare_sees}
+use Rattle.ifdb_session.proofs.MayAdd.{may_open}
+use Rattle.ifdb_session.proofs.Turned.{ended_sees, ended_new, bare_sees}
 use Rattle.ifdb_session.proofs.turns.open.Goals as goal
 
 pub done_opened-requires-clause-entry : goal.done_opened-requires-clause-entry

@@ -1,0 +1,162 @@
+-- What a turn finds, and the entries that it may add.
+use Rattle.std.proofs.Common.{◌≡◌, ℕ, ◌+◌, ◌<◌, false, List, [], ◌∷◌, ◌++◌, ◌∙◌, length, refl, sym, ap, subst, arith, cond}
+use Rattle.std.proofs.lemmas.List.{append-nil}
+use mathlib.Core.List.{IsPrefix}
+use Rattle.ifdb_turn.specs.Histories.{AllRight, NoRootsFrom}
+use Rattle.ifdb_turn.specs.Places.{times}
+use Rattle.ifdb_model.specs.Log.{commits_of}
+use Rattle.ifdb_model.specs.Run.{State, opens, asks, leaves, next, run}
+use Rattle.ifdb_model.proofs.Runs.{run-append}
+use Rattle.ifdb_db.specs.Looks.{Looking, IsLookOf}
+use Rattle.ifdb_db.specs.Reading.{read_line}
+use Rattle.ifdb_db.specs.Room.{Hall, StandsFor}
+use Rattle.ifdb_db.specs.RoomSteps.{GoesBy}
+use Rattle.ifdb_db.proofs.Looking.{only_looks}
+use Rattle.ifdb_history.specs.declared.entry.Entry.{Entry}
+use Rattle.ifdb_history.specs.declared.entry.Kind.TheVariants as kind
+use Rattle.ifdb_history.specs.declared.entry.Note.{Note}
+use Rattle.ifdb_history.specs.History.{work_steps, after, IsAt, IsRight, root_in, opening_entry, entry_of}
+use Rattle.ifdb_history.specs.Counts.{commits_in}
+use Rattle.ifdb_history.specs.Lines.{work_lines}
+use Rattle.ifdb_history.proofs.Flat.{after-append}
+use Rattle.ifdb_history.proofs.Others.{kept_among_others}
+use Rattle.ifdb_history.proofs.Own.{own_is_right}
+use Rattle.ifdb_history.proofs.Logs.{log_on}
+use Rattle.ifdb_session.specs.Counts.{commits_at, refuses_at}
+use Rattle.ifdb_session.specs.Seats.{work_of, lines_in, IsToldIn, asked_entry, left_entry, IsSeated}
+use Rattle.ifdb_session.specs.declared.seat.Seat.{Seat}
+use Rattle.ifdb_session.specs.declared.shared.SharedRoom.{SharedRoom}
+use Rattle.ifdb_session.specs.Standing.{StandsForHistory}
+use Rattle.ifdb_session.specs.Turns.{with_lent, MayBeBack, HasCounted, CountsTurn}
+use Rattle.ifdb_session.proofs.Counting.{stands_more, commits_more, line_commits, leaving_commits}
+use Rattle.ifdb_session.proofs.Working.{if_later, if_told, if_work, if_log, if_stands, if_back}
+
+-- ---- the state after an entry
+
+pub asked_state : (log : List Entry) (n : ℕ) (work : List Note) (line : List ℕ)
+    → after read_line (log ++ entry_of log n (kind.Asked n work line) ∷ []) ≡ next read_line (run read_line (after read_line log) (work_steps n work)) (asks n line)
+asked_state log n work line =
+    after-append read_line log (entry_of log n (kind.Asked n work line) ∷ [])
+    ∙ ap (run read_line (after read_line log)) (append-nil (work_steps n work ++ asks n line ∷ []))
+    ∙ run-append read_line (after read_line log) (work_steps n work) (asks n line ∷ [])
+
+pub left_state : (log : List Entry) (n : ℕ) (work : List Note)
+    → after read_line (log ++ entry_of log n (kind.Left n work) ∷ []) ≡ next read_line (run read_line (after read_line log) (work_steps n work)) (leaves n)
+left_state log n work =
+    after-append read_line log (entry_of log n (kind.Left n work) ∷ [])
+    ∙ ap (run read_line (after read_line log)) (append-nil (work_steps n work ++ leaves n ∷ []))
+    ∙ run-append read_line (after read_line log) (work_steps n work) (leaves n ∷ [])
+
+-- ---- what a turn finds: the history has grown by entries of others alone, and the seat is as it was
+
+pub seat_found : (h log : List Entry) (own : List ℕ) (s : Seat) → IsSeated h own s → IsPrefix h log → AllRight (IsRight read_line) log
+    → NoRootsFrom (λ (e : Entry). e.root) log (length h) own → IsSeated log own s × (lines_in log s ≡ lines_in h s) × ((text : List ℕ) → IsToldIn h s text → IsToldIn log s text)
+seat_found h log own s seated front right away =
+    let kept = kept_among_others read_line h log own s.number seated.holds front right away in
+    let more = log_on read_line h log front in (
+      record { holds = kept.0; works = if_later h log s.number (work_of s) kept.3 more s.lent seated.works },
+      ap (λ l. l ++ work_lines (work_of s)) kept.1,
+      λ text t. (t.0, kept.2 t.0 t.1, t.2 ∙ ap (λ l. t.0 ++ l) (sym (if_told h log s.number (work_of s) kept.3 more s.lent seated.works))),
+    )
+
+-- ---- the entries that it may add
+
+module _ (log : List Entry) (own : List ℕ) (s : Seat) (seated : IsSeated log own s) (old new : SharedRoom) (stands : StandsForHistory old log) where
+  mine : IsAt read_line log s.number (root_in log s.number) × (0 < times (root_in log s.number) own)
+  mine = own_is_right read_line log own s.number seated.holds
+
+  -- the state before the last step, in which the session has done its work
+  abbrev worked : State
+  worked = run read_line (after read_line log) (work_steps s.number (work_of s))
+
+  then : StandsFor (with_lent old.room s.number s.lent) worked
+  then = if_stands log s.number (work_of s) old.room stands.room s.lent seated.works
+
+  pub may_be_back : MayBeBack old.room s.number s.lent
+  may_be_back = if_back log s.number (work_of s) old.room stands.room s.lent seated.works
+
+  pub may_ask : (line : List ℕ) → GoesBy (with_lent old.room s.number s.lent) new.room (asks s.number line)
+      → CountsTurn (with_lent old.room s.number s.lent) (kind.Asked s.number [] line) old new
+      → StandsForHistory new (log ++ asked_entry log s.number s.work.items line ∷ [])
+      × IsRight read_line log (asked_entry log s.number s.work.items line) × (0 < times (root_in log s.number) own)
+  may_ask line goes counts = (
+    stands_more old new log e (commits_at read_line worked (kind.Asked s.number [] line)) (refuses_at read_line worked (kind.Asked s.number [] line)) stands room commits refl (counts worked then),
+    (mine.0, if_work log s.number (work_of s) s.lent seated.works),
+    mine.1,
+  ) where
+    e : Entry
+    e = asked_entry log s.number s.work.items line
+
+    room : StandsFor new.room (after read_line (log ++ e ∷ []))
+    room = subst (StandsFor new.room) (sym (asked_state log s.number (work_of s) line)) (goes worked then)
+
+    commits : commits_in read_line (log ++ e ∷ []) ≡ commits_in read_line log + cond (commits_at read_line worked (kind.Asked s.number [] line)) 1 0
+    commits = commits_more read_line log e (next read_line worked (asks s.number line)) _ (asked_state log s.number (work_of s) line)
+        (line_commits read_line worked s.number line
+        ∙ ap (λ l. length (commits_of l) + cond (commits_at read_line worked (kind.Asked s.number [] line)) 1 0) (if_log log s.number (work_of s) s.lent seated.works))
+
+  pub may_leave : GoesBy (with_lent old.room s.number s.lent) new.room (leaves s.number)
+      → CountsTurn (with_lent old.room s.number s.lent) (kind.Left s.number []) old new
+      → StandsForHistory new (log ++ left_entry log s.number s.work.items ∷ [])
+      × IsRight read_line log (left_entry log s.number s.work.items) × (0 < times (root_in log s.number) own)
+  may_leave goes counts = (
+    stands_more old new log e false false stands room commits refl (counts worked then),
+    (mine.0, if_work log s.number (work_of s) s.lent seated.works),
+    mine.1,
+  ) where
+    e : Entry
+    e = left_entry log s.number s.work.items
+
+    room : StandsFor new.room (after read_line (log ++ e ∷ []))
+    room = subst (StandsFor new.room) (sym (left_state log s.number (work_of s))) (goes worked then)
+
+    commits : commits_in read_line (log ++ e ∷ []) ≡ commits_in read_line log + 0
+    commits = commits_more read_line log e (next read_line worked (leaves s.number)) false (left_state log s.number (work_of s))
+        (leaving_commits read_line worked s.number ∙ ap (λ l. length (commits_of l) + 0) (if_log log s.number (work_of s) s.lent seated.works))
+
+  pub may_refuse : (line : List ℕ) → new.room ≡ old.room → CountsTurn old.room (kind.Refused s.number line) old new
+      → StandsForHistory new (log ++ entry_of log s.number (kind.Refused s.number line) ∷ [])
+      × IsRight read_line log (entry_of log s.number (kind.Refused s.number line)) × (0 < times (root_in log s.number) own)
+  may_refuse line same counts = (
+    stands_more old new log e false false stands room (commits_more read_line log e (after read_line log) false state (omega arith)) refl (counts (after read_line log) stands.room),
+    mine.0,
+    mine.1,
+  ) where
+    e : Entry
+    e = entry_of log s.number (kind.Refused s.number line)
+
+    state : after read_line (log ++ e ∷ []) ≡ after read_line log
+    state = after-append read_line log (e ∷ [])
+
+    room : StandsFor new.room (after read_line (log ++ e ∷ []))
+    room = subst (λ (h : Hall). StandsFor h (after read_line (log ++ e ∷ []))) (sym same) (subst (StandsFor old.room) (sym state) stands.room)
+
+  pub may_look : (line : List ℕ) (x : Looking) → IsLookOf old.room s.number line x → new.room ≡ old.room → HasCounted old new false false
+      → StandsForHistory new (log ++ entry_of log s.number (kind.Looked s.number line) ∷ [])
+      × IsRight read_line log (entry_of log s.number (kind.Looked s.number line)) × (0 < times (root_in log s.number) own)
+  may_look line x look same counts = (
+    stands_more old new log e false false stands room (commits_more read_line log e (after read_line log) false state (omega arith)) refl counts,
+    (mine.0, still),
+    mine.1,
+  ) where
+    e : Entry
+    e = entry_of log s.number (kind.Looked s.number line)
+
+    still : next read_line (after read_line log) (asks s.number line) ≡ after read_line log
+    still = only_looks old.room (after read_line log) stands.room s.number line x look
+
+    state : after read_line (log ++ e ∷ []) ≡ after read_line log
+    state = after-append read_line log (e ∷ []) ∙ still
+
+    room : StandsFor new.room (after read_line (log ++ e ∷ []))
+    room = subst (λ (h : Hall). StandsFor h (after read_line (log ++ e ∷ []))) (sym same) (subst (StandsFor old.room) (sym state) stands.room)
+
+-- ---- that of a session that is opened
+
+pub may_open : (old new : SharedRoom) (log : List Entry) → StandsForHistory old log → GoesBy old.room new.room opens → CountsTurn old.room kind.Opened old new
+    → StandsForHistory new (log ++ opening_entry log ∷ []) × IsRight read_line log (opening_entry log)
+may_open old new log stands goes counts =
+    let state = after-append read_line log (opening_entry log ∷ []) in
+    let room : StandsFor new.room (after read_line (log ++ opening_entry log ∷ [])) = subst (StandsFor new.room) (sym state) (goes (after read_line log) stands.room) in
+    let commits = commits_more read_line log (opening_entry log) (next read_line (after read_line log) opens) false state (omega arith) in
+    (stands_more old new log (opening_entry log) false false stands room commits refl (counts (after read_line log) stands.room), refl)
