@@ -1,4 +1,5 @@
 // Lines with the canonical text of their request, or the fault, that the written rules give them.
+mod faults;
 mod limits;
 mod lines;
 
@@ -70,34 +71,34 @@ fn conditions_are_read(rt: HostRuntime) -> Result<(), Fail> {
 
 #[test]
 fn faults_are_placed(rt: HostRuntime) -> Result<(), Fail> {
-    are_answered(&rt, rt.alloc(), &lines::TOKEN_FAULTS)?;
-    are_answered(&rt, rt.alloc(), &lines::FIRST_PLACES)?;
-    are_answered(&rt, rt.alloc(), &lines::LAST_PLACES)?;
-    are_answered(&rt, rt.alloc(), &lines::LIMITS)?;
+    are_answered(&rt, rt.alloc(), &faults::TOKEN_FAULTS)?;
+    are_answered(&rt, rt.alloc(), &faults::FIRST_PLACES)?;
+    are_answered(&rt, rt.alloc(), &faults::LAST_PLACES)?;
+    are_answered(&rt, rt.alloc(), &faults::LIMITS)?;
     Ok(())
 }
 
 #[test]
 fn faults_of_definitions_are_placed(rt: HostRuntime) -> Result<(), Fail> {
-    are_answered(&rt, rt.alloc(), &lines::OPENING_PLACES)?;
-    are_answered(&rt, rt.alloc(), &lines::DEFINITION_PLACES)?;
-    are_answered(&rt, rt.alloc(), &lines::WORD_PLACES)?;
+    are_answered(&rt, rt.alloc(), &faults::OPENING_PLACES)?;
+    are_answered(&rt, rt.alloc(), &faults::DEFINITION_PLACES)?;
+    are_answered(&rt, rt.alloc(), &faults::WORD_PLACES)?;
     Ok(())
 }
 
 #[test]
 fn faults_of_queries_are_placed(rt: HostRuntime) -> Result<(), Fail> {
-    are_answered(&rt, rt.alloc(), &lines::ITEM_PLACES)?;
-    are_answered(&rt, rt.alloc(), &lines::SOURCE_PLACES)?;
-    are_answered(&rt, rt.alloc(), &lines::CONDITION_PLACES)?;
-    are_answered(&rt, rt.alloc(), &lines::ORDER_PLACES)?;
+    are_answered(&rt, rt.alloc(), &faults::ITEM_PLACES)?;
+    are_answered(&rt, rt.alloc(), &faults::SOURCE_PLACES)?;
+    are_answered(&rt, rt.alloc(), &faults::CONDITION_PLACES)?;
+    are_answered(&rt, rt.alloc(), &faults::ORDER_PLACES)?;
     Ok(())
 }
 
 #[test]
 fn faults_of_writes_are_placed(rt: HostRuntime) -> Result<(), Fail> {
-    are_answered(&rt, rt.alloc(), &lines::INSERT_PLACES)?;
-    are_answered(&rt, rt.alloc(), &lines::CHANGE_PLACES)?;
+    are_answered(&rt, rt.alloc(), &faults::INSERT_PLACES)?;
+    are_answered(&rt, rt.alloc(), &faults::CHANGE_PLACES)?;
     Ok(())
 }
 
