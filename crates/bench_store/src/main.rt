@@ -13,7 +13,7 @@ use family::{QUESTIONS, add_each, add_many, children, count};
 use ifdb_store::Store;
 use std::time::Instant;
 use std::{env, io};
-use work::{CALLS, fill, look, make, share, walk};
+use work::{CALLS, fill, look, make, make_writes, refill, share, shrink, walk};
 
 fn main(rt: HostRuntime) -> io::Result<()> {
     if env::args(&rt)?.nth(1).is_some() {
@@ -52,6 +52,16 @@ fn time(rt: &HostRuntime, rows: u32) -> io::Result<()> {
     time_look(rt, &store, rows)?;
     time_share(rt, &store)?;
     time_fill(rt, &mut store, rows)?;
+    time_refill(rt, &mut store, rows)?;
+    time_fill(rt, &mut store, rows)?;
+    time_refill(rt, &mut store, rows)?;
+    time_writes(rt, rows)?;
+    time_shrink(rt, &mut store, rows, false)?;
+    fill(rt.alloc(), &mut store, CALLS, rows)?;
+    time_shrink(rt, &mut store, rows, true)?;
+    time_regrow(rt, &mut store, rows)?;
+    time_shrink(rt, &mut store, rows, true)?;
+    time_fill(rt, &mut store, rows)?;
     time_walk(rt, &store, rows)?;
     time_family(rt, rows)
 }
@@ -82,6 +92,38 @@ fn time_fill(rt: &HostRuntime, store: &mut Store, rows: u32) -> io::Result<()> {
     let start = Instant::now(rt)?;
     fill(rt.alloc(), store, CALLS, rows)?;
     tell(rt, "commit of one write", start, CALLS)
+}
+
+/// Times commits of one write in place.
+fn time_refill(rt: &HostRuntime, store: &mut Store, rows: u32) -> io::Result<()> {
+    let start = Instant::now(rt)?;
+    refill(rt.alloc(), store, CALLS, rows)?;
+    tell(rt, "commit of one write in place", start, CALLS)
+}
+
+/// Times commits of one deletion.
+fn time_shrink(rt: &HostRuntime, store: &mut Store, rows: u32, in_place: bool) -> io::Result<()> {
+    let start = Instant::now(rt)?;
+    shrink(rt.alloc(), store, rows, in_place)?;
+    if in_place {
+        tell(rt, "commit of one deletion in place", start, CALLS)
+    } else {
+        tell(rt, "commit of one deletion", start, CALLS)
+    }
+}
+
+/// Times commits of one insertion in place, of the rows that were given up.
+fn time_regrow(rt: &HostRuntime, store: &mut Store, rows: u32) -> io::Result<()> {
+    let start = Instant::now(rt)?;
+    refill(rt.alloc(), store, CALLS, rows)?;
+    tell(rt, "commit of one insertion in place", start, CALLS)
+}
+
+/// Times the making of writes, which is a part of a commit's time.
+fn time_writes(rt: &HostRuntime, rows: u32) -> io::Result<()> {
+    let start = Instant::now(rt)?;
+    make_writes(rt.alloc(), rows)?;
+    tell(rt, "writes alone", start, CALLS)
 }
 
 /// Times a walk through all rows.

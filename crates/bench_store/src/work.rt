@@ -1,6 +1,6 @@
 // What is timed.
 use crate::rows::{one_write, slot_of};
-use ifdb_row::{OutOfMemory, Rows, SlotRef};
+use ifdb_row::{OutOfMemory, Rows, SlotRef, Write, Writes};
 use ifdb_store::{Content, Store};
 use ifdb_value::TableId;
 use std::alloc::Global;
@@ -74,6 +74,63 @@ fn set(alloc: Global, store: &mut Store, number: i64) -> Result<(), OutOfMemory>
     let writes = one_write(alloc, number)?;
     store.reserve(&writes)?;
     store.install(1, writes);
+    store.trim(1);
+    Ok(())
+}
+
+/// Writes rows in place, each in a commit of its own.
+pub(crate) fn refill(
+    alloc: Global,
+    store: &mut Store,
+    count: u32,
+    rows: u32,
+) -> Result<(), OutOfMemory> {
+    for i in 0..count {
+        reset(alloc, store, spread(i, rows))?;
+    }
+    Ok(())
+}
+
+/// Makes writes of rows.
+pub(crate) fn make_writes(alloc: Global, rows: u32) -> Result<(), OutOfMemory> {
+    for i in 0..CALLS {
+        let _ = one_write(alloc, spread(i, rows))?;
+    }
+    Ok(())
+}
+
+/// Writes a row and commits it, in place if that can be.
+fn reset(alloc: Global, store: &mut Store, number: i64) -> Result<(), OutOfMemory> {
+    let writes = one_write(alloc, number)?;
+    let _ = store.commit(1, writes).is_ok();
+    store.trim(1);
+    Ok(())
+}
+
+/// Gives rows up, each in a commit of its own.
+pub(crate) fn shrink(
+    alloc: Global,
+    store: &mut Store,
+    rows: u32,
+    in_place: bool,
+) -> Result<(), OutOfMemory> {
+    for i in 0..CALLS {
+        let mut writes = Writes::new(alloc);
+        let slot = slot_of(alloc, spread(i, rows))?;
+        writes.put(Write { slot, row: None })?;
+        commit(store, writes, in_place)?;
+    }
+    Ok(())
+}
+
+/// Commits writes, in place if that is asked for and can be.
+fn commit(store: &mut Store, writes: Writes, in_place: bool) -> Result<(), OutOfMemory> {
+    if in_place {
+        let _ = store.commit(1, writes).is_ok();
+    } else {
+        store.reserve(&writes)?;
+        store.install(1, writes);
+    }
     store.trim(1);
     Ok(())
 }

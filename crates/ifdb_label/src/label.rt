@@ -37,7 +37,7 @@ impl Label {
     }
 
     /// The label with these tags, which rise.
-    fn of(alloc: Global, tags: Vec<Tag>) -> Result<Self, OutOfMemory>
+    pub fn of(alloc: Global, tags: Vec<Tag>) -> Result<Self, OutOfMemory>
         requires { IsTrue (is_rising tags.items) }
         ensures { IfOk result (λ label. label ≡ tags.items) }
     {

@@ -262,7 +262,7 @@ impl Tags {
     }
 
     /// Whether each of these tags is made.
-    fn are_made(&self, tags: &[Tag]) -> bool
+    pub fn are_made(&self, tags: &[Tag]) -> bool
         ensures { result ≡ are_made (length self.now) tags.now }
     {
         let count = self.count();

@@ -119,14 +119,18 @@ impl Writes {
     /// Adds later writes, which take the place of earlier ones of their slots. Where an allocation is refused, the writes are
     /// as before.
     ///
-    /// Takes room for the later ones, and moves those that stand from the first later one on: none, where the later ones
-    /// stand behind.
+    /// One later write is put in by binary search. For several it takes room, and moves those that stand from the first
+    /// later one on: none, where the later ones stand behind.
     #[tactic(auto, using(crate::proofs::Sorted::merged_rises, crate::proofs::Sorted::merged_fits))]
     pub fn merge(&mut self, later: Writes) -> Result<(), OutOfMemory>
         ensures ok { OnOk result (self.new ≡ merged self.old later) }
         ensures err { OnErr result (self.new ≡ self.old) }
     {
         let Writes { items: later } = later;
+        if later.len() == 1 {
+            put_only(&mut self.items, later)?;
+            return Ok(());
+        }
         let at = place_of_first(&self.items, &later);
         self.items.reserve(later.len())?;
         let own = self.items.split_off(at)?;
@@ -136,6 +140,19 @@ impl Writes {
             VecDeque::from_vec(later),
         );
         Ok(())
+    }
+}
+
+/// Adds the only one of later writes. Where an allocation is refused, the writes are as before.
+fn put_only(items: &mut Vec<Write>, mut later: Vec<Write>) -> Result<(), OutOfMemory>
+    requires one { length later.items ≡ 1 }
+    requires rising { IsTrue (are_rising items.old.items) }
+    ensures ok { OnOk result (items.new.items ≡ merged items.old.items later.items) }
+    ensures err { OnErr result (items.new.items ≡ items.old.items) }
+{
+    match later.pop() {
+        Some(write) => put(items, write),
+        None => Ok(()),
     }
 }
 

@@ -14,3 +14,4 @@ pub mod Walking
 mod Maps
 mod Shaping
 mod Splicing
+pub mod InPlace

@@ -3,6 +3,7 @@ pub mod Stands
 pub mod Splices
 pub mod Layouts
 pub mod Pages
+pub mod InPlace
 pub mod Costs
 pub mod Kept
 pub mod Later

@@ -1,5 +1,5 @@
 // Contents in versions.
-ghost use Rattle.std.specs.Prelude.{◌≡◌, ◌≤◌, ◌+◌, ◌-◌, ◌*◌, ◌^◌, [], length, IfOk, IfSome, IsTrue, None};
+ghost use Rattle.std.specs.Prelude.{◌≡◌, ◌≤◌, ◌+◌, ◌-◌, ◌*◌, ◌^◌, [], length, if◌then◌else◌, IfOk, IfSome, IsTrue, None};
 ghost use Rattle.ifdb_row.specs.ByReference.{option_row};
 ghost use Rattle.ifdb_row.specs.Content.{after, rising};
 ghost use Rattle.ifdb_row.specs.Questions.{first_row_from};
@@ -21,8 +21,23 @@ struct Body {
     links: Tree,
 }
 
-/// Rows in the order of their slots, each slot once. It never changes: a later version is a content of its own, which
-/// shares what it has in common with this one. Contracts see the list of the rows.
+impl Body {
+    /// Puts writes into the rows in place, and other links with them, if that can be.
+    fn put(&mut self, alloc: Global, writes: &Writes, links: Tree) -> bool
+        ensures rows { self.new.rows
+            ≡ (if result then after self.old.rows writes.now else self.old.rows) }
+        ensures links { self.new.links ≡ (if result then links else self.old.links) }
+    {
+        let done = self.rows.put(alloc, writes);
+        if done {
+            self.links = links;
+        }
+        done
+    }
+}
+
+/// Rows in the order of their slots, each slot once. A later version is a content of its own, which shares what it has in
+/// common with this one, or it is this one changed in place, where nobody else holds it. Contracts see the list of the rows.
 #[derive(Drop)]
 pub struct Content {
     body: Shared<Body>,
@@ -76,6 +91,20 @@ impl Content {
         let links = self.links_after(alloc, writes)?;
         let rows = self.rows().after(alloc, writes)?;
         Content::of(alloc, rows, links)
+    }
+
+    /// Puts writes into the rows in place. Where that can't be, as where somebody else holds a part that they touch, or where
+    /// memory is refused, the answer is no and the rows are as before.
+    pub fn put(&mut self, alloc: Global, writes: &Writes) -> bool
+        ensures { self.new ≡ (if result then after self.old writes.now else self.old) }
+    {
+        let Ok(links) = self.links_after(alloc, writes) else {
+            return false;
+        };
+        match self.body.get_mut() {
+            Some(body) => body.put(alloc, writes, links),
+            None => false,
+        }
     }
 
     /// The links after writes to the rows.

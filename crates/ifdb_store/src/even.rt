@@ -1,12 +1,16 @@
 // Rows of a page in one list of values.
-ghost use Rattle.std.specs.Prelude.{◌≡◌, ◌==◌, ◌≤◌, ◌*◌, ◌∷◌, [], IfOk, IfSome, IsTrue, drop, flat_map, length, map, take};
+ghost use Rattle.std.specs.Prelude.{◌≡◌, ◌==◌, ◌≤◌, ◌<◌, ◌+◌, ◌*◌, ◌∷◌, ◌++◌, [], if◌then◌else◌, slice_set, IfOk, IfSome, IsTrue, drop, flat_map, length, map, take};
 ghost use Rattle.std.specs.List.{list_all};
 ghost use Rattle.ifdb_row.specs.ByReference.{row_of};
 ghost use Rattle.ifdb_row.specs.Content.{place, rising};
 ghost use Rattle.ifdb_row.specs.Runs.{rows_even};
 ghost use Rattle.ifdb_store.specs.Shapes.{cells_in, has_shape, head_in, is_unbound, refs_in};
+ghost use Rattle.ifdb_row.specs.Writes.{is_fitting};
+ghost use Rattle.ifdb_store.specs.InPlace.{IsPlaced};
 ghost use Rattle.ifdb_store.specs.Splices.{cells_put, put_in, rows_put};
 
+use crate::join::SMALL_PAGE;
+use crate::page::PAGE_ROWS;
 use crate::share::{add_shared, joined};
 use crate::splice::{Gap, Inset, gap_for};
 use ifdb_row::{EvenRun, Head, OutOfMemory, Refs, RowRef, Run, SlotRef, Write};
@@ -81,6 +85,97 @@ impl EvenRows {
             Some(row) => with(alloc, rows, gap, row.get().by_ref()),
             None => spliced(alloc, rows, gap, Inset::none()),
         }
+    }
+
+    /// Puts a write into the rows in place. Where the first row's slot would be another, or the rows too many or few for a page,
+    /// where a new one doesn't lie in one list with the others, or refers to something or any of them does, or where memory is
+    /// refused, the answer is no and the rows are as before.
+    pub(crate) fn put(&mut self, alloc: Global, write: &Write) -> bool
+        requires rising { IsTrue (rising self.old) }
+        requires fitting { IsTrue (is_fitting write.now.slot write.now.row) }
+        ensures { IsPlaced self.old self.new write.now result }
+    {
+        let rows = self.run();
+        let len = rows.len();
+        let gap = gap_for(Run::Even(rows), write.slot.by_ref());
+        match &write.row {
+            Some(row) if gap.from < gap.to => self.replace(alloc, gap.from, row.get().by_ref()),
+            Some(row) if 0 < gap.from && len < PAGE_ROWS => {
+                self.insert(alloc, gap.from, row.get().by_ref())
+            }
+            None if 0 < gap.from && gap.from < gap.to && SMALL_PAGE < len => self.remove(gap.from),
+            _ => false,
+        }
+    }
+
+    /// Puts a row between others, if it lies in one list with them, and if neither it nor any of them refers to anything.
+    fn insert(&mut self, alloc: Global, place: usize, row: RowRef<'_>) -> bool
+        requires { place ≤ length self.old }
+        ensures { self.new ≡ (if result
+            then take place self.old ++ (row_of row.entry ∷ drop place self.old)
+            else self.old) }
+    {
+        let shape = Shape {
+            key: self.key,
+            width: self.width,
+        };
+        if !has_shape(shape, &row) || !self.refs.is_empty() || !row.parents().is_empty() {
+            return false;
+        }
+        let (Ok(head), Ok(cells)) = (head_in(row.slot), cells_of_row(alloc, self.width, row)) else {
+            return false;
+        };
+        // That they lie within the list keeps the product in range.
+        let _ = self.cells.len();
+        if self.heads.insert(place, head).is_err() {
+            return false;
+        }
+        if self.cells.insert_all(place * self.width, cells).is_err() {
+            self.heads.remove(place);
+            return false;
+        }
+        true
+    }
+
+    /// Gives up the row at a place, if no row refers to anything. Takes no memory.
+    fn remove(&mut self, place: usize) -> bool
+        requires { place < length self.old }
+        ensures { self.new ≡ (if result
+            then take place self.old ++ drop (place + 1) self.old
+            else self.old) }
+    {
+        if !self.refs.is_empty() {
+            return false;
+        }
+        // That they lie within the list keeps the product in range.
+        let _ = self.cells.len();
+        self.heads.remove(place);
+        self.cells.remove_all(place * self.width, self.width);
+        true
+    }
+
+    /// Puts a row in place of the one at a place, if it lies in one list with the others, and if neither it nor any of them
+    /// refers to anything.
+    fn replace(&mut self, alloc: Global, place: usize, row: RowRef<'_>) -> bool
+        requires { place < length self.old }
+        ensures { self.new ≡ (if result then slice_set self.old place (row_of row.entry) else self.old) }
+    {
+        let shape = Shape {
+            key: self.key,
+            width: self.width,
+        };
+        if !has_shape(shape, &row) || !self.refs.is_empty() || !row.parents().is_empty() {
+            return false;
+        }
+        let (Ok(head), Ok(mut cells)) = (head_in(row.slot), cells_of_row(alloc, self.width, row))
+        else {
+            return false;
+        };
+        // That they lie within the list keeps the product in range.
+        let _ = self.cells.len();
+        self.heads.set(place, head);
+        self.cells.swap(place * self.width, &mut cells);
+        true
     }
 
     /// The rows.
@@ -269,4 +364,14 @@ fn cells_of(
         add_shared(row.values, &mut cells)?;
     }
     Ok(Sequence::from_vec(cells))
+}
+
+/// The key and the values of a row.
+fn cells_of_row(alloc: Global, width: usize, row: RowRef<'_>) -> Result<Vec<Value>, OutOfMemory>
+    ensures { IfOk result (λ cells. cells.items ≡ row.entry.slot.key.now ++ row.entry.values.now) }
+{
+    let mut cells = Vec::with_capacity(alloc, width)?;
+    add_shared(row.slot.key, &mut cells)?;
+    add_shared(row.values, &mut cells)?;
+    Ok(cells)
 }

@@ -12,7 +12,7 @@ use ifdb_row::OutOfMemory;
 use std::alloc::Global;
 
 /// A page of fewer rows is small, and is joined with a neighbour where both fit into one.
-const SMALL_PAGE: usize = 16;
+pub(crate) const SMALL_PAGE: usize = 16;
 
 /// Joins pages, so that no two neighbours may be joined: none is touched, where none is small.
 pub(crate) fn join(alloc: Global, pages: &mut Vec<Entry<Page>>) -> Result<(), OutOfMemory>

@@ -7,10 +7,11 @@ ghost use Rattle.ifdb_row.specs.Questions.{IsRun, bound_behind, rows_from};
 ghost use Rattle.ifdb_row.specs.Runs.{rows_in};
 ghost use Rattle.ifdb_row.specs.Writes.{are_fitting, are_rising};
 ghost use Rattle.ifdb_store.specs.Costs.{SearchedIn};
+ghost use Rattle.ifdb_store.specs.InPlace.{IsPut};
 ghost use Rattle.ifdb_store.specs.Pages.{are_full, are_nodes, front, in_nodes, is_full_node, is_node};
 
 use crate::entry::Entry;
-use crate::part::{Part, Regroup, bound_to, end_of, parts_after, run_from};
+use crate::part::{Part, Regroup, bound_to, end_of, parts_after, put_in, run_from};
 use crate::share::{add_shared, shared};
 use crate::steps::Steps;
 use ifdb_row::{Edge, OutOfMemory, RowRef, Run, SlotRef, Write};
@@ -63,6 +64,17 @@ impl<P: Part> Node<P> {
         ensures rising { IsTrue (rising (flat_map P.rows result.now)) }
     {
         self.parts.items()
+    }
+
+    /// Puts one write into its rows in place, if that can be.
+    pub(crate) fn put(&mut self, alloc: Global, writes: &[Write]) -> bool
+        requires fitting { IsTrue (are_fitting writes.now) }
+        requires rising { IsTrue (are_rising writes.now) }
+        ensures rows { IsPut (flat_map P.rows self.old) (flat_map P.rows self.new) writes.now result }
+        ensures node { IsTrue (is_node P.rows P.is_part P.is_full self.new) }
+        ensures full { is_full_node self.new ≡ is_full_node self.old }
+    {
+        put_in(alloc, &mut self.parts, writes)
     }
 
     /// Whether it has at least 16 parts.

@@ -6,7 +6,8 @@ ghost use Rattle.ifdb_row.specs.Content.{after, rising};
 ghost use Rattle.ifdb_row.specs.Edges.{lies_before};
 ghost use Rattle.ifdb_row.specs.Reach.{is_parted, reach};
 ghost use Rattle.ifdb_row.specs.Runs.{rows_in};
-ghost use Rattle.ifdb_row.specs.Writes.{are_fitting};
+ghost use Rattle.ifdb_row.specs.Writes.{are_fitting, is_fitting};
+ghost use Rattle.ifdb_store.specs.InPlace.{IsPut, IsPlaced};
 ghost use Rattle.ifdb_store.specs.Pages.{are_full, flat, is_full_page, is_page};
 
 use crate::entry::Entry;
@@ -32,6 +33,22 @@ enum Layout {
     Even(EvenRows),
     /// Each by itself, where they differ in how many values they have.
     Loose(Sequence<Shared<Row>>),
+}
+
+impl Layout {
+    ghost use Rattle.ifdb_store.specs.Layouts.{rows_laid};
+
+    /// Puts a write into the rows in place, if that can be.
+    fn put(&mut self, alloc: Global, write: &Write) -> bool
+        requires rising { IsTrue (rising (rows_laid self.old)) }
+        requires fitting { IsTrue (is_fitting write.now.slot write.now.row) }
+        ensures { IsPlaced (rows_laid self.old) (rows_laid self.new) write.now result }
+    {
+        match self {
+            Layout::Even(rows) => rows.put(alloc, write),
+            Layout::Loose(_) => false,
+        }
+    }
 }
 
 /// Rows of neighbouring slots, from 1 to 64 of them.
@@ -79,6 +96,18 @@ impl Page {
         match rows.after(alloc, write)? {
             Some(rows) => Ok(page_if_fits(rows)),
             None => Ok(None),
+        }
+    }
+
+    /// Puts one write into the rows in place, if that can be.
+    fn put_one(&mut self, alloc: Global, writes: &[Write]) -> bool
+        requires { IsTrue (are_fitting writes.now) }
+        ensures rows { IsPut self.old self.new writes.now result }
+        ensures page { IsTrue (is_page self.new) }
+    {
+        match writes {
+            [write] => self.layout.put(alloc, write),
+            _ => false,
         }
     }
 
@@ -158,6 +187,10 @@ impl Part for Page {
         }
         let rows = rows_after(alloc, self.rows(), writes)?;
         cut(alloc, &rows, out)
+    }
+
+    fn put(&mut self, alloc: Global, writes: &[Write]) -> bool {
+        self.put_one(alloc, writes)
     }
 
     fn is_full(&self) -> bool {

@@ -9,13 +9,16 @@ ghost use Rattle.ifdb_row.specs.Content.{after, rising};
 ghost use Rattle.ifdb_row.specs.Questions.{IsRun, bound_behind, rows_from};
 ghost use Rattle.ifdb_row.specs.Reach.{reach};
 ghost use Rattle.ifdb_store.specs.Pages.{AddsAfter, AddsAllAfter, AddsParts, Begins, Divides, Leaves, are_before, are_from, are_full};
+ghost use Rattle.ifdb_store.specs.InPlace.{IsPut};
 ghost use Rattle.ifdb_store.specs.Costs.{SearchedIn};
 
 use crate::entry::Entry;
+use crate::mark::Mark;
 use crate::search::{Item, Placed, place, reach};
 use crate::share::{Share, add_shared};
 use crate::steps::Steps;
 use ifdb_row::{Edge, OutOfMemory, RowRef, Run, SlotRef, Write};
+use ifdb_value::Sequence;
 use std::alloc::Global;
 use std::sync::ledger::Ledger;
 
@@ -44,6 +47,16 @@ pub(crate) trait Part: Placed + Drop {
         ensures rows { OnOk result
             (AddsAfter Self.rows out.old out.new (Self.rows self.now) writes.now) }
         ensures parts { OnOk result (IsTrue (list_all is_part out.new.items)) };
+
+    /// Puts one write into its rows in place. Where that can't be, as where somebody else holds a part of it, where it would
+    /// have other pages or another first slot, or where memory is refused, the answer is no and the rows are as before.
+    fn put(&mut self, alloc: Global, writes: &[Write]) -> bool
+        requires part { IsTrue (is_part self.old) }
+        requires fitting { IsTrue (are_fitting writes.now) }
+        requires rising { IsTrue (are_rising writes.now) }
+        ensures rows { IsPut (Self.rows self.old) (Self.rows self.new) writes.now result }
+        ensures part { IsTrue (is_part self.new) }
+        ensures full { is_full self.new ≡ is_full self.old };
 
     /// Whether it is full.
     fn is_full(&self) -> bool
@@ -248,6 +261,59 @@ pub(crate) fn parts_after<P: Part>(
         rest = later;
     }
     Ok(())
+}
+
+/// Puts one write into the rows of some parts in place, if that can be.
+pub(crate) fn put_in<P: Part>(
+    alloc: Global,
+    parts: &mut Sequence<Entry<P>>,
+    writes: &[Write],
+) -> bool
+    requires some { 0 < length parts.old }
+    requires parts { IsTrue (list_all P.is_part parts.old) }
+    requires in_order { IsTrue (rising (flat_map P.rows parts.old)) }
+    requires fitting { IsTrue (are_fitting writes.now) }
+    requires rising { IsTrue (are_rising writes.now) }
+    ensures rows { IsPut (flat_map P.rows parts.old) (flat_map P.rows parts.new) writes.now result }
+    ensures many { length parts.new ≡ length parts.old }
+    ensures parts { IsTrue (list_all P.is_part parts.new) }
+    ensures full { list_all P.is_full parts.new ≡ list_all P.is_full parts.old }
+{
+    let at = untouched(parts.items(), writes);
+    if !are_within(parts.items(), at, writes) {
+        return false;
+    }
+    let part = parts.at_mut(at);
+    part.put(alloc, writes)
+}
+
+/// Whether writes are all of the part at a place, as far as they stand before the next one. It touches no row where the marks
+/// tell.
+fn are_within<P: Part>(parts: &[Entry<P>], at: usize, writes: &[Write]) -> bool
+    requires there { at < length parts.now }
+    requires parts { IsTrue (list_all P.is_part parts.now) }
+    requires in_order { IsTrue (rising (flat_map P.rows parts.now)) }
+    requires fitting { IsTrue (are_fitting writes.now) }
+    ensures { result ≡ true → Divides P.rows parts.now at writes.now (length writes.now) }
+{
+    match parts.get(at + 1) {
+        Some(next) => is_behind(next, writes),
+        None => true,
+    }
+}
+
+/// Whether a part stands behind one write.
+fn is_behind<P: Part>(part: &Entry<P>, writes: &[Write]) -> bool
+    ensures { result ≡ true → IsTrue (are_before (P.place part.now) writes.now) }
+{
+    match writes {
+        [write] => {
+            let slot = write.slot.by_ref();
+            let edge = Edge::Behind(*slot.table, slot.key, slot.label);
+            !part.is_before(&edge, &Mark::of_edge(&edge))
+        }
+        _ => false,
+    }
 }
 
 /// The first rows from an edge on, of all parts, as many as lie side by side. Each comparison of slots is a step.

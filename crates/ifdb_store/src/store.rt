@@ -1,5 +1,5 @@
 // The store: the newest content, what is prepared, and the commits that somebody may still ask for.
-ghost use Rattle.std.specs.Prelude.{◌≡◌, ◌<◌, ◌++◌, ◌∷◌, [], None, Some, IfOk, OnOk, OnErr};
+ghost use Rattle.std.specs.Prelude.{◌≡◌, ◌<◌, ◌++◌, ◌∷◌, [], None, Some, if◌then◌else◌, IfErr, IfOk, OnOk, OnErr};
 ghost use Rattle.ifdb_row.specs.Content.{after};
 ghost use Rattle.ifdb_store.specs.Kept.{is_later, trimmed};
 
@@ -93,6 +93,25 @@ impl Store {
         }
     }
 
+    /// Makes writes, in place where nobody else holds what they touch. Where memory is refused, they come back, and the rows
+    /// and the commits are as before.
+    pub fn commit(&mut self, stamp: u64, writes: Writes) -> Result<(), Writes>
+        ensures done { OnOk result (self.new ≡ record {
+          rows = after self.old.rows writes;
+          next = None;
+          commits = self.old.commits ++ record { stamp = stamp; writes = writes } ∷ [];
+        }) }
+        ensures back { IfErr result (λ back. back ≡ writes) }
+        ensures err { OnErr result (self.new ≡ record self.old { next = None }) }
+    {
+        self.next = None;
+        if self.commits.reserve(1).is_err() || !write(self.alloc, &mut self.content, &writes) {
+            return Err(writes);
+        }
+        self.commits.push_reserved(Commit { stamp, writes });
+        Ok(())
+    }
+
     /// Gives up the commits up to a stamp. Takes no memory.
     pub fn trim(&mut self, oldest: u64)
         ensures rows { self.new.rows ≡ self.old.rows }
@@ -101,6 +120,22 @@ impl Store {
     {
         self.next = None;
         give_up(&mut self.commits, oldest);
+    }
+}
+
+/// Makes writes to a content, in place where nobody else holds what they touch; where memory is refused, it is as before.
+fn write(alloc: Global, content: &mut Content, writes: &Writes) -> bool
+    ensures { content.new ≡ (if result then after content.old writes.now else content.old) }
+{
+    if content.put(alloc, writes) {
+        return true;
+    }
+    match content.after(alloc, writes) {
+        Ok(next) => {
+            *content = next;
+            true
+        }
+        Err(OutOfMemory) => false,
     }
 }
 

@@ -1,18 +1,18 @@
 // Rows in pages, in versions.
-ghost use Rattle.std.specs.Prelude.{◌≡◌, ◌≤◌, ◌<◌, ◌+◌, ◌-◌, ◌*◌, ◌^◌, [], length, IfOk, IfSome, IsTrue, None, OnOk};
+ghost use Rattle.std.specs.Prelude.{◌≡◌, ◌≤◌, ◌<◌, ◌+◌, ◌-◌, ◌*◌, ◌^◌, [], length, if◌then◌else◌, IfOk, IfSome, IsTrue, None, OnOk};
 ghost use Rattle.std.specs.List.{list_all};
 ghost use Rattle.ifdb_row.specs.ByReference.{option_row};
 ghost use Rattle.ifdb_row.specs.Content.{after, rising};
 ghost use Rattle.ifdb_row.specs.Writes.{are_fitting, are_rising};
 ghost use Rattle.ifdb_row.specs.Questions.{IsRun, first_row_from, rows_from};
 ghost use Rattle.ifdb_row.specs.Runs.{rows_in};
-ghost use Rattle.ifdb_store.specs.Pages.{are_full, is_full_node, is_limb, rows_of};
+ghost use Rattle.ifdb_store.specs.Pages.{are_full, is_full_node, is_limb, is_tree, rows_of};
 
 use crate::branch::branches_of;
 use crate::entry::Entry;
 use crate::limb::{Limb, limbs_of};
 use crate::page::cut;
-use crate::part::{Part, Regroup, bound_to, parts_after, run_from};
+use crate::part::{Part, Regroup, bound_to, parts_after, put_in, run_from};
 use crate::put::rows_after;
 use crate::steps::Steps;
 use crate::twig::twigs_of;
@@ -69,6 +69,17 @@ impl Tree {
         Ok(Tree {
             limbs: Shared::new(alloc, Sequence::from_vec(limbs))?,
         })
+    }
+
+    /// Puts writes into the rows in place. Where that can't be, as where somebody else holds a part that they touch, or where
+    /// memory is refused, the answer is no and the rows are as before.
+    pub(crate) fn put(&mut self, alloc: Global, writes: &Writes) -> bool
+        ensures { self.new ≡ (if result then after self.old writes.now else self.old) }
+    {
+        match self.limbs.get_mut() {
+            Some(limbs) => put_in_limbs(alloc, limbs, writes.items()),
+            None => false,
+        }
     }
 
     /// How many rows it has; `None` where they are too many for the type. In time the number of its pages.
@@ -145,6 +156,21 @@ impl Rows for Tree {
     fn bound_to<'a>(&'a self, slot: SlotRef<'_>, after: Option<SlotRef<'a>>) -> Option<RowRef<'a>> {
         bound_to(self.limbs(), slot, after)
     }
+}
+
+/// Puts writes into the rows of some limbs in place, if that can be.
+fn put_in_limbs(alloc: Global, limbs: &mut Sequence<Entry<Limb>>, writes: &[Write]) -> bool
+    requires tree { IsTrue (is_tree limbs.old) }
+    requires fitting { IsTrue (are_fitting writes.now) }
+    requires rising { IsTrue (are_rising writes.now) }
+    ensures rows { rows_of limbs.new
+        ≡ (if result then after (rows_of limbs.old) writes.now else rows_of limbs.old) }
+    ensures tree { IsTrue (is_tree limbs.new) }
+{
+    if limbs.is_empty() {
+        return false;
+    }
+    put_in(alloc, limbs, writes)
 }
 
 /// The limbs that hold the rows of some limbs after writes.

@@ -63,6 +63,10 @@ impl Part for Twig {
         add_twigs(alloc, self.node.after(alloc, writes)?, out)
     }
 
+    fn put(&mut self, alloc: Global, writes: &[Write]) -> bool {
+        self.node.put(alloc, writes)
+    }
+
     fn is_full(&self) -> bool {
         self.node.is_full()
     }

@@ -98,10 +98,11 @@ impl Db {
         if self.count == u64::MAX {
             return Err(OutOfMemory);
         }
-        self.store.reserve(&writes)?;
         let before = oldest_of(&self.begins, self.count);
+        if self.store.commit(self.count + 1, writes).is_err() {
+            return Err(OutOfMemory);
+        }
         self.count += 1;
-        self.store.install(self.count, writes);
         settle(&mut self.store, before, oldest_of(&self.begins, self.count));
         Ok(())
     }
