@@ -1,3 +1,4 @@
+-- decides: the program
 -- What the program does by the words of `run`, `serve` and `generate`, and by others that aren't well formed.
 use Rattle.std.specs.Prelude.{◌≡◌, ◌≢◌, ◌≤◌, ◌⊎◌, ℕ, List, String}
 use Rattle.std.specs.declared.alloc.Global.{Global}

@@ -1,3 +1,4 @@
+-- decides: the program
 -- What the program does by the words of `keep`.
 use Rattle.std.specs.Prelude.{◌≡◌, ◌≢◌, ◌⊎◌, ℕ, List, codes, None, Some, Ok, Err}
 use Rattle.ifdb_io.specs.Causes.{Rose}

@@ -1,3 +1,4 @@
+-- decides: the program
 -- How the program ends by the words that it knows beside those of `run`, `serve` and `generate`.
 use Rattle.std.specs.Prelude.{◌≡◌, ℕ, true, List, codes, String}
 use Rattle.std.specs.declared.alloc.Global.{Global}

@@ -1,3 +1,4 @@
+-- decides: the program
 -- What the program does by the words of `project`.
 use Rattle.std.specs.Prelude.{◌≡◌, ◌≢◌, ◌≤◌, ℕ, List, [], codes, Some, None}
 use Rattle.ifdb_io.specs.Causes.{Rose}

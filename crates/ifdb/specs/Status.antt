@@ -1,3 +1,4 @@
+-- decides: the program
 -- How the program may end.
 use Rattle.ifdb.specs.declared.top.Status.{Status}
 use Rattle.ifdb.specs.declared.top.Status.TheVariants.{Done, Usage, WriteFault, OutOfMemory, SiteFault}

@@ -1,3 +1,4 @@
+-- decides: the program
 -- What is written for words that ask for a text.
 use Rattle.std.specs.Prelude.{◌≡◌, ℕ, List, [], Option, Some, None}
 use Rattle.std.specs.Io.KnownBytes.{Appends}

@@ -1,3 +1,4 @@
+-- decides: the program
 -- What is written for words that begin with a command and aren't well formed.
 use Rattle.std.specs.Prelude.{◌≡◌, ℕ, List}
 use Rattle.ifdb_io.specs.Causes.{Rose}

@@ -1,3 +1,4 @@
+-- decides: the program
 -- What the words of the command line ask the program for.
 use Rattle.std.specs.Prelude.{◌≡◌, ℕ, Bool, true, false, List, codes, String, Option, Some, None}
 use Rattle.std.specs.declared.alloc.Global.{Global}

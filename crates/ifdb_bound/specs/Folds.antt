@@ -1,3 +1,4 @@
+-- decides: queries and views
 -- Functions of expressions and conditions by one step: what a node gives, once each child has given its result.
 -- They compute on trees that are written out.
 use denote.Hole.Carrier.{fold, hidden}

@@ -1,3 +1,4 @@
+-- decides: names and refusals
 -- Refusals in their order: a request is refused by the first of its checks that fails.
 use Rattle.std.specs.Prelude.{Bool, List, [], ◌∷◌, Result, Ok, Err, if◌then◌else◌}
 use Rattle.ifdb_bound.specs.declared.request.Bound.{Bound}

@@ -1,3 +1,4 @@
+-- decides: names and refusals
 -- Functions of written expressions and conditions by one step: what a node gives, once each child has given its result.
 -- They compute on trees that are written out.
 use denote.Hole.Carrier.{fold, hidden}

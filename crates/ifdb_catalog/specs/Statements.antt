@@ -1,3 +1,4 @@
+-- decides: names and refusals
 -- INSERT, UPDATE and DELETE: what they may name, which of their forms fit, and their bound trees.
 use Rattle.std.specs.Prelude.{ℕ, Bool, true, false, not, ◌&&◌, ◌==◌, List, [], ◌∷◌, map, length, slice_get, position, bytes_eq, Option, Some, None}
 use Rattle.std.specs.Option.{is_some}

@@ -1,3 +1,4 @@
+-- decides: closures
 -- Stored closures: what a CALL asks of a session of its own, and what a script with closures is told.
 use Rattle.std.specs.Prelude.{ℕ, ◌+◌, Bool, true, false, List, [], ◌∷◌, ◌++◌, ◌==◌, codes, length, map, slice_index_or, bytes_eq, Option, Some, None, is_some, Result, Ok, if◌then◌else◌}
 use Rattle.ifdb_label.specs.Label.{flows}

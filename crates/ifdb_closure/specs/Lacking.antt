@@ -1,3 +1,4 @@
+-- decides: closures
 -- What a script with closures is told, where memory is refused at some of its steps.
 use Rattle.std.specs.Prelude.{◌≡◌, ℕ, zero, suc, ◌+◌, Bool, true, false, List, [], ◌∷◌, ◌++◌, length, map, take, if◌then◌else◌}
 use Rattle.ifdb_wire.specs.declared.fault.Fault.TheVariants as fault

@@ -1,3 +1,4 @@
+-- decides: closures
 -- What the calls of a script keep to, as the program reads its lines.
 use Rattle.std.specs.Prelude.{◌≡◌, ℕ, true, List, [], ◌∷◌, is_some}
 use Rattle.ifdb_model.specs.Run.{Step, run}

@@ -1,3 +1,4 @@
+-- decides: closures
 -- How the program reads the lines of a script with closures.
 use Rattle.ifdb_db.specs.Reading.{read_line}
 use Rattle.ifdb_closure.specs.Closures.{Speech}

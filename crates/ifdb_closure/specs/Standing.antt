@@ -1,3 +1,4 @@
+-- decides: closures
 -- What a running script with closures holds, and the world that it stands for.
 use Rattle.std.specs.Prelude.{◌≡◌, ℕ, ◌-◌, true, false, List, [], ◌∷◌, nat_lt, length, map, slice_index_or, Option, Some, None, is_some, if◌then◌else◌}
 use Rattle.ifdb_model.specs.Run.{opening, Step, Told, run}

@@ -1,3 +1,4 @@
+-- decides: the grammar
 -- How a line is read.
 use Rattle.std.specs.Prelude.{◌≡◌, ◌⊎◌, List, ℕ, IsTrue, Result, Ok, Err}
 use Rattle.ifdb_syntax.specs.declared.request.Request.{Request}

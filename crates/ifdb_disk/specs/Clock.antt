@@ -1,3 +1,4 @@
+-- decides: disks
 -- What a disk shows over time: its states, each of which a call brought, and what crashes may have left at each of them.
 use Rattle.std.specs.Prelude.{◌≡◌, ◌⊎◌, ℕ, ◌+◌, ◌≤◌, max, List, ◌∷◌, ◌++◌, length, take, drop, Option, Some, None, ⊤}
 use Rattle.std.specs.List.{AllByRecursion}

@@ -1,3 +1,4 @@
+-- decides: disks
 -- What a disk shows at one moment, and what a crash may leave of it then.
 use Rattle.std.specs.Prelude.{◌≡◌, ℕ, ◌+◌, ◌<◌, ◌≤◌, Bool, false, ◌&&◌, ◌||◌, nat_lt, nat_le, List, [], ◌∷◌, ◌++◌, length, take, drop, get_or, if◌then◌else◌}
 

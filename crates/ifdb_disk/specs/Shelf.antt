@@ -1,3 +1,4 @@
+-- decides: disks
 -- What a shelf of disks shows, and what its calls do to it.
 use Rattle.std.specs.Prelude.{◌≡◌, ℕ, List, Option, Some, None, Result, Ok, Err, ⊤}
 use Rattle.ifdb_io.specs.Memory.{counted}

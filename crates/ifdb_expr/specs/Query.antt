@@ -1,3 +1,4 @@
+-- decides: queries and views
 -- What a SELECT answers at a label.
 use Rattle.std.specs.Prelude.{ℕ, Bool, true, List, [], map, slice_get, Option, Some, None, Result, Ok, Err, if◌then◌else◌}
 use Rattle.std.specs.List.{list_all}

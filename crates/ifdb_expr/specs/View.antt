@@ -1,3 +1,4 @@
+-- decides: queries and views
 -- The rows of tables and views that a label sees.
 use Rattle.std.specs.Prelude.{ℕ, Bool, List, [], ◌∷◌, ◌==◌, filter, map, flat_map, Option, option_map}
 use Rattle.ifdb_value.specs.declared.value.Value.{Value}

@@ -1,3 +1,4 @@
+-- decides: scripts
 -- What is told is framed, so that the bytes of a run say which replies it gave.
 use Rattle.std.specs.Prelude.{◌≡◌, ℕ, ◌^◌, Bool, true, ◌&&◌, nat_lt, List, map}
 use Rattle.std.specs.List.{list_all}

@@ -1,3 +1,4 @@
+-- decides: the generator's script
 -- The generator's script: four sessions set their labels to one of four tags, insert rows and count them.
 use Rattle.std.specs.Prelude.{ℕ, zero, suc, ◌+◌, ◌*◌, ◌/◌, ◌%◌, ◌==◌, ◌&&◌, nat_le, List, [], ◌++◌, codes, decimal, Option, Some, None, if◌then◌else◌}
 

@@ -1,3 +1,4 @@
+-- decides: the service
 -- What is counted of a history.
 use Rattle.std.specs.Prelude.{ℕ, ◌+◌, Bool, true, false, ◌&&◌, not, List, [], ◌∷◌, length, if◌then◌else◌}
 use Rattle.ifdb_wire.specs.declared.reply.Reply.{Reply}

@@ -1,3 +1,4 @@
+-- decides: the service
 -- The history of a served room, as steps of the machine. Lines are read by `read`.
 use Rattle.std.specs.Prelude.{◌≡◌, ℕ, ◌+◌, ◌-◌, ◌<◌, ◌≤◌, true, false, List, [], ◌∷◌, ◌++◌, length, map, if◌then◌else◌}
 use mathlib.Core.Option.{some, none}

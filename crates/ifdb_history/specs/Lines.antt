@@ -1,3 +1,4 @@
+-- decides: the service
 -- What a session asked in a history, and what it was told.
 use Rattle.std.specs.Prelude.{◌≡◌, ◌⊎◌, ℕ, ◌==◌, List, [], ◌∷◌, ◌++◌, flat_map, map, None, if◌then◌else◌}
 use Rattle.ifdb_wire.specs.Text.{reply_text}

@@ -1,3 +1,4 @@
+-- decides: bytes and faults
 -- When a failure may be answered: only where the object's own count of faults rose in this call.
 use Rattle.std.specs.Prelude.{◌≡◌, ℕ, ◌+◌, ◌-◌, ◌^◌, ◌<◌, ◌≤◌, min, List, length, take, Option, Result, OnOk, OnErr}
 use Rattle.std.specs.Io.KnownBytes.{Appends}

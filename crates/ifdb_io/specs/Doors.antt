@@ -1,3 +1,4 @@
+-- decides: the service
 -- What the calls of a door and a site do to the links and doors that are told.
 use Rattle.std.specs.Prelude.{◌≡◌, List, [], ◌∷◌, ◌++◌, Bool, true, false, Option, None, Some, Result, Ok, Err, ⊤}
 

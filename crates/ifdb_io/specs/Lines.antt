@@ -1,3 +1,4 @@
+-- decides: bytes and faults
 -- What a reader of lines makes of the bytes that it takes from a source.
 use Rattle.std.specs.Prelude.{◌≡◌, ◌≢◌, ℕ, ◌+◌, ◌-◌, ◌≤◌, ◌==◌, List, [], ◌∷◌, ◌++◌, length, Bool, true, false, Option, Result, Ok, Err, All, if◌then◌else◌}
 use Rattle.std.specs.Io.KnownBytes.{Consumes}

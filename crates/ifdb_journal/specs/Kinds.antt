@@ -1,3 +1,4 @@
+-- decides: the journal
 -- The kinds of records.
 use Rattle.std.specs.Prelude.{ℕ, Bool, ◌&&◌, ◌||◌, ◌==◌, nat_le, if◌then◌else◌}
 use Rattle.ifdb_journal.specs.declared.record.RecordKind.{RecordKind}

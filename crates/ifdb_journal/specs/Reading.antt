@@ -1,3 +1,4 @@
+-- decides: the journal
 -- How far a journal was read, what its disk holds then, and what appends do to it.
 use Rattle.std.specs.Prelude.{◌≡◌, ◌⊎◌, ℕ, ◌≤◌, List, [], ◌∷◌, ◌++◌, length, take, drop, Option, Some, None, ⊤}
 use Rattle.ifdb_disk.specs.Images.{IsImage, settled}

@@ -1,3 +1,4 @@
+-- decides: the journal
 -- The records that the bytes of a journal spell.
 --
 -- A record is a gate byte, a kind byte (1 Open, 2 Ask, 3 Restart), the session as 8 bytes and the line's length as 4 bytes, both with

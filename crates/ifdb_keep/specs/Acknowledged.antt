@@ -1,3 +1,4 @@
+-- decides: the journal
 -- What was acknowledged is kept: of two calls that take turns, one that adds a step's records and touches no output, and one that writes
 -- its reply and touches no disk.
 use Rattle.std.specs.Prelude.{◌≡◌, ℕ, ◌+◌, ◌≤◌, Bool, List, [], ◌∷◌, ◌++◌, length, take, map, flat_map, Option}

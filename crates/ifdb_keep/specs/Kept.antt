@@ -1,3 +1,4 @@
+-- decides: the journal
 -- What a kept run of a script did: what it read, what it wrote of what it was told, and what the disk holds.
 use Rattle.std.specs.Prelude.{◌≡◌, ℕ, ◌<◌, ◌≤◌, List, [], ◌∷◌, ◌++◌, length, take, Option}
 use Rattle.std.specs.Io.KnownBytes.{Appends, Consumes, IsAtEnd}

@@ -1,3 +1,4 @@
+-- decides: the journal
 -- A script's sessions have numbers of their own, from 1. In the room they stand behind those that were opened before it, of which there
 -- are so many, the base.
 use Rattle.std.specs.Prelude.{ℕ, ◌+◌, ◌-◌, List, map}

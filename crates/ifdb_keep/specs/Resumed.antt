@@ -1,3 +1,4 @@
+-- decides: the journal
 -- How a call goes on from the records of a journal.
 use Rattle.std.specs.Prelude.{◌≡◌, ◌⊎◌, ℕ, Bool, List, [], ◌∷◌, ◌++◌, length, take, Option, if◌then◌else◌}
 use Rattle.ifdb_disk.specs.Images.{IsImage}

@@ -1,3 +1,4 @@
+-- decides: the journal
 -- How a script's lines are taken, one by one.
 use Rattle.std.specs.Prelude.{◌≡◌, ◌⊎◌, ℕ, ◌<◌, ◌≤◌, length, List, [], ◌∷◌, ◌++◌, Option}
 use Rattle.ifdb_disk.specs.Clock.{Clock}

@@ -1,3 +1,4 @@
+-- decides: labels and authority
 -- Labels: rising lists of tags, and how they flow.
 use Rattle.std.specs.Prelude.{ℕ, Bool, true, List, [], ◌∷◌, ◌++◌, ◌==◌, ◌&&◌, not, nat_lt, filter, if◌then◌else◌}
 use Rattle.std.specs.List.{list_all, list_any}

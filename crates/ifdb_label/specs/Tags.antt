@@ -1,3 +1,4 @@
+-- decides: labels and authority
 -- Tags: their kinds and parents, and which is below which. A tag is a number, the place at which it was made.
 use Rattle.std.specs.Prelude.{ℕ, zero, suc, Bool, List, [], true, false, Option, Some, None, option_map, not, if◌then◌else◌, ◌==◌, ◌||◌, nat_lt, length, slice_get, slice_index_or, IsTrue}
 use Rattle.std.specs.List.{list_all, list_any}

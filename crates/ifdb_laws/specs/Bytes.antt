@@ -1,3 +1,4 @@
+-- decides: scripts
 -- What can be read back from the bytes that a run writes.
 use Rattle.std.specs.Prelude.{◌≡◌, ℕ, ◌^◌, Bool, true, List, ◌==◌, ◌&&◌, not, nat_lt, length, map}
 use Rattle.std.specs.List.{list_all}

@@ -1,3 +1,4 @@
+-- decides: two worlds
 -- Two worlds for scripts, of which one was run and the other is any. For every reading of lines.
 use Rattle.std.specs.Prelude.{◌≡◌, ℕ, Bool, true, List, not}
 use Rattle.std.specs.List.{list_all}

@@ -1,3 +1,4 @@
+-- decides: two worlds
 -- What the laws of two worlds say of the server. A level is any list of tags, and a session is inside it while its label
 -- flows to it. Each law is for every reading of lines.
 use Rattle.std.specs.Prelude.{◌≡◌, ℕ, true, false, List}

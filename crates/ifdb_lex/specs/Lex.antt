@@ -1,3 +1,4 @@
+-- decides: the grammar
 -- What a line's tokens are, or which fault it has.
 use Rattle.std.specs.Prelude.{ℕ, min, if◌then◌else◌, nat_lt, List, length, Result, Ok, Err}
 use Rattle.std.specs.Str.Lossy.{utf8_valid_len}

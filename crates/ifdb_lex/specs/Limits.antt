@@ -1,3 +1,4 @@
+-- decides: the grammar
 -- The limits that the tokens of a line keep.
 use Rattle.std.specs.Prelude.{ℕ, ◌≤◌, ◌+◌, ◌-◌, ◌^◌, Bool, true, false, ◌&&◌, ◌||◌, ◌==◌, if◌then◌else◌, nat_lt, List, [], ◌∷◌, slice_range, count_by, codes, length, All}
 use Rattle.std.specs.List.{list_any}

@@ -1,3 +1,4 @@
+-- decides: the machine
 -- The log: all changes of the server, in their order.
 use Rattle.std.specs.Prelude.{ℕ, ◌+◌, List, [], ◌∷◌, ◌++◌, drop}
 use Rattle.ifdb_label.specs.Tags.{MadeTag}

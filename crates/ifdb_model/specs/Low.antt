@@ -1,3 +1,4 @@
+-- decides: two worlds
 -- What lies inside a level: the steps that are asked there, what they are told, and the part of a state. A level is any
 -- list of tags; it need be no label, and its tags need not be made.
 use Rattle.std.specs.Prelude.{ℕ, Bool, true, List, [], ◌∷◌, ◌++◌, map, length, take, drop, flat_map, Option, Some, None, if◌then◌else◌}

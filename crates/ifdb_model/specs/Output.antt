@@ -1,3 +1,4 @@
+-- decides: replies as text
 -- What a script's run writes, where memory was refused at some of its steps.
 use Rattle.std.specs.Prelude.{ℕ, Bool, true, false, List, [], ◌∷◌, ◌==◌, flat_map, Some, if◌then◌else◌}
 use Rattle.ifdb_wire.specs.declared.fault.Fault.{Fault}

@@ -1,3 +1,4 @@
+-- decides: the machine
 -- The reply to a SELECT.
 use Rattle.std.specs.Prelude.{ℕ, List, length, Result, Ok, Err}
 use Rattle.ifdb_value.specs.declared.value.Value.{Value}

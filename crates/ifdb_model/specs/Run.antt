@@ -1,3 +1,4 @@
+-- decides: the machine
 -- Runs: steps of sessions that take turns.
 use Rattle.std.specs.Prelude.{ℕ, ◌+◌, ◌-◌, List, [], ◌∷◌, ◌++◌, length, slice_index_or, slice_set, nat_lt, option_to_list, if◌then◌else◌}
 use Rattle.ifdb_wire.specs.declared.fault.Fault.TheVariants as fault

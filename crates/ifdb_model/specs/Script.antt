@@ -1,3 +1,4 @@
+-- decides: scripts
 -- The lines of a script, and their steps.
 use Rattle.std.specs.Prelude.{ℕ, List, [], ◌∷◌, ◌==◌, flat_map, if◌then◌else◌}
 use Rattle.ifdb_wire.specs.Script as script

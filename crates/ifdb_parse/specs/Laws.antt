@@ -1,3 +1,4 @@
+-- decides: the grammar
 -- What the laws of this crate say.
 use Rattle.std.specs.Prelude.{◌≡◌, ◌↔◌, ◌⊎◌, ℕ, Bool, true, false, ◌||◌, not, List, Ok, Err}
 use Rattle.ifdb_lex.specs.declared.token.Token.{Token}

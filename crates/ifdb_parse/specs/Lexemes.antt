@@ -1,3 +1,4 @@
+-- decides: the grammar
 -- What the tokens of a line say: reserved words in any case, names in small letters, numbers, texts without their quotes, and symbols.
 use Rattle.std.specs.Prelude.{ℕ, ◌+◌, ◌-◌, ◌&&◌, ◌==◌, if◌then◌else◌, List, [], ◌∷◌, map, slice_range, Option, Some, None}
 use Rattle.std.specs.Str.{str_eq_ignore_ascii_case}

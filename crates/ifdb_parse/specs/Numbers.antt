@@ -1,3 +1,4 @@
+-- decides: the grammar
 -- Whether each number of a tree, as it is written, is one that a value holds: from -2^63 to 2^63 - 1.
 use Rattle.std.specs.Prelude.{◌^◌, Bool, true, ◌&&◌, nat_lt}
 use Rattle.std.specs.List.{list_all}

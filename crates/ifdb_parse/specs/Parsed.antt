@@ -1,3 +1,4 @@
+-- decides: the grammar
 -- What a line's request is, or which fault it has: the faults of tokens first, then those of the grammar, then the limits
 -- of the tree.
 use Rattle.std.specs.Prelude.{ℕ, ◌-◌, if◌then◌else◌, List, [], ◌∷◌, length, drop, Result, Ok, Err}

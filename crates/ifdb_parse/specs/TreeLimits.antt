@@ -1,3 +1,4 @@
+-- decides: the grammar
 -- The limits that the lexemes of a line and its tree keep.
 use Rattle.std.specs.Prelude.{ℕ, ◌^◌, Bool, false, ◌||◌, ◌==◌, nat_lt, List, [], ◌∷◌, length, Option, Some, None}
 use Rattle.std.specs.List.{list_any}

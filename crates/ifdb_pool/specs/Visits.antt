@@ -1,3 +1,4 @@
+-- decides: the service
 -- Connections that came, were served and went back.
 use Rattle.std.specs.Prelude.{◌≡◌, List, [], ◌∷◌, ◌++◌, Option, None, Some, ⊤}
 

@@ -1,3 +1,4 @@
+-- decides: the journal
 -- Lines whose first word is SELECT or SHOW.
 use Rattle.std.specs.List.{prefix_len}
 use Rattle.std.specs.Prelude.{Bool, ◌||◌, take, if◌then◌else◌, ◌≡◌, ◌⊎◌, ℕ, List, [], ◌∷◌, ◌++◌, Result, Ok, Err, Some, codes, ⊤}

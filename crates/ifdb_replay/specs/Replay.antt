@@ -1,3 +1,4 @@
+-- decides: the journal
 -- What records stand for, and which steps have a record.
 use Rattle.std.specs.Prelude.{◌≡◌, ℕ, ◌+◌, Bool, true, not, ◌&&◌, List, [], ◌∷◌, ◌++◌, Result, Ok, Err, if◌then◌else◌, ⊤}
 use Rattle.ifdb_journal.specs.declared.record.Record.{Record}

@@ -1,3 +1,4 @@
+-- decides: scripts
 -- What a run of a script comes to, in numbers.
 use Rattle.std.specs.Prelude.{ℕ, Bool, true, false, List, ◌++◌, filter, length, map, codes, decimal}
 use Rattle.ifdb_wire.specs.declared.reply.Reply.{Reply}

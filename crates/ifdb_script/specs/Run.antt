@@ -1,3 +1,4 @@
+-- decides: scripts
 -- What a run of a script did: what it read, what it was told, and what it wrote of that.
 use Rattle.std.specs.Prelude.{◌≡◌, ◌⊎◌, ℕ, ◌==◌, ◌<◌, ◌≤◌, Bool, true, List, [], ◌∷◌, ◌++◌, length, take, Option, if◌then◌else◌}
 use Rattle.std.specs.List.{list_all}

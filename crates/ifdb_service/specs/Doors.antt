@@ -1,3 +1,4 @@
+-- decides: the service
 -- What the service of doors did, as runs of doors in one history.
 use Rattle.std.specs.Prelude.{◌≡◌, ◌≢◌, ℕ, ◌+◌, Bool, true, false, List, [], ◌∷◌, ◌++◌, map, All, if◌then◌else◌}
 use Rattle.ifdb_io.specs.Causes.{Rose}

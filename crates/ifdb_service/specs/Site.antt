@@ -1,3 +1,4 @@
+-- decides: the service
 -- What the service of a site did.
 use Rattle.std.specs.Prelude.{◌≡◌, ◌⊎◌, ℕ, ◌<◌, List, [], ◌++◌, map, length, All, Some}
 use Rattle.std.specs.Io.KnownBytes.{Appends}

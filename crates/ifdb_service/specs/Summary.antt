@@ -1,3 +1,4 @@
+-- decides: the service
 -- What a service writes to its output.
 use Rattle.std.specs.Prelude.{ℕ, List, ◌++◌, codes, decimal}
 use Rattle.ifdb_session.specs.declared.counts.Counts.{Counts}

@@ -1,3 +1,4 @@
+-- decides: the service
 -- How a session was closed: by BYE, or since it left.
 use Rattle.std.specs.Prelude.{◌≡◌, ◌⊎◌, ℕ, Bool, true, false, List, [], ◌∷◌, ◌++◌, Ok}
 use Rattle.ifdb_syntax.specs.declared.request.Request.TheVariants as request

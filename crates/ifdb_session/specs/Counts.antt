@@ -1,3 +1,4 @@
+-- decides: the service
 -- What is counted of the turns at a shared room.
 use Rattle.std.specs.Prelude.{◌≡◌, ℕ, ◌+◌, Bool, true, false, ◌&&◌, ◌||◌, not, nat_lt, List, length, Option, Some, None, if◌then◌else◌}
 use Rattle.std.specs.Option.{is_some}

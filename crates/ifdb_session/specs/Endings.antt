@@ -1,3 +1,4 @@
+-- decides: the service
 -- Ends of connections that count as faults.
 use Rattle.std.specs.Prelude.{ℕ, ◌-◌, ◌^◌, min, Bool, true, false, if◌then◌else◌}
 use Rattle.ifdb_session.specs.declared.ending.Ending.{Ending}

@@ -1,3 +1,4 @@
+-- decides: the service
 -- What a host does with the connections that it serves.
 use Rattle.std.specs.Prelude.{◌≡◌, ◌≢◌, ℕ, ◌+◌, ◌≤◌, ◌^◌}
 use Rattle.ifdb_io.specs.Causes.{Rose}

@@ -1,3 +1,4 @@
+-- decides: the grammar
 -- What a fault says of the language alone: of no parser, and of no order in which rules are tried.
 use Rattle.std.specs.Prelude.{◌≡◌, ℕ, [], ◌∷◌, ◌++◌, length}
 use Rattle.ifdb_syntax.specs.declared.lexeme.Lexeme.{Lexeme}

@@ -1,3 +1,4 @@
+-- decides: the grammar
 -- Languages: which lexemes spell which value. Each rule of the grammar is one, and reads as in the written grammar.
 use Rattle.std.specs.Prelude.{◌≡◌, ℕ, zero, suc, List, [], ◌∷◌, ◌++◌, Option, Some, None, ◌⊎◌}
 use Rattle.ifdb_syntax.specs.declared.lexeme.Lexeme.{Lexeme}

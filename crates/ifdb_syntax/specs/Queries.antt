@@ -1,3 +1,4 @@
+-- decides: the grammar
 -- SELECT, and the SELECT of a view.
 use Rattle.std.specs.Prelude.{ℕ, Bool, true, false, List, [], ◌∷◌, Option}
 use Rattle.ifdb_syntax.specs.declared.expression.ColumnRef.{ColumnRef}

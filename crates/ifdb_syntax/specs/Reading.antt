@@ -1,3 +1,4 @@
+-- decides: the grammar
 -- How numbers and chains of operators are read: as the grammar is written, and within the limits of a line.
 use Rattle.std.specs.Prelude.{ℕ, ◌+◌, ◌-◌, ◌^◌, min, ℤ, pos, neg_ℤ, nat_lt, if◌then◌else◌}
 use Rattle.ifdb_syntax.specs.declared.expression.Expr.{Expr}

@@ -1,3 +1,4 @@
+-- decides: the grammar
 -- How each lexeme is written: reserved words in capitals, names as they are, numbers in decimal, texts in quotes.
 use Rattle.std.specs.Prelude.{ℕ, List, [], ◌∷◌, ◌++◌, ◌==◌, if◌then◌else◌, codes, decimal, flat_map}
 use Rattle.ifdb_syntax.specs.declared.lexeme.Lexeme.{Lexeme}

@@ -1,3 +1,4 @@
+-- decides: the grammar
 -- Kinds of lexemes: reserved words, symbols, names, numbers and texts. A set of kinds is a list of numbers.
 use Rattle.std.specs.Prelude.{ℕ, ◌==◌, List, Option, Some, None, if◌then◌else◌}
 use Rattle.ifdb_syntax.specs.declared.lexeme.Lexeme.{Lexeme}

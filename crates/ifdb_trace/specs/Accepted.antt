@@ -1,3 +1,4 @@
+-- decides: recorded runs
 -- Traces: recorded runs. Which are accepted, and which line of one that isn't is the first wrong one.
 use Rattle.std.specs.Prelude.{◌≡◌, ◌⊎◌, ℕ, ◌+◌, ◌<◌, ◌≤◌, Bool, true, List, [], ◌∷◌, ◌++◌, codes, flat_map, length, map, nat_le, take}
 use Rattle.std.specs.List.{list_all}

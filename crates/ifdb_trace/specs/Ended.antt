@@ -1,3 +1,4 @@
+-- decides: recorded runs
 -- The lines of a text of which more may come.
 use Rattle.std.specs.Prelude.{ℕ, Bool, List, [], ◌∷◌, ◌++◌, ◌==◌, length, drop, filter, nat_lt, if◌then◌else◌}
 use Rattle.ifdb_io.specs.declared.lines.TheConstants.{LONGEST_LINE}

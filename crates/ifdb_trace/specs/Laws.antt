@@ -1,3 +1,4 @@
+-- decides: recorded runs
 -- What the laws of traces and of projected scripts say, for every reading of lines. A level is any list of tags.
 use Rattle.std.specs.Prelude.{◌≡◌, ◌≤◌, ◌<◌, ◌+◌, ◌^◌, ℕ, true, false, List, [], ◌∷◌, ◌++◌, flat_map, length, None, Some}
 use Rattle.ifdb_model.specs.Step.{Reader}

@@ -1,3 +1,4 @@
+-- decides: recorded runs
 -- What a script comes to below a level: the lines whose steps are asked there. A level is any list of tags.
 use Rattle.std.specs.Prelude.{ℕ, List, [], ◌∷◌, ◌++◌, replicate, if◌then◌else◌}
 use Rattle.ifdb_model.specs.Step.{Reader}

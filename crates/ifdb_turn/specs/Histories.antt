@@ -1,3 +1,4 @@
+-- decides: the service
 -- Histories: lists of entries, the oldest first.
 use Rattle.std.specs.Prelude.{◌≡◌, ℕ, ◌≤◌, nat_lt, if◌then◌else◌, List, [], ◌∷◌, ◌++◌, length}
 use mathlib.Core.List.{IsPrefix}

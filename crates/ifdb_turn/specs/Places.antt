@@ -1,3 +1,4 @@
+-- decides: the service
 -- Places of entries in a history, as rising lists.
 use Rattle.std.specs.Prelude.{◌≡◌, ℕ, ◌+◌, ◌≤◌, ◌==◌, nat_lt, if◌then◌else◌, List, [], ◌∷◌}
 

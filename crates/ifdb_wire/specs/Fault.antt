@@ -1,3 +1,4 @@
+-- decides: replies as text
 -- The numbers and texts of refusals.
 use Rattle.std.specs.Prelude.{ℕ, List, [], ◌++◌, codes, decimal}
 use Rattle.ifdb_wire.specs.declared.fault.Fault.{Fault}

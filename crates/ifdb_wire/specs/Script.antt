@@ -1,3 +1,4 @@
+-- decides: replies as text
 -- What a line of a script asks for.
 use Rattle.std.specs.Prelude.{ℕ, ◌+◌, ◌-◌, ◌<◌, ◌^◌, ◌==◌, nat_lt, if◌then◌else◌, codes, Option, Some, None}
 use Rattle.std.specs.Prelude.{List, [], length, take, drop, slice_index, position}

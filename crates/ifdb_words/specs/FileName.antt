@@ -1,3 +1,4 @@
+-- decides: the command line
 -- Names of files in words.
 use Rattle.std.specs.Prelude.{ℕ, ◌&&◌, List, length, nat_le, Option, Some, None, if◌then◌else◌}
 

@@ -1,3 +1,4 @@
+-- decides: the command line
 -- The first word of the command line, and the words behind it.
 use Rattle.std.specs.Prelude.{ℕ, Bool, false, List, [], ◌∷◌, map, string_bytes, String}
 use Rattle.std.specs.Str.{bytes_eq}

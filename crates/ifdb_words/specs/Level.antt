@@ -1,3 +1,4 @@
+-- decides: the command line
 -- Levels in words: lists of tags.
 use Rattle.std.specs.Prelude.{ℕ, ◌==◌, ◌&&◌, List, [], length, map, codes, nat_le, Option, Some, None, if◌then◌else◌}
 use Rattle.std.specs.List.{list_all, slice_split}

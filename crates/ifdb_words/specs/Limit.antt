@@ -1,3 +1,4 @@
+-- decides: the command line
 -- How many bytes are taken.
 use Rattle.std.specs.Prelude.{ℕ, ◌^◌, List, [], ◌∷◌, Option, codes, option_and_then}
 use Rattle.ifdb_words.specs.Numbers.{number_or}

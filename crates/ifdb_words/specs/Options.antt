@@ -1,3 +1,4 @@
+-- decides: the command line
 -- The options of a command, each with its value: `--name value` in two words, or `--name=value` in one.
 use Rattle.std.specs.Prelude.{ℕ, ◌==◌, ◌&&◌, Bool, false, List, [], ◌∷◌, ◌++◌, Option, Some, None, option_and_then, option_map, if◌then◌else◌}
 use Rattle.std.specs.List.{list_any, before_first, after_first}

@@ -1,3 +1,4 @@
+-- decides: the command line
 -- The words behind `project`.
 use Rattle.std.specs.Prelude.{ℕ, List, [], ◌∷◌, Option, Some, None, codes, option_and_then}
 use Rattle.ifdb_words.specs.Options.{uses_of, values_of}

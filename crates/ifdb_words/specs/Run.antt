@@ -1,3 +1,4 @@
+-- decides: the command line
 -- The words behind `run`.
 use Rattle.std.specs.Prelude.{ℕ, List, Option, option_map}
 use Rattle.ifdb_words.specs.Limit.{limit_in}

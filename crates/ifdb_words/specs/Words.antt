@@ -1,3 +1,4 @@
+-- decides: the command line
 -- The words of the command line.
 use Rattle.std.specs.Prelude.{ℕ, List, [], ◌∷◌, map, codes, string_bytes, String, Option, None, if◌then◌else◌}
 use Rattle.std.specs.Str.{bytes_eq}

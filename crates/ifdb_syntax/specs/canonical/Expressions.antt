@@ -1,3 +1,4 @@
+-- decides: canonical text
 -- The canonical lexemes of expressions, with the parentheses that they need and no others.
 use Rattle.std.specs.Prelude.{Bool, true, false, ◌∷◌, ◌++◌}
 use Rattle.ifdb_syntax.specs.declared.lexeme.Lexeme.TheVariants as t

@@ -1,3 +1,4 @@
+-- decides: canonical text
 -- The canonical lexemes of a SELECT.
 use Rattle.std.specs.Prelude.{ℕ, Bool, true, false, List, [], ◌∷◌, ◌++◌, bytes_eq, Option, Some, None, if◌then◌else◌}
 use Rattle.ifdb_syntax.specs.declared.lexeme.Lexeme.{Lexeme}

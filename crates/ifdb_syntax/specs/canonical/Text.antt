@@ -1,3 +1,4 @@
+-- decides: canonical text
 -- The canonical text of lexemes: each as it is spelled, and between two neighbours one space or nothing.
 use Rattle.std.specs.Prelude.{ℕ, List, [], ◌∷◌, ◌++◌}
 use Rattle.ifdb_syntax.specs.declared.lexeme.Lexeme.{Lexeme}
