@@ -1,9 +1,9 @@
 // A disk in memory.
-ghost use Rattle.std.specs.Prelude.{◌≡◌, ◌<◌, ◌≤◌, ◌+◌, ◌-◌, ◌^◌, Some, [], is_err, length, IfOk, OnOk, OnErr};
+ghost use Rattle.std.specs.Prelude.{◌≡◌, ◌<◌, ◌≤◌, ◌+◌, ◌-◌, ◌^◌, Some, [], false, is_err, length, IfOk, OnOk, OnErr};
 ghost use Rattle.std.specs.Io.{ReadsAtMost};
 ghost use Rattle.ifdb_io.specs.Causes.{HasCause};
-ghost use Rattle.ifdb_disk.specs.Images.{IsImage, filled, synced, written};
-ghost use Rattle.ifdb_disk.specs.Clock.{MayHaveWritten, goes};
+ghost use Rattle.ifdb_disk.specs.Images.{IsImage, Reads, filled, synced, written};
+ghost use Rattle.ifdb_disk.specs.Clock.{MayHaveWritten, Now, goes};
 ghost use Rattle.ifdb_disk.specs.Memory.{after_sync, after_write, clock_of, sync_fails, write_fails};
 
 use crate::Disk;
@@ -130,11 +130,29 @@ impl Disk for MemoryDisk {
 
     ghost present = { λ d. kept_image d };
 
-    fn len(&mut self) -> Result<u64, Failed> {
+    /// Never fails.
+    fn len(&mut self) -> Result<u64, Failed>
+        ensures bound { IfOk result (λ n. n < 2 ^ 62) }
+        ensures length { IfOk result
+            (λ n. Now (Some (clock_of self.old)) (λ s. n ≡ length s.bytes)) }
+        ensures still { Some (clock_of self.new) ≡ Some (clock_of self.old) }
+        ensures cause { HasCause self.old.faults self.new.faults result }
+        ensures never_fails { is_err result ≡ false }
+        ensures state { self.new ≡ self.old }
+    {
         Ok(self.track.bytes().len() as u64)
     }
 
-    fn read(&mut self, at: u64, buf: &mut [u8]) -> Result<usize, Failed> {
+    /// Never fails, and gives as much as the buffer has room for.
+    fn read(&mut self, at: u64, buf: &mut [u8]) -> Result<usize, Failed>
+        ensures bound { ReadsAtMost result buf.new }
+        ensures end { IfOk result (λ n. 0 < n → at + n < 2 ^ 62) }
+        ensures bytes { IfOk result (λ n. Now (Some (clock_of self.old)) (Reads at n buf.new)) }
+        ensures still { Some (clock_of self.new) ≡ Some (clock_of self.old) }
+        ensures cause { HasCause self.old.faults self.new.faults result }
+        ensures never_fails { is_err result ≡ false }
+        ensures state { self.new ≡ self.old }
+    {
         let bytes = self.track.bytes();
         if at >= bytes.len() as u64 {
             return Ok(0);

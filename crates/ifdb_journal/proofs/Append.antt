@@ -6,20 +6,20 @@ use Rattle.std.specs.Prelude.{Option, Some, None}
 use Rattle.ifdb_disk.specs.Images.{IsImage, overwritten, settled, written, synced}
 use Rattle.ifdb_disk.specs.Clock.{Clock, Torn, goes, Now, Leaves, Stored}
 use Rattle.ifdb_disk.proofs.Moments.{since_here, leaves_weaker, leaves_on}
-use Rattle.ifdb_journal.specs.Records.{IsFront, Spells, bytes_of, records}
+use Rattle.ifdb_journal.specs.Records.{IsFront, ReadsAs, Spells, bytes_of}
 use Rattle.ifdb_journal.specs.declared.record.Record.{Record}
 use Rattle.ifdb_journal.specs.Reading.{IsEnd, Holds, HasAllOrNone}
-use Rattle.ifdb_journal.proofs.Scan.{front_both, front_gate, front_opens, front_short, records_closed}
+use Rattle.ifdb_journal.proofs.Scan.{front_both, front_gate, front_opens, front_short, reads_closed}
 
 -- what was there up to and with the closed gate stands in each outcome of the first write
-pub torn_behind : (b : List ℕ) (es : List Record) (at n : ℕ) (c : List ℕ) → IsEnd b es at → Torn b (at + 1) n c → records c ≡ es
+pub torn_behind : (b : List ℕ) (es : List Record) (at n : ℕ) (c : List ℕ) → IsEnd b es at → Torn b (at + 1) n c → ReadsAs es c
 torn_behind b es at n c end torn =
     let front = end.front in
     let gated : b ≡ (front ++ 0 ∷ []) ++ end.tail = end.split ∙ sym (append_assoc front (0 ∷ []) end.tail) in
     let size : length (front ++ 0 ∷ []) ≡ at + 1 = omega (arith, length-append front (0 ∷ []), end.size) in
     let head : take (at + 1) c ≡ front ++ 0 ∷ [] = torn.before ∙ ap (take (at + 1)) gated ∙ take_at (front ++ 0 ∷ []) end.tail (at + 1) size in
     let whole : c ≡ front ++ 0 ∷ drop (at + 1) c = sym (take-append-drop (at + 1) c) ∙ ap (λ (l : List ℕ). l ++ drop (at + 1) c) head ∙ append_assoc front (0 ∷ []) (drop (at + 1) c) in
-    ap records whole ∙ records_closed front es (drop (at + 1) c) end.is
+    subst (ReadsAs es) (sym whole) (reads_closed front es (drop (at + 1) c) end.is)
 
 -- the disk after the first write: the batch stands whole behind the closed gate, and its own closed gate behind it
 pub record Staged (front text b : List ℕ) : Type 0 where
@@ -58,8 +58,8 @@ module _ (front : List ℕ) (es : List Record) (at : ℕ) (text : List ℕ) (bat
 
   with_gate : (gate : ℕ) → HasAllOrNone es batch (front ++ gate ∷ (text ++ 0 ∷ staged.tail))
   with_gate gate = elim (cases_eq gate 0) [
-    | inl shut ↦ inl (ap (λ g. records (front ++ g ∷ (text ++ 0 ∷ staged.tail))) shut ∙ records_closed front es (text ++ 0 ∷ staged.tail) is)
-    | inr nonzero ↦ inr (ap records (sym (append_assoc front (gate ∷ text) (0 ∷ staged.tail))) ∙ records_closed (front ++ gate ∷ text) (es ++ batch) staged.tail (opened_by gate nonzero))
+    | inl shut ↦ inl (subst (λ g. ReadsAs es (front ++ g ∷ (text ++ 0 ∷ staged.tail))) (sym shut) (reads_closed front es (text ++ 0 ∷ staged.tail) is))
+    | inr nonzero ↦ inr (subst (ReadsAs (es ++ batch)) (append_assoc front (gate ∷ text) (0 ∷ staged.tail)) (reads_closed (front ++ gate ∷ text) (es ++ batch) staged.tail (opened_by gate nonzero)))
   ]
 
   -- the batch stands whole in each outcome of the second write, and counts or doesn't

@@ -4,7 +4,7 @@ use Rattle.std.specs.Prelude.{Some, None, nat_le, nat_lt, ◌==◌, ◌&&◌, if
 use Rattle.std.proofs.lemmas.List.{take_at, drop_at, append-nil}
 use Rattle.std.proofs.lemmas.Nat.{from_be_bytes-to_be_bytes_4, from_be_bytes-to_be_bytes_8}
 use Rattle.std.proofs.lemmas.Bool.Decides.{nat_tests}
-use Rattle.ifdb_journal.specs.Records.{IsLawful, IsFront, body, kind_at, session_at, size_at, is_whole, record_at, scan, break, records}
+use Rattle.ifdb_journal.specs.Records.{IsLawful, IsFront, body, kind_at, session_at, size_at, is_whole, record_at, scan, break, records, damage, ReadsAs}
 use Rattle.ifdb_journal.specs.Kinds.{is_fine, kind_of, kind_byte}
 use Rattle.ifdb_journal.specs.declared.record.Record.{Record}
 use Rattle.ifdb_journal.specs.declared.record.RecordKind.{RecordKind}
@@ -112,7 +112,7 @@ front_opens gate bytes e es is shut =
     let none : scan 0 (gate ∷ (bytes ++ 0 ∷ [])) ≡ [] = ap (λ g. scan 0 (g ∷ (bytes ++ 0 ∷ []))) shut in
     no_records es e [] (sym none ∙ is.records 0 [])
 
-pub records_closed : (front : List ℕ) (es : List Record) (rest : List ℕ) → IsFront front es → records (front ++ 0 ∷ rest) ≡ es
+records_closed : (front : List ℕ) (es : List Record) (rest : List ℕ) → IsFront front es → records (front ++ 0 ∷ rest) ≡ es
 records_closed front es rest is = by_length (nat_le (length (front ++ 0 ∷ rest)) 1) refl
   where
     by_length : (short : Bool) → nat_le (length (front ++ 0 ∷ rest)) 1 ≡ short → (if short then [] else scan 0 (front ++ 0 ∷ rest)) ≡ es
@@ -120,6 +120,17 @@ records_closed front es rest is = by_length (nat_le (length (front ++ 0 ∷ rest
         let le : length (front ++ 0 ∷ rest) ≤ 1 = grind (arith, nat_tests) in
         sym (front_short front es is (omega (arith, le, length-append front (0 ∷ rest))))
     by_length false is_long = is.records 0 rest ∙ append-nil es
+
+damage_closed : (front : List ℕ) (es : List Record) (rest : List ℕ) → IsFront front es → damage (front ++ 0 ∷ rest) ≡ None
+damage_closed front es rest is = by_length (nat_le (length (front ++ 0 ∷ rest)) 1)
+  where
+    by_length : (short : Bool) → (if short then None else break 0 0 (front ++ 0 ∷ rest)) ≡ None
+    by_length true = refl
+    by_length false = is.breaks 0 0 rest
+
+-- a front and a closed gate read whole
+pub reads_closed : (front : List ℕ) (es : List Record) (rest : List ℕ) → IsFront front es → ReadsAs es (front ++ 0 ∷ rest)
+reads_closed front es rest is = record { has = records_closed front es rest is; whole = damage_closed front es rest is }
 
 and_all : (a b c : Bool) → a ≡ true → b ≡ true → c ≡ true → (a && b && c) ≡ true
 and_all a b c x y z = λ i. x i && y i && z i

@@ -8,14 +8,14 @@ use Rattle.std.specs.Int.{w32, w64, from_be_bytes}
 use Rattle.ifdb_disk.specs.Images.{settled}
 use Rattle.ifdb_disk.specs.Clock.{Clock, Now}
 use Rattle.ifdb_journal.specs.declared.record.RecordKind.{RecordKind}
-use Rattle.ifdb_journal.specs.Records.{IsFront, kind_at, session_at, size_at, is_whole, record_at, break, records, damage}
+use Rattle.ifdb_journal.specs.Records.{ReadsAs, kind_at, session_at, size_at, is_whole, record_at, break, damage}
 use Rattle.ifdb_journal.specs.Kinds.{is_fine, kind_of}
 use Rattle.ifdb_journal.specs.declared.record.Record.{Record}
 use Rattle.ifdb_journal.specs.Reading.{Place, IsReadTo, IsEnd, IsAt, StandsAt, ReadTo, Holds, SpellsWhole, BreaksAt}
 use Rattle.ifdb_journal.specs.Found.{IsFound, is_broken}
 use Rattle.ifdb_journal.specs.declared.found.Found.{Found}
 use Rattle.ifdb_journal.specs.declared.found.Found.TheVariants as found
-use Rattle.ifdb_journal.proofs.Scan.{IsBody, front_more, records_closed}
+use Rattle.ifdb_journal.proofs.Scan.{IsBody, front_more, reads_closed}
 
 and_parts : (a b c : Bool) → (a && b && c) ≡ true → (a ≡ true) × (b ≡ true) × (c ≡ true)
 and_parts true true true is = (refl, refl, refl)
@@ -151,19 +151,11 @@ read_more bytes es at read nonzero whole = by_rest (drop (13 + size_at r) r) ref
 
 -- ---- nothing more, or damage
 
-damage_closed : (front : List ℕ) (es : List Record) (rest : List ℕ) → IsFront front es → damage (front ++ 0 ∷ rest) ≡ None
-damage_closed front es rest is = by_length (nat_le (length (front ++ 0 ∷ rest)) 1)
-  where
-    by_length : (short : Bool) → (if short then None else break 0 0 (front ++ 0 ∷ rest)) ≡ None
-    by_length true = refl
-    by_length false = is.breaks 0 0 rest
-
-pub shut_end : (bytes : List ℕ) (es : List Record) (at : ℕ) (read : IsReadTo bytes es at) → read.gate ≡ 0 → IsEnd bytes es at × (records bytes ≡ es) × (damage bytes ≡ None)
+pub shut_end : (bytes : List ℕ) (es : List Record) (at : ℕ) (read : IsReadTo bytes es at) → read.gate ≡ 0 → IsEnd bytes es at × ReadsAs es bytes
 shut_end bytes es at read shut =
     let split : bytes ≡ read.front ++ 0 ∷ read.rest = read.split ∙ ap (λ g. read.front ++ g ∷ read.rest) shut in (
       record { front = read.front; tail = read.rest; split = split; size = read.size; is = read.is },
-      ap records split ∙ records_closed read.front es read.rest read.is,
-      ap damage split ∙ damage_closed read.front es read.rest read.is,
+      subst (ReadsAs es) (sym split) (reads_closed read.front es read.rest read.is),
     )
 
 -- what is no whole record in its first bytes is none in all
@@ -231,7 +223,7 @@ next_end (Some c) rs p read is =
     let front = fronted c read.0 rs at read.1 read.2 in
     let shut : read.2.gate ≡ 0 = sym (first_same 0 read.2.gate is.0 (take 65549 read.2.rest) (sym is.1 ∙ front)) in
     let end = shut_end read.0 rs at read.2 shut in
-    ((read.0, read.1, end.0), subst (λ s. (records s.bytes ≡ rs) × (damage s.bytes ≡ None)) (sym read.1) (end.1, end.2))
+    ((read.0, read.1, end.0), subst (λ s. ReadsAs rs s.bytes) (sym read.1) end.1)
 
 pub next_damaged : (t : Option Clock) (rs : List Record) (p : Place) → ReadTo t rs p → Now t (λ s. IsFound (take 65550 (drop p.at s.bytes)) found.Broken) → BreaksAt t p.at
 next_damaged None rs p read is = tt

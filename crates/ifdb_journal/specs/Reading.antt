@@ -4,7 +4,7 @@ use Rattle.std.specs.Prelude.{◌≡◌, ◌⊎◌, ℕ, ◌≤◌, List, [], �
 use Rattle.ifdb_disk.specs.Images.{IsImage, settled}
 use Rattle.ifdb_disk.specs.Clock.{Clock, Leaves, Now}
 use Rattle.ifdb_journal.specs.declared.record.Record.{Record}
-use Rattle.ifdb_journal.specs.Records.{IsFront, records, damage}
+use Rattle.ifdb_journal.specs.Records.{IsFront, ReadsAs, records, damage}
 
 -- a journal: the place of the next gate, and the bytes from there on that were read ahead
 pub record Place : Type 0 where
@@ -60,9 +60,9 @@ IsOldOrShort old image = Now old (λ s. IsImage s image ⊎ (length image ≤ 1)
 abbrev pub SpellsSame : Option Clock → Option Clock → Type 0
 SpellsSame old new = Now old (λ s. Now new (λ u. (records u.bytes ≡ records s.bytes) × (damage u.bytes ≡ damage s.bytes)))
 
--- a disk's bytes have exactly these records, and aren't damaged
+-- a disk's bytes read whole, as these records
 abbrev pub SpellsWhole : Option Clock → List Record → Type 0
-SpellsWhole t rs = Now t (λ s. (records s.bytes ≡ rs) × (damage s.bytes ≡ None))
+SpellsWhole t rs = Now t (λ s. ReadsAs rs s.bytes)
 
 -- a disk's bytes are damaged at this place
 abbrev pub BreaksAt : Option Clock → ℕ → Type 0
@@ -70,15 +70,15 @@ BreaksAt t at = Now t (λ s. damage s.bytes ≡ Some at)
 
 -- ---- an append of some records together
 
--- an image has some records, or these and all of a batch
+-- an image reads whole, as some records, or as these and all of a batch
 abbrev pub HasAllOrNone : List Record → List Record → List ℕ → Type 0
-HasAllOrNone rs batch image = (records image ≡ rs) ⊎ (records image ≡ rs ++ batch)
+HasAllOrNone rs batch image = ReadsAs rs image ⊎ ReadsAs (rs ++ batch) image
 
 -- a batch was added behind the records that the journal held
 abbrev pub Adds : List Record → Option Clock → ℕ → Option Clock → ℕ → Type 0
 Adds batch t at u next = (rs : List Record) → Holds t rs at → Holds u (rs ++ batch) next
 
--- a crash at any moment since then leaves the records that the journal held, with all of the batch or none of it
+-- a crash at any moment since then leaves a whole journal, of the records that it held, with all of the batch or none of it
 abbrev pub MayAdd : List Record → Option Clock → ℕ → Option Clock → Type 0
 MayAdd batch t at u = (rs : List Record) → Holds t rs at → Leaves t u (HasAllOrNone rs batch)
 
@@ -94,17 +94,17 @@ abbrev pub AddsEach : List (List Record) → Option Clock → ℕ → Option Clo
 AddsEach [] t at u next = (u ≡ t) × (next ≡ at)
 AddsEach (batch ∷ batches) t at u next = (v : Option Clock) × (mid : ℕ) × Adds batch t at v mid × MayAdd batch t at v × AddsEach batches v mid u next
 
--- an image has some records, and then the first of some batches
+-- an image reads whole, as some records, and then the first of some batches
 abbrev pub HasFirst : List Record → List (List Record) → List ℕ → Type 0
-HasFirst rs batches image = (n : ℕ) × (n ≤ length batches) × (records image ≡ rs ++ joined (take n batches))
+HasFirst rs batches image = (n : ℕ) × (n ≤ length batches) × ReadsAs (rs ++ joined (take n batches)) image
 
 -- Images of a journal: from where a journal holds some records, and after appends that answered Ok, it holds theirs too, and a crash at
--- any moment since leaves the records and the first of the appends, in order, none of them in part. It's so too in an append that
--- follows and may fail: each image has all that were answered, and all or none of the last.
+-- any moment since leaves a whole journal, of the records and the first of the appends, in order, none of them in part. It's so too in
+-- an append that follows and may fail: each image has all that were answered, and all or none of the last.
 abbrev pub JournalImages : Type 0
 JournalImages = (rs : List Record) (batches : List (List Record)) (last : List Record) (t u w : Option Clock) (at next : ℕ) → Holds t rs at → AddsEach batches t at u next → MayAdd last u next w
     → Holds u (rs ++ joined batches) next × Leaves t u (HasFirst rs batches) × Leaves u w (HasAllOrNone (rs ++ joined batches) last)
 
--- and where a journal holds some records, each image has them
+-- and where a journal holds some records, each image reads whole, as these
 abbrev pub HeldImages : Type 0
-HeldImages = (rs : List Record) (t : Option Clock) (at : ℕ) → Holds t rs at → Now t (λ s. (image : List ℕ) → IsImage s image → records image ≡ rs)
+HeldImages = (rs : List Record) (t : Option Clock) (at : ℕ) → Holds t rs at → Now t (λ s. (image : List ℕ) → IsImage s image → ReadsAs rs image)

@@ -63,6 +63,11 @@ records bytes = if nat_le (length bytes) 1 then [] else scan 0 bytes
 abbrev pub damage : List ℕ → Option ℕ
 damage bytes = if nat_le (length bytes) 1 then None else break 0 0 bytes
 
+-- some bytes read whole, as these records: they aren't damaged
+pub record ReadsAs (rs : List Record) (bytes : List ℕ) : Type 0 where
+  pub has : records bytes ≡ rs
+  pub whole : damage bytes ≡ None
+
 -- ---- bytes up to a gate
 
 -- a front is these records with open gates, and whatever follows it is read as if it stood alone

@@ -7,7 +7,7 @@ use Rattle.std.proofs.lemmas.List.Concat.{flat_map-append}
 use Rattle.ifdb_disk.specs.Images.{Shown, IsImage}
 use Rattle.ifdb_disk.specs.Clock.{Clock, Now}
 use Rattle.ifdb_disk.proofs.Moments.{leaves_weaker}
-use Rattle.ifdb_journal.specs.Records.{records}
+use Rattle.ifdb_journal.specs.Records.{ReadsAs}
 use Rattle.ifdb_journal.specs.Reading.{Holds, HasAllOrNone, joined}
 use Rattle.ifdb_journal.specs.declared.record.Record.{Record}
 use Rattle.ifdb_journal.proofs.Images.{all_images, held}
@@ -27,19 +27,20 @@ replies_more turns turn =
 
 -- all turns are there
 holds_all : (rs : List Record) (turns : List Turn) (turn : Turn) (written : ℕ) (image : List ℕ) → written ≤ length (replies_of turns) + length turn.text
-    → records image ≡ (rs ++ joined (entries_of turns)) ++ turn.entries → HoldsAcknowledged rs (turns ++ turn ∷ []) written image
+    → ReadsAs ((rs ++ joined (entries_of turns)) ++ turn.entries) image → HoldsAcknowledged rs (turns ++ turn ∷ []) written image
 holds_all rs turns turn written image le is =
     let all = turns ++ turn ∷ [] in
     let most : length all ≤ length all = omega arith in
     let same : take (length all) all ≡ all = take_all (length all) all most in (
       length all,
       most,
-      is ∙ append_assoc rs (joined (entries_of turns)) turn.entries ∙ ap (λ l. rs ++ l) (sym (entries_more turns turn)) ∙ ap (λ ts. rs ++ joined (entries_of ts)) (sym same),
+      subst (λ l. ReadsAs l image)
+      (append_assoc rs (joined (entries_of turns)) turn.entries ∙ ap (λ l. rs ++ l) (sym (entries_more turns turn)) ∙ ap (λ ts. rs ++ joined (entries_of ts)) (sym same)) is,
       subst (λ ts. written ≤ length (replies_of ts)) (sym same) (let size = replies_more turns turn in omega (arith, size, le)),
     )
 
 -- those before the last are
-holds_before : (rs : List Record) (turns : List Turn) (turn : Turn) (image : List ℕ) → records image ≡ rs ++ joined (entries_of turns)
+holds_before : (rs : List Record) (turns : List Turn) (turn : Turn) (image : List ℕ) → ReadsAs (rs ++ joined (entries_of turns)) image
     → HoldsAcknowledged rs (turns ++ turn ∷ []) (length (replies_of turns)) image
 holds_before rs turns turn image is =
     let same : take (length turns) (turns ++ turn ∷ []) ≡ turns = take-append_seam turns (turn ∷ []) in
@@ -48,7 +49,7 @@ holds_before rs turns turn image is =
     let le : length (replies_of turns) ≤ length (replies_of turns) = omega arith in (
       length turns,
       most,
-      is ∙ ap (λ ts. rs ++ joined (entries_of ts)) (sym same),
+      subst (λ ts. ReadsAs (rs ++ joined (entries_of ts)) image) (sym same) is,
       subst (λ ts. length (replies_of turns) ≤ length (replies_of ts)) (sym same) le,
     )
 
@@ -69,6 +70,6 @@ acknowledged rs turns turn t u v at next last holds adds may =
       leaves_weaker u v (HasAllOrNone all turn.entries) (HoldsAcknowledged rs (turns ++ turn ∷ []) (length (replies_of turns))) (either rs turns turn) (may all before),
       (λ added n le.
           let after : Holds v (all ++ turn.entries) last = added all before in
-          now_weaker v (λ image. records image ≡ all ++ turn.entries) (HoldsAcknowledged rs (turns ++ turn ∷ []) (length (replies_of turns) + n))
+          now_weaker v (ReadsAs (all ++ turn.entries)) (HoldsAcknowledged rs (turns ++ turn ∷ []) (length (replies_of turns) + n))
           (λ image is. holds_all rs turns turn (length (replies_of turns) + n) image (omega (arith, le)) is) (held (all ++ turn.entries) v last after)),
     )

@@ -6,7 +6,7 @@ use Rattle.std.proofs.lemmas.List.{append-nil, length-append, take-append-le, ta
 use Rattle.ifdb_disk.specs.Images.{IsImage}
 use Rattle.ifdb_disk.specs.Clock.{Clock, Leaves}
 use Rattle.ifdb_disk.proofs.Moments.{leaves_weaker, leaves_on, since_here}
-use Rattle.ifdb_journal.specs.Records.{records}
+use Rattle.ifdb_journal.specs.Records.{ReadsAs}
 use Rattle.ifdb_journal.specs.Reading.{Holds, Adds, MayAdd, AddsEach, HasFirst, HasAllOrNone, joined}
 use Rattle.ifdb_journal.specs.declared.record.Record.{Record}
 use Rattle.ifdb_journal.proofs.Images.{all_images, held}
@@ -50,21 +50,22 @@ first_joined (suc n) (batch ∷ batches) =
 begun_first : (rs more : List Record) (batches : List (List Record)) (image : List ℕ) → HasFirst (front_of rs) batches image → HasBegun rs (joined batches ++ more) image
 begun_first rs more batches image has =
     let first = first_joined has.0 batches in
-    inr (first.0, has.2 ∙ ap (λ l. front_of rs ++ l) (first.2 ∙ sym (take-append-le first.0 (joined batches) more first.1)))
+    inr (first.0, subst (λ l. ReadsAs (front_of rs ++ l) image) (first.2 ∙ sym (take-append-le first.0 (joined batches) more first.1)) has.2)
 
 -- of no record of the script
 begun_none : (rs more : List Record) (image : List ℕ) → HasBegun rs [] image → HasBegun rs more image
 begun_none rs more image (inl same) = inl same
-begun_none rs more image (inr has) = inr (0, has.1 ∙ ap (λ l. front_of rs ++ l) (take-nil has.0))
+begun_none rs more image (inr has) = inr (0, subst (λ l. ReadsAs (front_of rs ++ l) image) (take-nil has.0) has.1)
 
 -- of all batches, and one record more or not
 begun_last : (rs all more : List Record) (image : List ℕ) → HasAllOrNone (front_of rs ++ all) more image → HasBegun rs (all ++ more) image
 begun_last rs all more image (inl without) =
     let le : length all ≤ length all = omega arith in
-    inr (length all, without ∙ ap (λ l. front_of rs ++ l) (sym (take-append-le (length all) all more le ∙ take_all (length all) all le)))
+    inr (length all, subst (λ l. ReadsAs (front_of rs ++ l) image) (sym (take-append-le (length all) all more le ∙ take_all (length all) all le)) without)
 begun_last rs all more image (inr with_it) =
     let le : length (all ++ more) ≤ length (all ++ more) = omega arith in
-    inr (length (all ++ more), with_it ∙ append_assoc (front_of rs) all more ∙ ap (λ l. front_of rs ++ l) (sym (take_all (length (all ++ more)) (all ++ more) le)))
+    inr (length (all ++ more), subst (λ l. ReadsAs l image)
+    (append_assoc (front_of rs) all more ∙ ap (λ l. front_of rs ++ l) (sym (take_all (length (all ++ more)) (all ++ more) le))) with_it)
 
 -- a journal that was read goes on by some batches
 pub journaled_on : (rs : List Record) (batches : List (List Record)) (first t u : Option Clock) (at next : ℕ) → Journaled rs [] first t → Holds t (front_of rs) at → AddsEach batches t at u next

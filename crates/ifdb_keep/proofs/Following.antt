@@ -1,6 +1,6 @@
 -- The next call begins where a crash left this one.
 use Rattle.std.proofs.Common.{◌≡◌, ℕ, zero, suc, ◌≤◌, Bool, true, false, not, ◌&&◌, List, [], ◌∷◌, ◌++◌, length, take, map, refl, sym, ap, subst, ◌∙◌, arith, cond, inl, inr}
-use Rattle.std.specs.Prelude.{◌⊎◌, Result, Ok, Err}
+use Rattle.std.specs.Prelude.{◌⊎◌, Result, Ok, Err, Option, Some, None}
 use Rattle.std.proofs.Math.Seq.{take-nil}
 use Rattle.std.proofs.lemmas.List.{append-nil}
 use Rattle.ifdb_journal.specs.declared.record.Record.{Record}
@@ -16,7 +16,8 @@ use Rattle.ifdb_db.specs.Reading.{read_line, line_fault, request_or_fault}
 use Rattle.ifdb_keep.specs.Numbered.{shifted, records_from}
 use Rattle.ifdb_keep.specs.Resumed.{restarted, restart_of, front_of, begun, base_of}
 use Rattle.ifdb_keep.specs.Taken.{state_by, records_by}
-use Rattle.ifdb_keep.specs.Acknowledged.{NextKeepGoesOn}
+use Rattle.ifdb_keep.specs.Acknowledged.{NextKeepGoesOn, NextKeepIsWhole}
+use Rattle.ifdb_journal.specs.Records.{damage}
 
 -- ---- the lines are read by the grammar
 
@@ -143,3 +144,14 @@ follows goes law rs steps n stay =
           ∙ ap (λ (st : State). st.log) run_is,
       f.most,
     )
+
+-- ---- the next call isn't refused
+
+whole_or_not : (bytes : List ℕ) (at : ℕ) → damage bytes ≡ None → damage bytes ≡ Some at → ⊥
+whole_or_not bytes at whole broken =
+    let both : None ≡ Some at = sym whole ∙ broken in
+    cc both
+
+pub next_is_whole : NextKeepIsWhole
+next_is_whole rs more disk (inl reads) at breaks = whole_or_not disk.now.bytes at reads.whole breaks
+next_is_whole rs more disk (inr reads) at breaks = whole_or_not disk.now.bytes at reads.1.whole breaks

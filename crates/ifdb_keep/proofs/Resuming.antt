@@ -6,7 +6,7 @@ use Rattle.std.proofs.lemmas.List.{append-nil, length-map, length-set, drop_more
 use Rattle.ifdb_disk.specs.Images.{IsImage}
 use Rattle.ifdb_disk.specs.Clock.{Clock, Leaves}
 use Rattle.ifdb_disk.proofs.Moments.{leaves_weaker, since_here}
-use Rattle.ifdb_journal.specs.Records.{records}
+use Rattle.ifdb_journal.specs.Records.{ReadsAs}
 use Rattle.ifdb_journal.specs.Reading.{Place, ReadTo, Holds, Adds, MayAdd, HasAllOrNone, SpellsSame, SpellsWhole, BreaksAt}
 use Rattle.ifdb_journal.specs.declared.record.Record.{Record}
 use Rattle.ifdb_journal.specs.declared.record.RecordKind.TheVariants as kind
@@ -146,7 +146,7 @@ clients_many room st w = sym (length-map room.clients session_at) ∙ ap length 
 pub spelled_before : (old mid : Option Clock) (rs : List Record) → IsUnread old mid → SpellsSame old mid → SpellsWhole mid rs → SpellsWhole old rs
 spelled_before None mid rs unread same whole = tt
 spelled_before (Some c) None rs unread same whole = absurd unread
-spelled_before (Some c) (Some d) rs unread same whole = (sym same.0 ∙ whole.0, sym same.1 ∙ whole.1)
+spelled_before (Some c) (Some d) rs unread same whole = record { has = sym same.0 ∙ whole.has; whole = sym same.1 ∙ whole.whole }
 
 pub broken_before : (old mid : Option Clock) (at : ℕ) → IsUnread old mid → SpellsSame old mid → BreaksAt mid at → BreaksAt old at
 broken_before None mid at unread same breaks = tt
@@ -178,7 +178,7 @@ module _ (old mid : Option Clock) (unread : IsUnread old mid) (same : SpellsSame
 
   with_restart : (rs : List Record) (image : List ℕ) → restart_of rs ≡ restarted ∷ [] → HasAllOrNone rs (restarted ∷ []) image → HasBegun rs [] image
   with_restart rs image some (inl without) = inl without
-  with_restart rs image some (inr with_it) = inr (0, with_it ∙ ap (λ l. rs ++ l) (sym some) ∙ sym (append-nil (front_of rs)))
+  with_restart rs image some (inr with_it) = inr (0, subst (λ l. ReadsAs l image) (ap (λ l. rs ++ l) (sym some) ∙ sym (append-nil (front_of rs))) with_it)
 
   -- a restart may have been added
   pub journaled_restart : (new : Option Clock) → (b : ReadBack mid room at true) → MayAdd (restarted ∷ []) mid at new → Journaled b.records [] old new

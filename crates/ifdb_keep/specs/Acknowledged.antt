@@ -1,11 +1,11 @@
 -- decides: the journal
 -- What was acknowledged is kept: of two calls that take turns, one that adds a step's records and touches no output, and one that writes
 -- its reply and touches no disk.
-use Rattle.std.specs.Prelude.{◌≡◌, ℕ, ◌+◌, ◌≤◌, Bool, List, [], ◌∷◌, ◌++◌, length, take, map, flat_map, Option}
+use Rattle.std.specs.Prelude.{◌≡◌, ℕ, ◌+◌, ◌≤◌, Bool, List, [], ◌∷◌, ◌++◌, length, take, map, flat_map, Option, Some}
 use Rattle.ifdb_disk.specs.Images.{IsImage}
 use Rattle.ifdb_disk.specs.Clock.{Clock, Leaves, Now}
-use Rattle.ifdb_journal.specs.Records.{records}
-use Rattle.ifdb_journal.specs.Reading.{Holds, Adds, MayAdd, AddsEach, joined}
+use Rattle.ifdb_journal.specs.Records.{ReadsAs}
+use Rattle.ifdb_journal.specs.Reading.{Holds, Adds, MayAdd, AddsEach, BreaksAt, joined}
 use Rattle.ifdb_journal.specs.declared.record.Record.{Record}
 use Rattle.ifdb_model.specs.Step.{Reader}
 use Rattle.ifdb_model.specs.Run.{Step, opening}
@@ -13,7 +13,7 @@ use Rattle.ifdb_model.specs.Output.{told_of, refused_at}
 use Rattle.ifdb_model.specs.Script.{steps_of}
 use Rattle.ifdb_replay.specs.Replay.{StayIn}
 use Rattle.ifdb_keep.specs.Numbered.{told_from}
-use Rattle.ifdb_keep.specs.Resumed.{begun, front_of}
+use Rattle.ifdb_keep.specs.Resumed.{begun, front_of, HasBegun}
 use Rattle.ifdb_keep.specs.Taken.{state_by, records_by}
 
 -- a turn: these records are added, and then this reply is written
@@ -28,10 +28,10 @@ entries_of turns = map (λ (t : Turn). t.entries) turns
 abbrev pub replies_of : List Turn → List ℕ
 replies_of turns = flat_map (λ (t : Turn). t.text) turns
 
--- An image has the records from before, and those of the first turns, among them each turn of whose reply a byte is among the first
--- bytes that were written, so many.
+-- An image reads whole, as the records from before and those of the first turns, among them each turn of whose reply a byte is among
+-- the first bytes that were written, so many.
 abbrev pub HoldsAcknowledged : List Record → List Turn → ℕ → List ℕ → Type 0
-HoldsAcknowledged rs turns written image = (n : ℕ) × (n ≤ length turns) × (records image ≡ rs ++ joined (entries_of (take n turns))) × (written ≤ length (replies_of (take n turns)))
+HoldsAcknowledged rs turns written image = (n : ℕ) × (n ≤ length turns) × ReadsAs (rs ++ joined (entries_of (take n turns))) image × (written ≤ length (replies_of (take n turns)))
 
 -- At every moment of every turn: while its records are added, the replies of the turns before are written, and while its reply is
 -- written, nothing is done to the disk. So each image at each moment has the records of all turns of whose replies a byte was written.
@@ -53,3 +53,7 @@ NextKeepGoesOn = (rs : List Record) (steps : List Step) (n : ℕ) → StayIn ste
     × (take n (records_by rs steps) ≡ records_by rs (take m steps))
     × ((begun (front_of rs ++ take n (records_by rs steps))).log ≡ (state_by rs (take m steps)).log)
     × ((k : ℕ) → length (records_by rs (take k steps)) ≤ n → k ≤ length steps → k ≤ m)
+
+-- And it is never refused: bytes that a crash left of a run, and that a disk shows, are damaged nowhere.
+abbrev pub NextKeepIsWhole : Type 0
+NextKeepIsWhole = (rs more : List Record) (disk : Clock) → HasBegun rs more disk.now.bytes → (at : ℕ) → BreaksAt (Some disk) at → ⊥

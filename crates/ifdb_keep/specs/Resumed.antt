@@ -3,7 +3,7 @@
 use Rattle.std.specs.Prelude.{◌≡◌, ◌⊎◌, ℕ, Bool, List, [], ◌∷◌, ◌++◌, length, take, Option, if◌then◌else◌}
 use Rattle.ifdb_disk.specs.Images.{IsImage}
 use Rattle.ifdb_disk.specs.Clock.{Clock, Leaves, Now}
-use Rattle.ifdb_journal.specs.Records.{records}
+use Rattle.ifdb_journal.specs.Records.{ReadsAs}
 use Rattle.ifdb_journal.specs.Reading.{Holds, IsOldOrShort, SpellsWhole}
 use Rattle.ifdb_journal.specs.declared.record.Record.{Record}
 use Rattle.ifdb_journal.specs.declared.record.RecordKind.TheVariants as kind
@@ -33,16 +33,16 @@ begun rs = replayed read_line opening (front_of rs)
 abbrev pub base_of : List Record → ℕ
 base_of rs = length (begun rs).sessions
 
--- each image has these records
+-- each image reads whole, as these records
 abbrev pub AllHave : List Record → Option Clock → Type 0
-AllHave rs t = Now t (λ s. (image : List ℕ) → IsImage s image → records image ≡ rs)
+AllHave rs t = Now t (λ s. (image : List ℕ) → IsImage s image → ReadsAs rs image)
 
--- an image has the records of the journal, or these, a restart, if there were any, and the first of some others
+-- an image reads whole, as the records of the journal, or as these, a restart, if there were any, and the first of some others
 abbrev pub HasBegun : List Record → List Record → List ℕ → Type 0
-HasBegun rs more image = (records image ≡ rs) ⊎ ((n : ℕ) × (records image ≡ front_of rs ++ take n more))
+HasBegun rs more image = ReadsAs rs image ⊎ ((n : ℕ) × ReadsAs (front_of rs ++ take n more) image)
 
 -- The journal was read to its end: it had these records, and wasn't damaged. Until then each image was one of those at the start or
--- too short for a record; from then on each has these records, and may have others behind them.
+-- too short for a record; from then on each reads whole, as these records, and may have others behind them.
 pub record Journaled (rs more : List Record) (old new : Option Clock) : Type 0 where
   pub spelled : SpellsWhole old rs
   pub mid : Option Clock

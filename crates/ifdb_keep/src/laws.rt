@@ -1,5 +1,5 @@
 // What is true of every kept run. Each function does nothing: its contract is the law.
-ghost use Rattle.ifdb_keep.specs.Acknowledged.{AcknowledgedIsKept, FirstKeepIsARun, NextKeepGoesOn};
+ghost use Rattle.ifdb_keep.specs.Acknowledged.{AcknowledgedIsKept, FirstKeepIsARun, NextKeepGoesOn, NextKeepIsWhole};
 
 use ifdb_replay::{kept_replays, replay_goes_on};
 
@@ -10,9 +10,10 @@ pub fn acknowledged_is_kept()
 {}
 
 /// Whatever first records of a run a crash leaves, the next call begins with the log that the first
-/// of its steps lead to, among them each step whose record is there.
+/// of its steps lead to, among them each step whose record is there; and it isn't refused as damaged.
 pub fn next_keep_goes_on()
-    ensures { NextKeepGoesOn }
+    ensures goes_on { NextKeepGoesOn }
+    ensures whole { NextKeepIsWhole }
 {
     replay_goes_on();
     kept_replays();
