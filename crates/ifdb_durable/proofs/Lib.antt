@@ -1,0 +1,5 @@
+pub mod Begins
+pub mod Steps
+pub mod Writing
+pub mod Appends
+pub mod Worth

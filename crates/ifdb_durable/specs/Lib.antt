@@ -1,0 +1,9 @@
+pub mod Told
+pub mod Rule
+pub mod Kinds
+pub mod Seats
+pub mod Queues
+pub mod Writing
+pub mod Appends
+pub mod Worth
+pub mod Groups
