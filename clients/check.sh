@@ -26,10 +26,10 @@ python3 -c 'import sys; sys.exit(sys.version_info < (3, 9))' || not_here "python
 status=0
 python3 -m unittest discover -s clients/python || status=$FAILED
 python3 clients/python/dialogue.py examples/session.dialogue examples/clinic/roles.dialogue || status=$FAILED
-python3 examples/clinic/check.py || status=$FAILED
-python3 examples/traces.py || status=$FAILED
-python3 examples/kept.py || status=$FAILED
-python3 examples/ranges.py || status=$FAILED
-python3 examples/many.py || status=$FAILED
+python3 tests/clinic.py || status=$FAILED
+python3 tests/traces.py || status=$FAILED
+python3 tests/kept.py || status=$FAILED
+python3 tests/ranges.py || status=$FAILED
+python3 tests/many.py || status=$FAILED
 if ((status == 0)); then echo "clients/check.sh: all passed"; else echo "clients/check.sh: something failed" >&2; fi
 exit $status

@@ -1,7 +1,7 @@
 #!/usr/bin/env python3
 """Whether a thread of a served ifdb that is stopped between turns holds anybody but its own client.
 
-    examples/stopped.py PROGRAM [--port PORT] [--clients 2,4,16] [--statements N]
+    tests/stopped.py PROGRAM [--port PORT] [--clients 2,4,16] [--statements N]
 
 PROGRAM is the built program. For each number of clients it starts a server with as many workers, and connects that many. Then it
 stops each thread of the server in turn by ptrace, while all clients are silent: so the thread waits for its client, and is between
@@ -17,6 +17,7 @@ import pathlib
 import subprocess
 import sys
 
+sys.path.append(str(pathlib.Path(__file__).resolve().parent.parent / "examples"))
 from client import Session
 
 PATIENCE = 20

@@ -3,7 +3,7 @@
 standard error, that what stands before a damaged byte goes on as a journal, and that a disk that is full loses nothing that was
 answered. Prints how many calls were as they should be.
 
-    examples/kept.py      the variable IFDB names another program than crates/ifdb/out/ifdb
+    tests/kept.py      the variable IFDB names another program than crates/ifdb/out/ifdb
 """
 import os
 import resource
@@ -12,11 +12,12 @@ import sys
 import tempfile
 from pathlib import Path
 
-from record import PROGRAM
+EXAMPLES = Path(__file__).resolve().parent.parent / "examples"
+sys.path.append(str(EXAMPLES))
+from record import PROGRAM  # noqa: E402
 
 IFDB = os.environ.get("IFDB", PROGRAM[0])
-HERE = Path(__file__).resolve().parent
-FIRST, REPLIES = (HERE / "kept.script").read_text(), (HERE / "kept.replies").read_text()
+FIRST, REPLIES = (EXAMPLES / "kept.script").read_text(), (EXAMPLES / "kept.replies").read_text()
 LOOK = "OPEN\n1 HELLO admin KEY 'admin'\n1 SELECT id FROM note\n"
 FOUND = "1 OPEN\n1 OK\n1 ROWS 1 1\n1 1\n"
 
@@ -29,7 +30,7 @@ def kept(file, script):
 
 def front(file, byte, copy):
     with open(copy, "wb") as out:
-        subprocess.run([HERE / "journal_front.sh", file, str(byte)], stdout=out, check=True)
+        subprocess.run([EXAMPLES / "journal_front.sh", file, str(byte)], stdout=out, check=True)
     return copy
 
 

@@ -8,7 +8,7 @@ file goes on. So a CALL that met want of memory anywhere in its session is told 
 front of that and ends with status 4. Scripts in a folder `closures` are run by `closures` alone, and all others by the other four.
 Run it at the top of the repository, with the program built and a C compiler there:
 
-    examples/refusals.py [SCRIPT..]       the variable IFDB names another program than crates/ifdb/out/ifdb
+    tests/refusals.py [SCRIPT..]       the variable IFDB names another program than crates/ifdb/out/ifdb
 """
 import os
 import pathlib
@@ -17,9 +17,11 @@ import sys
 import tempfile
 from functools import partial
 
-from record import recorded
-
 HERE = pathlib.Path(__file__).resolve().parent
+EXAMPLES = HERE.parent / "examples"
+sys.path.append(str(EXAMPLES))
+from record import recorded  # noqa: E402
+
 PROGRAM = os.environ.get("IFDB", str(HERE.parent / "crates/ifdb/out/ifdb"))
 NO_MEMORY = 4
 
@@ -106,7 +108,7 @@ def words_of(path, folder):
 
 
 def main(names):
-    scripts = [pathlib.Path(it) for it in names] or sorted(HERE.glob("*.script")) + sorted(HERE.glob("closures/*.script"))
+    scripts = [pathlib.Path(it) for it in names] or sorted(EXAMPLES.glob("*.script")) + sorted(EXAMPLES.glob("closures/*.script"))
     with tempfile.TemporaryDirectory() as work:
         shim = pathlib.Path(work) / "refuse.so"
         subprocess.run(["cc", "-O1", "-shared", "-fPIC", "-o", shim, HERE / "refuse.c", "-ldl"], check=True)

@@ -1,7 +1,7 @@
 #!/usr/bin/env python3
 """Whether what a served ifdb acknowledges is kept, and nothing else: clients that all raise one number and each add rows.
 
-    examples/commits.py PROGRAM [--port PORT] [--clients 1,4,63] [--transactions N]
+    tests/commits.py PROGRAM [--port PORT] [--clients 1,4,63] [--transactions N]
 
 PROGRAM is the built program. For each number of clients it starts a server with as many workers, of two connections each. Every
 client does N transactions over a connection of its own: it reads the number, adds one, inserts a row, and commits; one that is
@@ -10,11 +10,13 @@ ends. The number, the rows and the summary's commits and refused COMMITs must be
 they aren't, and 0 else.
 """
 import argparse
+import pathlib
 import subprocess
 import sys
 import threading
 import time
 
+sys.path.append(str(pathlib.Path(__file__).resolve().parent.parent / "examples"))
 from client import Refused, Session
 
 

@@ -5,7 +5,7 @@ So many rows as are said, 200,000 if none is, are inserted in one transaction, a
 deleted by one. What a commit does for each write has to be a loop: a stack has no room for so many calls. Run it at the top of the
 repository, with the program built:
 
-    examples/many.py [ROWS]       the variable IFDB names another program than crates/ifdb/out/ifdb
+    tests/many.py [ROWS]       the variable IFDB names another program than crates/ifdb/out/ifdb
 """
 import os
 import pathlib

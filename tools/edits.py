@@ -1,10 +1,10 @@
 #!/usr/bin/env python3
 """The edits that must fail and that stand aside: those that the gate doesn't try, since the prover refused them when their crate last changed.
 
-    docs/edits.py NAME..    tries all edits of these crates; where each is refused, docs/refused.txt notes the sum of the crate's text
+    tools/edits.py NAME..    tries all edits of these crates; where each is refused, tools/refused.txt notes the sum of the crate's text
 
-An edit stands aside under a name that ends in edit.md. docs/check.py fails where the text of a crate that has such edits isn't the one
-that docs/refused.txt notes. Wants the kit, and a crate that rt check has proved, without which each try takes a whole proof.
+An edit stands aside under a name that ends in edit.md. tools/check.py fails where the text of a crate that has such edits isn't the one
+that tools/refused.txt notes. Wants the kit, and a crate that rt check has proved, without which each try takes a whole proof.
 """
 
 import datetime
@@ -16,7 +16,7 @@ from pathlib import Path
 
 TOP = Path(__file__).resolve().parent.parent
 CRATES = TOP / "crates"
-REFUSED = TOP / "docs" / "refused.txt"
+REFUSED = TOP / "tools" / "refused.txt"
 ASIDE = ".md"
 
 
@@ -39,7 +39,7 @@ def text_sum(crate: str) -> str:
 
 
 def noted() -> dict[str, str]:
-    """What docs/refused.txt says of each crate: the sum, the day, and the kit."""
+    """What tools/refused.txt says of each crate: the sum, the day, and the kit."""
     lines = REFUSED.read_text().splitlines() if REFUSED.exists() else []
     return dict(line.split(" ", 1) for line in lines if line)
 

@@ -1,7 +1,7 @@
 #!/usr/bin/env python3
 """Whether what a kept ifdb acknowledges is there after it was killed: one journal, and a program that is killed over and over.
 
-    examples/crash.py PROGRAM [--kills N] [--seed S] [--folder DIR]
+    tests/crash.py PROGRAM [--kills N] [--seed S] [--folder DIR]
 
 PROGRAM is the built program. Each round starts `PROGRAM keep --file F`, looks at what is there, and then commits: single rows, and
 transactions of several rows, as fast as replies come. At a random moment the program gets SIGKILL. The next round has to find

@@ -2,7 +2,7 @@
 """Plays the browsers of `web.dialogue` against the clinic's web application over the built program, and compares what they are
 told, and what the log tells, with what stands there. Then has a crowd of browsers ask side by side, none of whom may be refused.
 
-    examples/clinic/check.py [--update]      stores what was told
+    tests/clinic.py [--update]      stores what was told
 """
 
 from __future__ import annotations
@@ -17,14 +17,14 @@ import urllib.error
 import urllib.request
 from typing import List, Sequence, Tuple
 
-import app
-import start
-
-import dialogue
-import ifdb
-import served
-
-HERE = pathlib.Path(__file__).resolve().parent
+ROOT = pathlib.Path(__file__).resolve().parent.parent
+CLINIC = ROOT / "examples/clinic"
+sys.path += [str(CLINIC), str(ROOT / "clients/python")]
+import app  # noqa: E402
+import dialogue  # noqa: E402
+import ifdb  # noqa: E402
+import served  # noqa: E402
+import start  # noqa: E402
 
 
 class Text(html.parser.HTMLParser):
@@ -96,7 +96,7 @@ def main(words: Sequence[str]) -> int:
         with app.serve(database.port, 0, log.append) as web:
             threading.Thread(target=web.serve_forever).start()
             browsers = Browsers(web.server_port, log)
-            differing = dialogue.differs(HERE / "web.dialogue", browsers.ask, update=bool(words))
+            differing = dialogue.differs(CLINIC / "web.dialogue", browsers.ask, update=bool(words))
             refused = refused_in_a_crowd(browsers)
             web.shutdown()
     print(f"the clinic's web dialogue {'differs' if differing else 'is as stored'}; {refused} of 20 requests in a crowd failed")

@@ -6,7 +6,7 @@ at several labels: as `WHERE C`, where literals that bound the key leave a range
 leaves one. The two have to be answered alike, byte by byte: SELECTs of one table and of two, SELECTs over views, and UPDATE and DELETE
 with what they leave, each in a transaction that is rolled back. Run it at the top of the repository, with the program built:
 
-    examples/ranges.py [SEED..]       the variable IFDB names another program than crates/ifdb/out/ifdb
+    tests/ranges.py [SEED..]       the variable IFDB names another program than crates/ifdb/out/ifdb
 """
 import os
 import pathlib

@@ -2,7 +2,7 @@
 """Records each example script, and has the built program judge the trace: it is accepted, and after one of its reply lines was
 altered, dropped or doubled it is refused at the first line that differs. Prints how many traces were judged.
 
-    examples/traces.py      the variable IFDB names another program than crates/ifdb/out/ifdb
+    tests/traces.py      the variable IFDB names another program than crates/ifdb/out/ifdb
 """
 import os
 import subprocess
@@ -11,7 +11,9 @@ from collections.abc import Iterator
 from itertools import zip_longest
 from pathlib import Path
 
-from record import PROGRAM, recorded
+EXAMPLES = Path(__file__).resolve().parent.parent / "examples"
+sys.path.append(str(EXAMPLES))
+from record import PROGRAM, recorded  # noqa: E402
 
 IFDB = os.environ.get("IFDB", PROGRAM[0])
 
@@ -36,7 +38,7 @@ def first_difference(trace: list[bytes], changed: list[bytes]) -> int:
 
 def main() -> int:
     count = wrong = 0
-    for path in sorted(Path(__file__).parent.glob("*.script")):
+    for path in sorted(EXAMPLES.glob("*.script")):
         with path.open("rb") as script:
             trace = list(recorded(script, [IFDB, "run"]))
         wanted = [(trace, "ACCEPTED\nstatus 0")]

@@ -1,7 +1,7 @@
 #!/usr/bin/env python3
 """Clients that behave badly at a served ifdb, while a well-behaved one goes on.
 
-    examples/torture.py PORT [--host HOST] [--key KEY] [--times N]
+    tests/torture.py PORT [--host HOST] [--key KEY] [--times N]
 
 The server has to serve at least three links at once (a worker each), and in all enough links for some ten times N. The well-behaved
 client keeps one connection and asks one thing after another; after each try of a bad client, it also makes a new connection.

@@ -116,7 +116,7 @@ def wrong_sums() -> list[str]:
     wrong = []
     for crate in aside.with_aside():
         if noted.get(crate, "").split(" ")[0] != aside.text_sum(crate):
-            wrong.append(f"not noted for the text of {crate}, whose edits docs/edits.py {crate} tries")
+            wrong.append(f"not noted for the text of {crate}, whose edits tools/edits.py {crate} tries")
     return wrong + [f"has no edits that stand aside: {crate}" for crate in set(noted) - set(aside.with_aside())]
 
 
