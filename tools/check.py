@@ -1,15 +1,18 @@
 #!/usr/bin/env python3
 """Checks the pages against the repository: examples, links, files, crates, and the lines that PROVED counts. And checks of each
-edit that must fail whether it can still be made, and of those that stand aside whether their crate is as when all were refused.
+edit that must fail whether it can still be made, and of those that stand aside whether all was as it is when they were refused.
 
-Prints a line for each that is wrong, and at the end how many of the edits and of the pages passed. Needs python3 alone.
+Prints a line for each that is wrong, and at the end how many of the edits and of the pages passed. Needs python3 alone; where git or
+the kit is missing, nothing is asked of commits or of the kit.
 """
+
+from __future__ import annotations
 
 import re
 import sys
 from pathlib import Path
 
-import edits as aside
+import edits
 
 TOP = Path(__file__).resolve().parent.parent
 CRATES = TOP / "crates"
@@ -110,16 +113,6 @@ def wrong_places(edit: Path) -> list[str]:
     return wrong
 
 
-def wrong_sums() -> list[str]:
-    """The crates with edits that stand aside whose text isn't the one over which all their edits were refused."""
-    noted = aside.noted()
-    wrong = []
-    for crate in aside.with_aside():
-        if noted.get(crate, "").split(" ")[0] != aside.text_sum(crate):
-            wrong.append(f"not noted for the text of {crate}, whose edits tools/edits.py {crate} tries")
-    return wrong + [f"has no edits that stand aside: {crate}" for crate in set(noted) - set(aside.with_aside())]
-
-
 def told(what: str, wrong: dict[Path, list[str]]) -> int:
     """Prints what is wrong of each file, and how many files passed. How many didn't."""
     for file, lines in wrong.items():
@@ -145,9 +138,9 @@ def main() -> int:
         pages[page] = wrong_examples(text, known) + wrong_links(page, text) + wrong_names(text, names)
         if page.name == "PROVED.md":
             pages[page] += wrong_counts(text)
-    edits = {edit: wrong_places(edit) for edit in sorted(CRATES.glob("*/must-fail/*.edit*"))}
-    edits[aside.REFUSED] = wrong_sums()
-    return 1 if told("edits", edits) + told("pages", pages) else 0
+    places = {edit: wrong_places(edit) for edit in sorted(CRATES.glob("*/must-fail/*.edit*"))}
+    places[edits.REFUSED] = [f"tools/edits.py {crate}: {why}" for crate, why in sorted(edits.wrong_notes().items())]
+    return 1 if told("edits", places) + told("pages", pages) else 0
 
 
 if __name__ == "__main__":
