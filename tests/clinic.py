@@ -23,7 +23,7 @@ sys.path += [str(CLINIC), str(ROOT / "clients/python")]
 import app  # noqa: E402
 import dialogue  # noqa: E402
 import ifdb  # noqa: E402
-import served  # noqa: E402
+import program  # noqa: E402
 import start  # noqa: E402
 
 
@@ -58,7 +58,7 @@ class Browsers:
         words = base64.b64encode(f"{name}:{start.key_of(name)}".encode()).decode()
         request = urllib.request.Request(self._at + path, headers={"Authorization": f"Basic {words}"}, method=method)
         try:
-            with urllib.request.urlopen(request, timeout=served.PATIENCE) as reply:
+            with urllib.request.urlopen(request, timeout=program.PATIENCE) as reply:
                 status, page = reply.status, reply.read()
         except urllib.error.HTTPError as refused:
             with refused:
@@ -79,7 +79,7 @@ def refused_in_a_crowd(browsers: Browsers) -> int:
 
 def let_eve_in(port: int) -> None:
     """What anybody may do who reaches the port: makes a principal, and calls it a doctor."""
-    with ifdb.connect(port, "admin", "admin", timeout=served.PATIENCE) as admin:
+    with ifdb.connect(port, "admin", "admin", timeout=program.PATIENCE) as admin:
         cursor = admin.cursor()
         cursor.execute("CREATE PRINCIPAL eve KEY ?", (start.key_of("eve"),))
         cursor.execute("INSERT INTO person VALUES ('eve', 'doctor')")
@@ -90,7 +90,7 @@ def main(words: Sequence[str]) -> int:
         print(__doc__, file=sys.stderr)
         return 2
     log: List[str] = []
-    with served.Server() as database:
+    with program.Server() as database:
         start.start(database.port)
         let_eve_in(database.port)
         with app.serve(database.port, 0, log.append) as web:

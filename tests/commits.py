@@ -1,97 +1,97 @@
 #!/usr/bin/env python3
 """Whether what a served ifdb acknowledges is kept, and nothing else: clients that all raise one number and each add rows.
 
-    tests/commits.py PROGRAM [--port PORT] [--clients 1,4,63] [--transactions N]
+    tests/commits.py [--clients 1,4,63] [--transactions N]     the variable IFDB names another program than crates/ifdb/out/ifdb
 
-PROGRAM is the built program. For each number of clients it starts a server with as many workers, of two connections each. Every
-client does N transactions over a connection of its own: it reads the number, adds one, inserts a row, and commits; one that is
-refused by Conflict is done again. Then a further connection reads the number and the rows, and the rest say BYE, so that the server
-ends. The number, the rows and the summary's commits and refused COMMITs must be what the clients were told. The status is 1 where
-they aren't, and 0 else.
+For each number of clients it starts a server with as many workers, of two connections each. Every client does N transactions over a
+connection of its own: it reads the number, adds one, inserts a row, and commits; one that is refused by Conflict is done again. Then
+a further connection reads the number and the rows, and the rest say BYE, so that the server ends. The number, the rows and the
+summary's commits and refused COMMITs must be what the clients were told. The status is 1 where they aren't, and 0 else.
 """
+
+from __future__ import annotations
+
 import argparse
 import pathlib
-import subprocess
 import sys
 import threading
 import time
+from typing import Dict, List, Optional, Tuple
 
-sys.path.append(str(pathlib.Path(__file__).resolve().parent.parent / "examples"))
-from client import Refused, Session
+sys.path.append(str(pathlib.Path(__file__).resolve().parents[1] / "clients/python"))
+import program  # noqa: E402
+
+HELLO = "HELLO admin KEY 'admin'"
 
 
 class Client(threading.Thread):
     """A client: counts its commits and the COMMITs that were refused."""
 
-    def __init__(self, port, number, transactions):
+    def __init__(self, port: int, number: int, transactions: int) -> None:
         super().__init__()
         self.port, self.number, self.transactions = port, number, transactions
-        self.commits, self.refused, self.fault = 0, 0, None
+        self.commits = self.refused = 0
+        self.fault: Optional[str] = None
 
-    def run(self):
+    def run(self) -> None:
         try:
-            with Session(self.port) as session:
-                session.ask("HELLO admin KEY 'admin'")
+            with program.connected(self.port) as session:
+                session.answer(HELLO)
                 while self.commits < self.transactions:
                     self.transact(session)
-                session.ask("BYE")
-        except (Refused, OSError) as fault:
+                session.answer("BYE")
+        except (program.Refused, program.Ended, OSError) as fault:
             self.fault = f"{type(fault).__name__} {fault}"
 
-    def transact(self, session):
-        session.ask("BEGIN")
-        [[value]] = session.ask("SELECT value FROM total WHERE id = 1")
-        session.ask(f"UPDATE total SET value = {int(value) + 1} WHERE id = 1")
-        session.ask(f"INSERT INTO entry VALUES ({self.number}, {self.commits})")
+    def transact(self, session: program.Session) -> None:
+        session.answer("BEGIN")
+        _, value = session.answer("SELECT value FROM total WHERE id = 1")
+        session.answer(f"UPDATE total SET value = {int(value) + 1} WHERE id = 1")
+        session.answer(f"INSERT INTO entry VALUES ({self.number}, {self.commits})")
         try:
-            session.ask("COMMIT")
+            session.answer("COMMIT")
             self.commits += 1
-        except Refused as refusal:
+        except program.Refused as refusal:
             if refusal.name != "Conflict":
                 raise
             self.refused += 1
 
 
-def prepare(port):
-    with Session(port) as session:
-        session.ask("HELLO admin KEY 'admin'")
-        session.ask("CREATE TABLE total (id INT, value INT, PRIMARY KEY (id))")
-        session.ask("CREATE TABLE entry (client INT, number INT, PRIMARY KEY (client, number))")
-        session.ask("INSERT INTO total VALUES (1, 0)")
-        session.ask("BYE")
+def prepare(port: int) -> None:
+    with program.connected(port) as session:
+        session.answer(HELLO)
+        session.answer("CREATE TABLE total (id INT, value INT, PRIMARY KEY (id))")
+        session.answer("CREATE TABLE entry (client INT, number INT, PRIMARY KEY (client, number))")
+        session.answer("INSERT INTO total VALUES (1, 0)")
+        session.answer("BYE")
 
 
-def found(port):
+def found(port: int) -> Tuple[int, Dict[int, int]]:
     """The number, and how many rows each client has."""
-    with Session(port) as session:
-        session.ask("HELLO admin KEY 'admin'")
-        [[value]] = session.ask("SELECT value FROM total WHERE id = 1")
-        rows = session.ask("SELECT client, COUNT(*) FROM entry GROUP BY client")
-        session.ask("BYE")
-    return int(value), {int(client): int(count) for client, count in rows}
+    with program.connected(port) as session:
+        session.answer(HELLO)
+        _, value = session.answer("SELECT value FROM total WHERE id = 1")
+        _, *rows = session.answer("SELECT client, COUNT(*) FROM entry GROUP BY client")
+        session.answer("BYE")
+    return int(value), {int(client): int(count) for client, count in (row.split("\t") for row in rows)}
 
 
-def tell(clients, port, transactions, program):
+def tell(clients: int, transactions: int) -> List[str]:
     """Runs the clients, and returns what is wrong, if anything."""
-    words = ["serve", "--port", str(port), "--workers", str(clients + 1), "--links", "2"]
-    server = subprocess.Popen([program, *words], stdout=subprocess.PIPE, text=True)
-    try:
-        assert server.stdout.readline() == f"LISTENING {port}\n"
-        prepare(port)
-        all_clients = [Client(port, number, transactions) for number in range(clients)]
+    with program.Server(workers=clients + 1, links=2) as server:
+        prepare(server.port)
+        all_clients = [Client(server.port, number, transactions) for number in range(clients)]
         begun = time.monotonic()
         for client in all_clients:
             client.start()
         for client in all_clients:
             client.join()
         took = time.monotonic() - begun
-        value, rows = found(port)
+        value, rows = found(server.port)
         for _ in range(2 * (clients + 1) - clients - 2):
-            with Session(port) as session:
-                session.ask("BYE")
-        summary = dict(line.split() for line in server.communicate(timeout=60)[0].splitlines())
-    finally:
-        server.kill()
+            with program.connected(server.port) as session:
+                session.answer("BYE")
+        summary = server.summary(patience=60)
     commits = sum(client.commits for client in all_clients)
     refused = sum(client.refused for client in all_clients)
     wrong = [client.fault for client in all_clients if client.fault]
@@ -100,20 +100,18 @@ def tell(clients, port, transactions, program):
     if rows != {client.number: client.commits for client in all_clients}:
         wrong.append("the rows aren't those of the acknowledged transactions")
     wanted = {"sessions": 2 * (clients + 1), "commits": commits + 1, "refused": refused, "rows": commits + 1, "faults": 0}
-    wrong += [f"{name} is {summary[name]}, not {count}" for name, count in wanted.items() if summary[name] != str(count)]
+    wrong += [f"{name} is {summary[name]}, not {count}" for name, count in wanted.items() if summary[name] != count]
     print(f"{clients:7} {commits:8,} {refused:8,} {took:8.2f} s   {'; '.join(wrong) or 'all adds up'}", flush=True)
     return wrong
 
 
-def main():
+def main() -> None:
     parser = argparse.ArgumentParser(description=__doc__, formatter_class=argparse.RawDescriptionHelpFormatter)
-    parser.add_argument("program")
-    parser.add_argument("--port", type=int, default=47200)
     parser.add_argument("--clients", type=lambda text: [int(it) for it in text.split(",")], default=[1, 4, 63])
     parser.add_argument("--transactions", type=int, default=100)
     options = parser.parse_args()
     print(f"{'clients':>7} {'commits':>8} {'refused':>8} {'time':>10}")
-    wrong = [tell(clients, options.port + at, options.transactions, options.program) for at, clients in enumerate(options.clients)]
+    wrong = [tell(clients, options.transactions) for clients in options.clients]
     sys.exit(any(wrong))
 
 

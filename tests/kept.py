@@ -5,72 +5,79 @@ answered. Prints how many calls were as they should be.
 
     tests/kept.py      the variable IFDB names another program than crates/ifdb/out/ifdb
 """
-import os
+
+from __future__ import annotations
+
+import pathlib
 import resource
 import subprocess
 import sys
 import tempfile
-from pathlib import Path
+from collections.abc import Iterator
+from typing import Optional, Tuple
 
-EXAMPLES = Path(__file__).resolve().parent.parent / "examples"
-sys.path.append(str(EXAMPLES))
-from record import PROGRAM  # noqa: E402
+ROOT = pathlib.Path(__file__).resolve().parents[1]
+sys.path.append(str(ROOT / "clients/python"))
+import program  # noqa: E402
 
-IFDB = os.environ.get("IFDB", PROGRAM[0])
+EXAMPLES = ROOT / "examples"
 FIRST, REPLIES = (EXAMPLES / "kept.script").read_text(), (EXAMPLES / "kept.replies").read_text()
 LOOK = "OPEN\n1 HELLO admin KEY 'admin'\n1 SELECT id FROM note\n"
 FOUND = "1 OPEN\n1 OK\n1 ROWS 1 1\n1 1\n"
 
+Call = Tuple[object, ...]
 
-def kept(file, script):
+
+def kept(file: pathlib.Path, script: str) -> Tuple[int, str, str, Optional[int]]:
     """The status, the replies, standard error, and the length of the file."""
-    done = subprocess.run([IFDB, "keep", "--file", file], input=script, capture_output=True, text=True, check=False)
-    return done.returncode, done.stdout, done.stderr, os.path.getsize(file) if os.path.exists(file) else None
+    ran = program.run("keep", "--file", file, given=script.encode())
+    return ran.status, ran.written.decode(), ran.said.decode(), file.stat().st_size if file.exists() else None
 
 
-def front(file, byte, copy):
-    with open(copy, "wb") as out:
+def front(file: pathlib.Path, byte: int, copy: pathlib.Path) -> pathlib.Path:
+    with copy.open("wb") as out:
         subprocess.run([EXAMPLES / "journal_front.sh", file, str(byte)], stdout=out, check=True)
     return copy
 
 
-def full(file, size):
+def full(file: pathlib.Path, size: int) -> Tuple[int, int, int]:
     """How many INSERTs are answered where the file can't grow past a size, the status, and how many rows the next start finds."""
     script = FIRST[: FIRST.index("1 BEGIN")] + "".join(f"1 INSERT INTO note VALUES ({i})\n" for i in range(2, 1000))
-    done = subprocess.run(
-        [IFDB, "keep", "--file", file], input=script, capture_output=True, text=True, check=False, restore_signals=False,
-        preexec_fn=lambda: resource.setrlimit(resource.RLIMIT_FSIZE, (size, size)))
+    done = subprocess.run(  # (with what Python sets aside of signals: a file that may not grow sends one)
+        [str(program.path()), "keep", "--file", str(file)],
+        input=script.encode(),
+        capture_output=True,
+        check=False,
+        restore_signals=False,
+        preexec_fn=lambda: resource.setrlimit(resource.RLIMIT_FSIZE, (size, size)),
+    )
     _, replies, _, _ = kept(file, LOOK.replace(" id ", " COUNT(*) "))
-    return done.returncode, done.stdout.count("OK 1"), int(replies.split()[-1])
+    return done.returncode, done.stdout.count(b"OK 1"), int(replies.split()[-1])
 
 
-def calls(folder):
+def calls(folder: pathlib.Path) -> Iterator[Tuple[Call, Call]]:
     """What each call was to give, and what it gave."""
-    file, damaged, copy = (os.path.join(folder, name) for name in ("journal", "damaged", "copy"))
+    file, damaged, copy = (folder / name for name in ("journal", "damaged", "copy"))
     yield (0, REPLIES, "", 211), kept(file, FIRST)
     yield (0, FOUND, "", 276), kept(file, LOOK)
     # The gate behind the records of both scripts is opened, and nothing stands behind it.
-    Path(damaged).write_bytes(Path(file).read_bytes()[:-1] + b"\1")
+    damaged.write_bytes(file.read_bytes()[:-1] + b"\1")
     yield (8, "", "ifdb: the journal is damaged at byte 275\n", 276), kept(damaged, LOOK)
     yield (0, FOUND, "", 276 + 65), kept(front(damaged, 275, copy), LOOK)
-    Path(damaged).write_bytes(b"\1\11\0")
+    damaged.write_bytes(b"\1\11\0")
     yield (8, "", "ifdb: the journal is damaged at byte 0\n", 3), kept(damaged, FIRST)
-    status, answered, found = full(os.path.join(folder, "full"), 10_000)
+    status, answered, found = full(folder / "full", 10_000)
     yield (7, True, True), (status, 100 < answered < 998, found == answered)
-    yield (7, "", "", None), kept(os.path.join(folder, "nowhere", "journal"), FIRST)
-    with subprocess.Popen([IFDB, "keep", "--file", file], stdin=subprocess.PIPE, stdout=subprocess.PIPE) as holder:
-        holder.stdin.write(b"OPEN\n")
-        holder.stdin.flush()
-        holder.stdout.readline()  # (it has the file now)
-        status, replies, errors, _ = kept(file, LOOK)
-        yield (7, "", ""), (status, replies, errors)
-        holder.stdin.close()
+    yield (7, "", "", None), kept(folder / "nowhere" / "journal", FIRST)
+    with program.Piped("keep", "--file", file) as holder:
+        holder.ask("OPEN")  # (it has the file now)
+        yield (7, "", ""), kept(file, LOOK)[:3]
 
 
-def main():
+def main() -> int:
     count = wrong = 0
     with tempfile.TemporaryDirectory(prefix="ifdb-kept-") as folder:
-        for wanted, found in calls(folder):
+        for wanted, found in calls(pathlib.Path(folder)):
             count += 1
             if found != wanted:
                 wrong += 1

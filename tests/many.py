@@ -2,24 +2,27 @@
 """Asks the built program for transactions of many writes, and looks whether it answers them.
 
 So many rows as are said, 200,000 if none is, are inserted in one transaction, and then all of them changed by one statement and
-deleted by one. What a commit does for each write has to be a loop: a stack has no room for so many calls. Run it at the top of the
-repository, with the program built:
+deleted by one. What a commit does for each write has to be a loop: a stack has no room for so many calls.
 
     tests/many.py [ROWS]       the variable IFDB names another program than crates/ifdb/out/ifdb
 """
-import os
+
+from __future__ import annotations
+
 import pathlib
-import subprocess
 import sys
+from collections.abc import Iterator
+from typing import Tuple
 
-HERE = pathlib.Path(__file__).resolve().parent
-PROGRAM = os.environ.get("IFDB", str(HERE.parent / "crates/ifdb/out/ifdb"))
+sys.path.append(str(pathlib.Path(__file__).resolve().parents[1] / "clients/python"))
+import program  # noqa: E402
+
 ROWS = 200_000
-# as many rows as one INSERT may have
 AT_ONCE = 256
+"""As many rows as one INSERT may have."""
 
 
-def script(rows):
+def script(rows: int) -> Iterator[Tuple[str, str]]:
     """The lines of a run, and what each has to be answered."""
     yield "OPEN", "1 OPEN"
     yield "1 HELLO admin KEY 'admin'", "1 OK"
@@ -33,16 +36,16 @@ def script(rows):
     yield "1 DELETE FROM t WHERE v = 1", f"1 OK {rows}"
 
 
-def main():
+def main() -> None:
     rows = int(sys.argv[1]) if len(sys.argv) > 1 else ROWS
     lines, wanted = zip(*script(rows))
-    run = subprocess.run([PROGRAM, "run"], input="\n".join(lines) + "\n", capture_output=True, text=True)
-    replies = run.stdout.splitlines()
+    ran = program.run("run", given="".join(f"{line}\n" for line in lines).encode())
+    replies = ran.written.decode().splitlines()
     for line, want, reply in zip(lines, wanted, replies):
         if reply != want:
             sys.exit(f"many.py: {line[:60]}: {reply} in place of {want}")
-    if run.returncode or len(replies) != len(lines):
-        sys.exit(f"many.py: {len(replies)} of {len(lines)} lines were answered, and the status is {run.returncode}")
+    if ran.status or len(replies) != len(lines):
+        sys.exit(f"many.py: {len(replies)} of {len(lines)} lines were answered, and the status is {ran.status}")
     print(f"many.py: {rows} rows were inserted, changed and deleted, each time in one transaction")
 
 

@@ -4,18 +4,21 @@
 Tables with keys of one, two and three columns get random rows at random labels. Random conditions C are then asked twice by sessions
 at several labels: as `WHERE C`, where literals that bound the key leave a range, and as `WHERE C OR C`, which is as true and never
 leaves one. The two have to be answered alike, byte by byte: SELECTs of one table and of two, SELECTs over views, and UPDATE and DELETE
-with what they leave, each in a transaction that is rolled back. Run it at the top of the repository, with the program built:
+with what they leave, each in a transaction that is rolled back.
 
     tests/ranges.py [SEED..]       the variable IFDB names another program than crates/ifdb/out/ifdb
 """
-import os
+
+from __future__ import annotations
+
 import pathlib
 import random
-import subprocess
 import sys
+from typing import List, Tuple
 
-HERE = pathlib.Path(__file__).resolve().parent
-PROGRAM = os.environ.get("IFDB", str(HERE.parent / "crates/ifdb/out/ifdb"))
+sys.path.append(str(pathlib.Path(__file__).resolve().parents[1] / "clients/python"))
+import program  # noqa: E402
+
 SEEDS = range(8)
 CONDITIONS = 40
 LEAST, GREATEST = -(2**63), 2**63 - 1
@@ -26,19 +29,19 @@ LABELS = ["", "x", "y", "x, y", "every"]
 TABLES = {"one": ("i", "it"), "two": ("it", "ii"), "three": ("iti", "t")}
 
 
-def columns_of(table):
+def columns_of(table: str) -> List[Tuple[str, str]]:
     """Each column of a table with its kind."""
     key, others = TABLES[table]
     return [(f"c{at}", kind) for at, kind in enumerate(key + others)]
 
 
-def literal(rng, kind):
+def literal(rng: random.Random, kind: str) -> str:
     if kind == "t":
         return "'" + rng.choice(["", "a", "aa", "ab", "b", "b''", "é", "z"]) + "'"
     return str(rng.choice([*range(-3, 6), LEAST, LEAST + 1, GREATEST - 1, GREATEST]))
 
 
-def compared(rng, table, of):
+def compared(rng: random.Random, table: str, of: str) -> str:
     """A comparison of a column with a literal, mostly of the key's columns and mostly one that bounds them."""
     columns = columns_of(table)
     reach = len(TABLES[table][0]) if rng.random() < 0.8 else len(columns)
@@ -51,7 +54,7 @@ def compared(rng, table, of):
     return f"{sides[0]} {how} {sides[1]}"
 
 
-def condition(rng, table, of="", depth=2):
+def condition(rng: random.Random, table: str, of: str = "", depth: int = 2) -> str:
     kind = rng.random()
     if depth == 0 or kind < 0.25:
         return compared(rng, table, of)
@@ -63,7 +66,7 @@ def condition(rng, table, of="", depth=2):
     return f"NOT {parts[0]}"
 
 
-def beginning(rng):
+def beginning(rng: random.Random) -> List[str]:
     """The tables and their rows, and a session at each label."""
     lines = ["OPEN", "1 HELLO admin KEY 'admin'", "1 CREATE COMPOUND TAG every"]
     lines += ["1 CREATE TAG x IN (every)", "1 CREATE TAG y IN (every)"]
@@ -84,7 +87,7 @@ def beginning(rng):
     return lines
 
 
-def asked(rng, number):
+def asked(rng: random.Random, number: int) -> List[List[str]]:
     """Lines that ask something of one condition twice: by a range where it leaves one, and by a pass."""
     session, table = rng.randint(2, 1 + len(LABELS)), rng.choice(list(TABLES))
     both = [condition(rng, table)]
@@ -118,27 +121,16 @@ def asked(rng, number):
     ]
 
 
-def replies_of(written):
-    """The replies, each with its lines."""
-    lines, replies = written.splitlines(), []
-    while lines:
-        words = lines[0].split()
-        more = int(words[2]) if words[1:2] == [b"ROWS"] else 0
-        replies.append(lines[: 1 + more])
-        del lines[: 1 + more]
-    return replies
-
-
-def main():
+def main() -> None:
     pairs, rows = 0, 0
     for seed in [int(it) for it in sys.argv[1:]] or SEEDS:
         rng = random.Random(seed)
         begin = beginning(rng)
         questions = [asked(rng, number) for number in range(CONDITIONS)]
         script = begin + [line for question in questions for way in question for line in way]
-        ran = subprocess.run([PROGRAM, "run"], input="\n".join(script).encode() + b"\n", capture_output=True, check=True)
-        replies = replies_of(ran.stdout)
-        assert len(replies) == len(script), f"seed {seed}: {len(replies)} replies to {len(script)} lines"
+        ran = program.run("run", given="".join(f"{line}\n" for line in script).encode())
+        replies = program.replies_of(ran.written)
+        assert ran.status == 0 and len(replies) == len(script), f"seed {seed}: {len(replies)} replies to {len(script)} lines"
         for line, reply in zip(script, replies):
             error = reply[0].split()[3:] if b" ERR " in reply[0] else [b""]
             assert error[0] in EXPECTED, f"seed {seed}: {line}: {reply[0].decode()}"

@@ -1,10 +1,15 @@
 #!/usr/bin/env python3
 """Counts how often a snapshot of 6,400 rows asks for memory, and a reserve of one write, by the test `snapshot_shares`.
 
+    tests/shares.py
+
 Each request of the test for memory is refused in turn, and the test says what it was for. A snapshot that copied the rows, or a
-reserve that did, would ask thousands of times. Run it at the top of the repository, with the test built (`rt test` in
-`crates/test_store`), a C compiler there, and Python 3.10 or later.
+reserve that did, would ask thousands of times. Wants the test built (`rt test` in `crates/test_store`), a C compiler, and Python 3.10
+or later.
 """
+
+from __future__ import annotations
+
 import bisect
 import os
 import pathlib
@@ -19,19 +24,19 @@ STAGES = ["filling", "write", "snapshot", "reserve"]
 """What the requests are for, in their order."""
 
 
-def run(shim, refuse):
+def run(shim: pathlib.Path, refuse: int) -> str:
     """Runs the test with one request refused, or none where that is 0, and returns what it said."""
     env = {**os.environ, "LD_PRELOAD": str(shim), "REFUSE": str(refuse)}
     ran = subprocess.run([TESTS, TEST], capture_output=True, text=True, env=env, check=False)
     return ran.stdout + ran.stderr
 
 
-def stage_of(told):
+def stage_of(told: str) -> int:
     """The place in STAGES of what a refused request was for; behind all of them where the test passed."""
     return next((place for place, stage in enumerate(STAGES) if f"refused to the {stage}" in told), len(STAGES))
 
 
-def main():
+def main() -> int:
     with tempfile.TemporaryDirectory() as work:
         shim = pathlib.Path(work) / "refuse.so"
         subprocess.run(["cc", "-O1", "-shared", "-fPIC", "-o", shim, HERE / "refuse.c", "-ldl"], check=True)

@@ -8,6 +8,9 @@ client keeps one connection and asks one thing after another; after each try of 
 Prints a table of what the bad clients saw, and what the well-behaved one did. The status is 1 where that one saw anything but its
 replies, each within 20 seconds, and 0 else.
 """
+
+from __future__ import annotations
+
 import argparse
 import collections
 import socket
@@ -15,23 +18,28 @@ import struct
 import sys
 import threading
 import time
+from collections.abc import Iterable, Iterator
+from typing import BinaryIO, Counter, List, Tuple
 
 PATIENCE = 20
 
+At = Tuple[str, int]
+Exchange = Tuple[str, str]
 
-def connected(at):
+
+def connected(at: At) -> socket.socket:
     link = socket.create_connection(at, timeout=PATIENCE)
     link.setsockopt(socket.IPPROTO_TCP, socket.TCP_NODELAY, 1)
     return link
 
 
-def reset(link):
+def reset(link: socket.socket) -> None:
     """Closes the connection with a reset in place of an end."""
     link.setsockopt(socket.SOL_SOCKET, socket.SO_LINGER, struct.pack("ii", 1, 0))
     link.close()
 
 
-def rest(link):
+def rest(link: socket.socket) -> str:
     """What comes up to the end of the connection, in words."""
     heard = b""
     try:
@@ -50,47 +58,47 @@ def rest(link):
     return ", ".join(told + [ending])
 
 
-def vanish(link):
+def vanish(link: socket.socket) -> str:
     link.sendall(b"SHOW LABEL\n")
     link.close()
     return "left without reading"
 
 
-def vanish_at_once(link):
+def vanish_at_once(link: socket.socket) -> str:
     link.close()
     return "left"
 
 
-def reset_at_once(link):
+def reset_at_once(link: socket.socket) -> str:
     reset(link)
     return "reset the connection"
 
 
-def reset_behind_a_request(link):
+def reset_behind_a_request(link: socket.socket) -> str:
     link.sendall(b"SHOW LABEL\n")
     reset(link)
     return "reset the connection"
 
 
-def half_a_line(link):
+def half_a_line(link: socket.socket) -> str:
     link.sendall(b"SHOW LAB")
     link.close()
     return "left"
 
 
-def half_a_line_and_end(link):
+def half_a_line_and_end(link: socket.socket) -> str:
     link.sendall(b"SHOW LAB")
     link.shutdown(socket.SHUT_WR)
     return rest(link)
 
 
-def silence(link):
+def silence(link: socket.socket) -> str:
     time.sleep(3)
     link.sendall(b"BYE\n")
     return rest(link)
 
 
-def long_line(link):
+def long_line(link: socket.socket) -> str:
     try:
         link.sendall(b"x" * 200_000 + b"\n")
     except OSError as fault:
@@ -98,17 +106,17 @@ def long_line(link):
     return rest(link)
 
 
-def no_text(link):
+def no_text(link: socket.socket) -> str:
     link.sendall(b"\xff\x00\xfe\nBYE\n")
     return rest(link)
 
 
-def many_at_once(link):
+def many_at_once(link: socket.socket) -> str:
     link.sendall(b"SHOW LABEL\n" * 1000 + b"BYE\n")
     return rest(link)
 
 
-def read_nothing(link):
+def read_nothing(link: socket.socket) -> str:
     """Sends requests until the server takes no more of them for a second, since its replies aren't read."""
     link.settimeout(1)
     sent = 0
@@ -143,13 +151,14 @@ BAD = [
 class Good(threading.Thread):
     """The well-behaved client: it asks the same few things over and over, and knows each reply."""
 
-    def __init__(self, at, key):
+    def __init__(self, at: At, key: str) -> None:
         super().__init__(daemon=True)
         self.at, self.key = at, key
-        self.faults, self.replies, self.slowest = [], 0, 0.0
+        self.faults: List[str] = []
+        self.replies, self.slowest = 0, 0.0
         self.over = threading.Event()
 
-    def talk(self, link, lines, exchanges):
+    def talk(self, link: socket.socket, lines: BinaryIO, exchanges: Iterable[Exchange]) -> None:
         for request, wanted in exchanges:
             begun = time.monotonic()
             link.sendall(request.encode() + b"\n")
@@ -159,7 +168,7 @@ class Good(threading.Thread):
             if reply != wanted + "\n":
                 raise ValueError(f"{request} was answered {reply!r}")
 
-    def session(self, exchanges):
+    def session(self, exchanges: Iterable[Exchange]) -> None:
         """A connection of its own, with these requests and their replies between HELLO and BYE."""
         try:
             link = connected(self.at)
@@ -174,17 +183,17 @@ class Good(threading.Thread):
         except (OSError, ValueError) as fault:
             self.faults.append(f"{type(fault).__name__}: {fault}")
 
-    def exchanges(self):
+    def exchanges(self) -> Iterator[Exchange]:
         while not self.over.is_set():
             yield "BEGIN", "OK"
             yield "SHOW LABEL", "LABEL ()"
             yield "COMMIT", "OK"
 
-    def run(self):
+    def run(self) -> None:
         self.session(self.exchanges())
 
 
-def main():
+def main() -> int:
     parser = argparse.ArgumentParser(description=__doc__, formatter_class=argparse.RawDescriptionHelpFormatter)
     parser.add_argument("port", type=int)
     parser.add_argument("--host", default="127.0.0.1")
@@ -195,7 +204,7 @@ def main():
     good, newcomer = Good(at, options.key), Good(at, options.key)
     good.start()
     for bad in BAD:
-        seen = collections.Counter()
+        seen: Counter[str] = collections.Counter()
         for _ in range(options.times):
             try:
                 seen[bad(connected(at))] += 1
@@ -210,8 +219,8 @@ def main():
         good.faults.append("a reply didn't come")
     for name, client in (("the well-behaved client", good), ("its new connections", newcomer)):
         print(f"{name:24} {client.replies:,} replies, the slowest after {client.slowest * 1000:.1f} ms")
-        for fault in client.faults:
-            print(f"{'':24} {fault}")
+        for told in client.faults:
+            print(f"{'':24} {told}")
     return 1 if good.faults or newcomer.faults else 0
 
 

@@ -4,43 +4,43 @@ altered, dropped or doubled it is refused at the first line that differs. Prints
 
     tests/traces.py      the variable IFDB names another program than crates/ifdb/out/ifdb
 """
-import os
-import subprocess
+
+from __future__ import annotations
+
+import pathlib
 import sys
 from collections.abc import Iterator
 from itertools import zip_longest
-from pathlib import Path
+from typing import List, Tuple
 
-EXAMPLES = Path(__file__).resolve().parent.parent / "examples"
-sys.path.append(str(EXAMPLES))
-from record import PROGRAM, recorded  # noqa: E402
-
-IFDB = os.environ.get("IFDB", PROGRAM[0])
+ROOT = pathlib.Path(__file__).resolve().parents[1]
+sys.path.append(str(ROOT / "clients/python"))
+import program  # noqa: E402
 
 
-def verdict(trace: list[bytes]) -> str:
-    judged = subprocess.run([IFDB, "check"], input=b"".join(trace), stdout=subprocess.PIPE, check=False)
-    return f"{judged.stdout.decode()}status {judged.returncode}"
+def verdict(trace: List[bytes]) -> str:
+    judged = program.run("check", given=b"".join(trace))
+    return f"{judged.written.decode()}status {judged.status}"
 
 
-def changes(trace: list[bytes]) -> Iterator[list[bytes]]:
+def changes(trace: List[bytes]) -> Iterator[List[bytes]]:
     """The trace with one reply line altered, dropped or doubled."""
     for at, line in enumerate(trace):
         if line.startswith(b"< "):
-            for lines in [line.removesuffix(b"\n") + b"!\n"], [], [line, line]:
-                yield trace[:at] + lines + trace[at + 1 :]
+            altered: Tuple[List[bytes], ...] = ([line.removesuffix(b"\n") + b"!\n"], [], [line, line])
+            yield from (trace[:at] + lines + trace[at + 1 :] for lines in altered)
 
 
-def first_difference(trace: list[bytes], changed: list[bytes]) -> int:
+def first_difference(trace: List[bytes], changed: List[bytes]) -> int:
     """The number of the first line that differs, from 1."""
     return 1 + next(at for at, (one, other) in enumerate(zip_longest(trace, changed)) if one != other)
 
 
 def main() -> int:
     count = wrong = 0
-    for path in sorted(EXAMPLES.glob("*.script")):
+    for path in sorted((ROOT / "examples").glob("*.script")):
         with path.open("rb") as script:
-            trace = list(recorded(script, [IFDB, "run"]))
+            trace = list(program.recorded(script))
         wanted = [(trace, "ACCEPTED\nstatus 0")]
         wanted += [(lines, f"REFUSED {first_difference(trace, lines)}\nstatus 9") for lines in changes(trace)]
         for lines, said in wanted:
