@@ -180,14 +180,14 @@ def is_whole_repository() -> bool:
 
 
 @contextmanager
-def tree_of(commit: str) -> Iterator[Optional[Tree]]:
-    """The crates of a commit, for a while; None where there is no such commit."""
-    archive = git("archive", commit, "crates", "crates.txt")
+def tree_of(commit: str, *, whole: bool = False) -> Iterator[Optional[Tree]]:
+    """The crates of a commit, or all that it has, for a while; None where there is no such commit."""
+    archive = git("archive", commit, *([] if whole else ["crates", "crates.txt"]))
     if archive is None:
         yield None
         return
     with tempfile.TemporaryDirectory(prefix="ifdb-edits-") as folder, tarfile.open(fileobj=io.BytesIO(archive)) as tar:
-        read = [it for it in tar if it.name == "crates.txt" or it.name.endswith((*SOURCES, ".edit", ASIDE))]
+        read = [it for it in tar if whole or it.name == "crates.txt" or it.name.endswith((*SOURCES, ".edit", ASIDE))]
         tar.extractall(folder, read)
         yield Tree(Path(folder))
 
