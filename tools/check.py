@@ -12,6 +12,7 @@ import re
 import sys
 from pathlib import Path
 
+import deciding
 import edits
 
 TOP = Path(__file__).resolve().parent.parent
@@ -77,27 +78,49 @@ def wrong_names(text: str, names: set[str]) -> list[str]:
     return wrong
 
 
+Row = tuple[str, str, list[Path]]
+"""A row of a table of files that are to be read: what it names, how many lines it says that they have, and the files."""
+
+
+def reading_tables(text: str) -> list[list[Row]]:
+    """The tables of the files that are to be read."""
+    tables = []
+    for section in text.split("| step | read | lines |")[1:]:
+        rows = []
+        for read, said in re.findall(r"^\| \d+\. [^|]*\| ([^|]*) \| (\d+) \|$", section.split("\n\n")[0], re.M):
+            files = []
+            for part in read.split("; "):
+                crate, _, rest = part.partition(": ")
+                names = re.findall(r"`([^`]+)`", rest)
+                files += [CRATES / crate.strip("`") / ("" if "/" in name else "specs") / name for name in names]
+            rows.append((read, said, files))
+        tables.append(rows)
+    return tables
+
+
 def wrong_counts(text: str) -> list[str]:
     """Whether the files that are to be read have as many lines as the tables say, one by one and in all."""
     wrong, sums = [], []
-    for section in text.split("| step | read | lines |")[1:]:
-        files, lines = 0, 0
-        for read, said in re.findall(r"^\| \d+\. [^|]*\| ([^|]*) \| (\d+) \|$", section.split("\n\n")[0], re.M):
-            found = 0
-            for part in read.split("; "):
-                crate, _, rest = part.partition(": ")
-                for name in re.findall(r"`([^`]+)`", rest):
-                    file = CRATES / crate.strip("`") / ("" if "/" in name else "specs") / name
-                    found += len(file.read_text().splitlines())
-                    files += 1
-            if found != int(said):
-                wrong.append(f"{said} lines are {found}: {read}")
-            lines += found
-        sums.append((files, lines))
-    for (files, lines), (said, told) in zip(sums, re.findall(r"(\d+) files of ([\d,]+) lines", text)):
-        if (files, lines) != (int(said), int(told.replace(",", ""))):
-            wrong.append(f"{said} files of {told} lines are {files} of {lines:,}")
+    for table in reading_tables(text):
+        lines = [sum(len(file.read_text().splitlines()) for file in files) for _, _, files in table]
+        wrong += [f"{said} lines are {found}: {read}" for found, (read, said, _) in zip(lines, table) if found != int(said)]
+        sums.append((sum(len(files) for _, _, files in table), sum(lines)))
+    for (count, found), (said, told) in zip(sums, re.findall(r"(\d+) files of ([\d,]+) lines", text)):
+        if (count, found) != (int(said), int(told.replace(",", ""))):
+            wrong.append(f"{said} files of {told} lines are {count} of {found:,}")
     return wrong
+
+
+def wrong_deciding(text: str) -> list[str]:
+    """The files of definitions that decide what is promised and that no table lists or whose first line doesn't say so, and those
+    whose first line says so and that don't."""
+    listed = {file for table in reading_tables(text) for _, _, files in table for file in files}
+    reached = {file for file, _ in deciding.deciding()}
+    says_so = {file for file in CRATES.glob("*/specs/**/*.antt") if file.read_text().startswith("-- decides: ")}
+    wrong = [(file, "decides, and isn't listed") for file in reached - listed]
+    wrong += [(file, "decides, and its first line doesn't say so") for file in reached - says_so]
+    wrong += [(file, "says that it decides, and doesn't") for file in says_so - reached]
+    return [f"{file.relative_to(CRATES)} {why}" for file, why in sorted(wrong)]
 
 
 def wrong_places(edit: Path) -> list[str]:
@@ -137,7 +160,7 @@ def main() -> int:
         text = page.read_text()
         pages[page] = wrong_examples(text, known) + wrong_links(page, text) + wrong_names(text, names)
         if page.name == "PROVED.md":
-            pages[page] += wrong_counts(text)
+            pages[page] += wrong_counts(text) + wrong_deciding(text)
     places = {edit: wrong_places(edit) for edit in sorted(CRATES.glob("*/must-fail/*.edit*"))}
     places[edits.REFUSED] = [f"tools/edits.py {crate}: {why}" for crate, why in sorted(edits.wrong_notes().items())]
     return 1 if told("edits", places) + told("pages", pages) else 0

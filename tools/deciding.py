@@ -1,14 +1,16 @@
 #!/usr/bin/env python3
 """The definitions that decide what the program is promised to do: those that the clauses of its top call cite, and those that these cite.
 
-    docs/deciding.py            prints the files in which they stand, each with how many of its definitions decide
-    docs/deciding.py --why F    prints one way from the top call to the file F
+    tools/deciding.py            prints the files in which they stand, each with how many of its definitions decide
+    tools/deciding.py --why F    prints one way from the top call to the file F
 
 A definition stands in a file of a crate's specs/; it cites another where it names it. The words of traits that a clause speaks
 of (sources, sinks, sites, disks, shelves) are begun with as well, and so are the laws that no clause of that call states: what the
 parser reads by the written grammar, and what a journal's next script begins with. Each such file begins with a line
 `-- decides: ..`, and docs/PROVED.md lists it.
 """
+
+from __future__ import annotations
 
 import re
 import sys
@@ -42,8 +44,9 @@ def uses_of(text: str) -> dict[str, tuple[Path, str | None]]:
         file = CRATES / crate / "specs" / (place.replace(".", "/") + ".antt")
         if alias:
             named[alias] = (file, None)
-        for name in filter(None, (part.strip() for part in names.split(","))):
-            own, _, other = name.partition(" as ")
+        items = [part.strip() for part in str(names).split(",")]
+        for item in filter(None, items):
+            own, _, other = item.partition(" as ")
             for sign in parts_of(other or own):
                 named[sign] = (file, own)
     return named
