@@ -2,8 +2,10 @@
 """The edits that must fail and that stand aside: those that the gate doesn't try, since the prover refused them over the text as it is.
 
     tools/edits.py             tells which crates' edits have to be tried again, and why
-    tools/edits.py NAME..      tries all edits of these crates
+    tools/edits.py NAME..      tries all edits of these crates, and notes the crates of which all were refused
     tools/edits.py --all       tries those of all crates that have to be tried again
+
+Where a rebase left the commit of a note behind, and nothing else changed, the note gets another one without a try.
 
 An edit stands aside under a name that ends in edit.md. What refuses it is a contract, and what a contract says is said by the definitions
 and the contracts below as well. So tools/refused.txt notes for a crate the sum of its own text, of its edits, and of the definitions and
@@ -193,7 +195,9 @@ def tree_of(commit: str, *, whole: bool = False) -> Iterator[Optional[Tree]]:
 
 
 def sums_at(commit: str, crates: Iterable[str]) -> dict[str, str]:
-    """The sums of crates in a commit's tree; none where there is no such commit."""
+    """The sums of crates in a commit's tree; none where no such commit is in the history of what is checked out."""
+    if git("merge-base", "--is-ancestor", commit, "HEAD") is None:
+        return {}
     with tree_of(commit) as tree:
         return {crate: tree.text_sum(crate) for crate in crates} if tree else {}
 
@@ -215,7 +219,7 @@ def wrong_notes() -> dict[str, str]:
         elif our_kit is not None and note.kit != our_kit:
             wrong[crate] = f"they were refused by {note.kit}"
         elif note.commit in at and at[note.commit].get(crate) != now:
-            wrong[crate] = f"the commit {note.commit} isn't here, or has another text"
+            wrong[crate] = f"the commit {note.commit} isn't in the history, or has another text"
     return wrong
 
 
