@@ -25,7 +25,6 @@ import hashlib
 import io
 import re
 import shutil
-import signal
 import subprocess
 import sys
 import tarfile
@@ -226,24 +225,36 @@ def wrong_notes() -> dict[str, str]:
 # ---- Tries
 
 
+@contextmanager
+def laid_out(crate: str) -> Iterator[Path]:
+    """A folder that rt takes for this checkout, but that all edits of a crate have the names of tried ones there."""
+    with tempfile.TemporaryDirectory(prefix="ifdb-edits-") as folder:
+        top = Path(folder)
+        for name in ("crates.txt", "HANDLES"):
+            (top / name).symlink_to(TOP / name)
+        (top / "crates" / crate / "must-fail").mkdir(parents=True)
+        for other in (TOP / "crates").iterdir():
+            if other.name != crate:
+                (top / "crates" / other.name).symlink_to(other)
+        for part in (TOP / "crates" / crate).iterdir():
+            if part.name != "must-fail":
+                (top / "crates" / crate / part.name).symlink_to(part)
+        for edit in Tree(TOP).edits(crate):
+            shutil.copyfile(edit, top / "crates" / crate / "must-fail" / edit.name.removesuffix(ASIDE))
+        yield top
+
+
 def told_of(crate: str) -> dict[str, str]:
-    """What rt says of each edit of a crate, by the edit's name. All edits have the names of tried ones meanwhile."""
-    aside = [edit for edit in Tree(TOP).edits(crate) if edit.suffix == ASIDE]
+    """What rt says of each edit of a crate, by the edit's name."""
     told = {}
-    try:
-        for edit in aside:
-            edit.rename(edit.with_suffix(""))
-        with subprocess.Popen(["rt", "must-fail", crate], cwd=TOP, stdout=subprocess.PIPE, stderr=subprocess.STDOUT, text=True) as tried:
-            assert tried.stdout
-            for line in tried.stdout:
-                print(line, end="", flush=True)
-                found = TOLD.search(line)
-                if found:
-                    told[found["edit"]] = found["said"]
-    finally:
-        for edit in aside:
-            if edit.with_suffix("").exists():
-                edit.with_suffix("").rename(edit)
+    words = ["rt", "must-fail", crate]
+    with laid_out(crate) as top, subprocess.Popen(words, cwd=top, stdout=subprocess.PIPE, stderr=subprocess.STDOUT, text=True) as tried:
+        assert tried.stdout
+        for line in tried.stdout:
+            print(line, end="", flush=True)
+            found = TOLD.search(line)
+            if found:
+                told[found["edit"]] = found["said"]
     return told
 
 
@@ -286,7 +297,6 @@ def main(words: list[str]) -> int:
     if unknown:
         print(f"no edits: {' '.join(unknown)}\n{__doc__}", file=sys.stderr)
         return WRONG_WORDS
-    signal.signal(signal.SIGTERM, lambda *_: sys.exit(FAILED))  # (so that the edits get their names back)
     left = [crate for crate in crates if not note_all(crate)]
     print(f"edits: {len(crates) - len(left)} crates noted, {len(left)} not{': ' if left else ''}{' '.join(left)}")
     return FAILED if left else 0
