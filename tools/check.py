@@ -2,8 +2,10 @@
 """Checks the pages against the repository: examples, links, files, crates, and the lines that PROVED counts. And checks of each
 edit that must fail whether it can still be made, and of those that stand aside whether all was as it is when they were refused.
 
-Prints a line for each that is wrong, and at the end how many of the edits and of the pages passed. Needs python3 alone; where git or
-the kit is missing, nothing is asked of commits or of the kit.
+    tools/check.py             prints a line for each that is wrong, and at the end how many of the edits and of the pages passed
+    tools/check.py --write     writes the numbers of lines in PROVED's tables anew
+
+Needs python3 alone; where git or the kit is missing, nothing is asked of commits or of the kit.
 """
 
 from __future__ import annotations
@@ -98,17 +100,27 @@ def reading_tables(text: str) -> list[list[Row]]:
     return tables
 
 
+def lines_of(files: list[Path]) -> int:
+    return sum(len(file.read_text().splitlines()) for file in files)
+
+
+def counted(text: str) -> str:
+    """PROVED with the numbers of lines and files as they are, in its tables and before them."""
+    tables = reading_tables(text)
+    for read, said, files in (row for table in tables for row in table):
+        text = text.replace(f"| {read} | {said} |", f"| {read} | {lines_of(files)} |")
+    all_files = iter([[file for _, _, files in table for file in files] for table in tables])
+
+    def total(_: re.Match[str]) -> str:
+        files = next(all_files)
+        return f"{len(files)} files of {lines_of(files):,} lines"
+
+    return re.sub(r"\d+ files of [\d,]+ lines", total, text, count=len(tables))
+
+
 def wrong_counts(text: str) -> list[str]:
-    """Whether the files that are to be read have as many lines as the tables say, one by one and in all."""
-    wrong, sums = [], []
-    for table in reading_tables(text):
-        lines = [sum(len(file.read_text().splitlines()) for file in files) for _, _, files in table]
-        wrong += [f"{said} lines are {found}: {read}" for found, (read, said, _) in zip(lines, table) if found != int(said)]
-        sums.append((sum(len(files) for _, _, files in table), sum(lines)))
-    for (count, found), (said, told) in zip(sums, re.findall(r"(\d+) files of ([\d,]+) lines", text)):
-        if (count, found) != (int(said), int(told.replace(",", ""))):
-            wrong.append(f"{said} files of {told} lines are {count} of {found:,}")
-    return wrong
+    """The lines of PROVED whose numbers of lines or files are others."""
+    return [f"this is to be: {now}" for was, now in zip(text.split("\n"), counted(text).split("\n")) if was != now]
 
 
 def wrong_deciding(text: str) -> list[str]:
@@ -146,7 +158,11 @@ def told(what: str, wrong: dict[Path, list[str]]) -> int:
     return failed
 
 
-def main() -> int:
+def main(words: list[str]) -> int:
+    if words == ["--write"]:
+        page = TOP / "docs" / "PROVED.md"
+        page.write_text(counted(page.read_text()))
+        return 0
     known: set[tuple[str, str]] = set()
     for script in (TOP / "examples").rglob("*.script"):
         known |= played(script)
@@ -167,4 +183,4 @@ def main() -> int:
 
 
 if __name__ == "__main__":
-    sys.exit(main())
+    sys.exit(main(sys.argv[1:]))
