@@ -6,6 +6,7 @@
 #
 # Tells how those differ that do, and at the end how many don't. Proves nothing.
 set -euo pipefail
+program=${IFDB:+$(realpath -m -- "$IFDB")}
 cd "$(dirname "${BASH_SOURCE[0]}")/.."
 . tools/program.sh
 work=$(mktemp -d)
@@ -41,7 +42,6 @@ try_all() { # WORD SCRIPT..
   fi
 }
 
-program=${IFDB:-}
 if [ -z "$program" ] && is_built; then program=$PROGRAM; fi
 if [ -n "$program" ]; then
   for script in examples/*.script; do compare "$program" run "$script"; done
