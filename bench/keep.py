@@ -1,5 +1,5 @@
 #!/usr/bin/env python3
-"""Times scripts over a journal, on the built program. Run it at the top of the repository, after ./ifdb build.
+"""Times scripts over a journal, on the built program, after ./ifdb build.
 
     bench/keep.py [--steps N] [--records N] [--rounds N] [FOLDER ..]      IFDB names another program than crates/ifdb/out/ifdb
 
@@ -8,102 +8,100 @@ journal_mode=WAL and synchronous=FULL and one INSERT a transaction. Both read th
 of many records, made without the disk's syncs in /dev/shm, is done again by a `keep` that asks nothing, beside a `run` of the same
 lines. Of each figure the middle one of the rounds is told, with the processor time of the program. Wants sqlite3.
 """
+
+from __future__ import annotations
+
 import argparse
 import os
-import resource
-import shutil
+import pathlib
 import statistics
-import subprocess
+import sys
 import tempfile
-import time
+from typing import List
 
-PROGRAM = os.path.abspath(os.environ.get("IFDB", "crates/ifdb/out/ifdb"))
+sys.path.append(str(pathlib.Path(__file__).resolve().parents[1] / "clients/python"))
+import program  # noqa: E402
+
 BEGIN = "OPEN\n1 HELLO admin KEY 'admin'\n1 CREATE TABLE note (id INT, body TEXT, PRIMARY KEY (id))\n"
+SQLITE = "PRAGMA journal_mode=WAL; PRAGMA synchronous=FULL;\nCREATE TABLE note (id INT PRIMARY KEY, body TEXT);\n"
 GATE, KIND_OPEN, KIND_ASK = b"\x01", b"\x01", b"\x02"
+SHUT = b"\0"
 
 
-def ran(command, text, wanted):
-    """Seconds on the clock and of the processor that a command takes for this input. Its output has so many lines."""
-    before = resource.getrusage(resource.RUSAGE_CHILDREN)
-    begin = time.monotonic()
-    done = subprocess.run(command, input=text, stdout=subprocess.PIPE, check=True)
-    seconds = time.monotonic() - begin
-    after = resource.getrusage(resource.RUSAGE_CHILDREN)
-    lines = done.stdout.count(b"\n")
-    if b"ERR" in done.stdout or lines != wanted:
-        raise SystemExit(f"{command[0]}: {lines} lines for {wanted}: {done.stdout[-200:]!r}")
-    return seconds, after.ru_utime + after.ru_stime - before.ru_utime - before.ru_stime
+def ran(*command: program.Word, given: bytes, lines: int) -> program.Timed:
+    """What a command takes that has to write so many lines, and no refusal."""
+    took = program.timed(*command, given=given)
+    written = took.written.count(b"\n")
+    if b"ERR" in took.written or written != lines:
+        raise SystemExit(f"{command[0]}: {written} lines for {lines}: {took.written[-200:]!r}")
+    return took
 
 
-def record(kind, session, line):
+def record(kind: bytes, session: int, line: bytes) -> bytes:
     """A record behind its open gate."""
     return GATE + kind + session.to_bytes(8, "big") + len(line).to_bytes(4, "big") + line
 
 
-def journal_of(script):
+def journal_of(script: str) -> bytes:
     """The journal of a script of session 1 whose lines all have records."""
     parts = []
     for line in script.encode().splitlines():
         parts.append(record(KIND_OPEN, 0, b"") if line == b"OPEN" else record(KIND_ASK, 1, line.removeprefix(b"1 ")))
-    return b"".join(parts) + b"\0"
+    return b"".join(parts) + SHUT
 
 
-def inserts(count):
-    return "".join(f"1 INSERT INTO note VALUES ({i}, 'a note of some forty bytes, as notes are')\n" for i in range(count))
+def inserts(count: int) -> List[str]:
+    return [f"INSERT INTO note VALUES ({i}, 'a note of some forty bytes, as notes are')" for i in range(count)]
 
 
-def told(what, count, times):
-    clock = statistics.median(t[0] for t in times)
-    processor = statistics.median(t[1] for t in times)
-    print(f"{what}: {count} in {clock:.2f} s, {count / clock:,.0f} a second, {processor / count * 1e6:.1f} us of a processor each", flush=True)
+def of_session(statements: List[str]) -> str:
+    return "".join(f"1 {it}\n" for it in statements)
 
 
-def kept(folder, steps, rounds):
+def told(what: str, count: int, times: List[program.Timed]) -> None:
+    clock = statistics.median(it.clock for it in times)
+    processor = statistics.median(it.processor for it in times) / count * 1e6
+    print(f"{what}: {count} in {clock:.2f} s, {count / clock:,.0f} a second, {processor:.1f} us of a processor each", flush=True)
+
+
+def kept(folder: str, steps: int, rounds: int) -> None:
     """INSERTs that are kept one by one, and the same of SQLite, in a folder."""
-    script = (BEGIN + inserts(steps)).encode()
-    statements = ("PRAGMA journal_mode=WAL; PRAGMA synchronous=FULL;\nCREATE TABLE note (id INT PRIMARY KEY, body TEXT);\n"
-                  + "".join(line[2:] + ";\n" for line in inserts(steps).splitlines())).encode()
+    script = BEGIN + of_session(inserts(steps))
+    statements = SQLITE + "".join(f"{it};\n" for it in inserts(steps))
     ours, theirs, size = [], [], 0
     for _ in range(rounds):
-        work = tempfile.mkdtemp(prefix="ifdb-keep-", dir=folder)
-        try:
-            file = os.path.join(work, "journal")
-            ours.append(ran([PROGRAM, "keep", "--file", file], script, steps + 3))
-            size = os.path.getsize(file)
-            theirs.append(ran(["sqlite3", os.path.join(work, "notes.db")], statements, 1))
-        finally:
-            shutil.rmtree(work)
+        with tempfile.TemporaryDirectory(prefix="ifdb-keep-", dir=folder) as name:
+            work = pathlib.Path(name)
+            ours.append(ran(program.path(), "keep", "--file", work / "journal", given=script.encode(), lines=steps + 3))
+            size = (work / "journal").stat().st_size
+            theirs.append(ran("sqlite3", work / "notes.db", given=statements.encode(), lines=1))
     told(f"{folder}: INSERTs kept", steps, ours)
     told(f"{folder}: the same in SQLite", steps, theirs)
     text = len(script) - len(BEGIN)
     print(f"{folder}: {size / (steps + 3):.1f} bytes a record, of lines of {text / steps:.1f}")
 
 
-def replayed(records, rounds):
+def replayed(records: int, rounds: int) -> None:
     """A journal that is done again, and a run of the same lines."""
-    script = BEGIN + inserts(records)
-    work = tempfile.mkdtemp(prefix="ifdb-keep-", dir="/dev/shm")
-    try:
-        file = os.path.join(work, "journal")
-        with open(file, "wb") as out:
-            out.write(journal_of(script))
-        again, plain = [], []
+    script = BEGIN + of_session(inserts(records))
+    again, plain = [], []
+    with tempfile.TemporaryDirectory(prefix="ifdb-keep-", dir="/dev/shm") as name:
+        file = pathlib.Path(name) / "journal"
+        file.write_bytes(journal_of(script))
+        size = file.stat().st_size
         for _ in range(rounds):
-            size = os.path.getsize(file)
-            again.append(ran([PROGRAM, "keep", "--file", file], b"", 0))
-            os.truncate(file, size)
-            with open(file, "r+b") as out:
-                out.seek(size - 1)
-                out.write(b"\0")
-            plain.append(ran([PROGRAM, "run"], script.encode(), records + 3))
-    finally:
-        shutil.rmtree(work)
+            again.append(ran(program.path(), "keep", "--file", file, given=b"", lines=0))
+            with file.open("r+b") as journal:  # (without the record that says of the start)
+                journal.truncate(size)
+                journal.seek(size - len(SHUT))
+                journal.write(SHUT)
+            plain.append(ran(program.path(), "run", given=script.encode(), lines=records + 3))
     told("records done again", records + 3, again)
     told("the same lines by run", records + 3, plain)
 
 
-def main():
-    words = argparse.ArgumentParser(description=__doc__.splitlines()[0])
+def main() -> None:
+    words = argparse.ArgumentParser(description=__doc__, formatter_class=argparse.RawDescriptionHelpFormatter)
     words.add_argument("folders", nargs="*", default=[".", "/dev/shm"])
     words.add_argument("--steps", type=int, default=2000)
     words.add_argument("--records", type=int, default=1_000_000)

@@ -1,10 +1,10 @@
 #!/usr/bin/env python3
 """Statements a second over loopback, and what they cost a server's processors, by clients in C.
 
-    bench/served.py [--program PATH] [--clients 1,4,16,32] [--seconds S] [--runs R] [--rows N]
-                    [--postgres PORT] [--user USER] [--database DATABASE]
+    bench/served.py [--clients 1,4,16,32] [--seconds S] [--runs R] [--rows N]
+                    [--postgres PORT] [--user USER] [--database DATABASE]      IFDB names another program than crates/ifdb/out/ifdb
 
-Serves by PATH, which is the built program of this clone if none is said, and loads it by bench/load.c: each client is a thread
+Serves by the built program, and loads it by bench/load.c: each client is a thread
 with a raw socket that does, for some seconds, a SELECT of a row by its key and then BEGIN, an UPDATE of such a row, and COMMIT:
 four statements, the keys at random. The rows have a label of one tag, which each client raises its own to. Of R runs the one in
 the middle is told: statements a second, microseconds of the server's processors for each, and refusals, Conflict and any other.
@@ -14,18 +14,23 @@ and with --postgres to a running PostgreSQL at that port of 127.0.0.1 by pgbench
 superuser: a role without rights of its own, row-level security by a tag that the session sets, REPEATABLE READ, which is its
 snapshot isolation, and no wait for the disk at COMMIT (synchronous_commit = off), since the served ifdb keeps no file.
 """
+
+from __future__ import annotations
+
 import argparse
 import contextlib
 import os
 import pathlib
 import re
-import socket
 import subprocess
 import sys
 import tempfile
 import typing
 
 HERE = pathlib.Path(__file__).resolve().parent
+sys.path.append(str(HERE.parent / "clients/python"))
+import program  # noqa: E402
+
 TAG, TABLE, ROLE = "served_bench_tag", "served_bench", "served_bench_role"
 TICKS = os.sysconf("SC_CLK_TCK")
 
@@ -74,9 +79,9 @@ def told(name: str, options: argparse.Namespace, load: typing.Callable[[int], Ru
         print(f"{name:10} {clients:7} {run.rate:13,.0f} {cost:10.1f} {run.conflicts:10,} {run.others:7,}", flush=True)
 
 
-def line_load(program: pathlib.Path, port: int, options: argparse.Namespace) -> typing.Callable[[int], Run]:
+def line_load(client: pathlib.Path, port: int, options: argparse.Namespace) -> typing.Callable[[int], Run]:
     def load(clients: int) -> Run:
-        words = [program, port, clients, options.seconds, options.rows, TABLE, TAG, "admin"]
+        words = [client, port, clients, options.seconds, options.rows, TABLE, TAG, "admin"]
         said = subprocess.run([str(word) for word in words], check=True, capture_output=True, text=True).stdout.split()
         return Run(float(said[0]), *map(int, said[1:]))
 
@@ -85,43 +90,24 @@ def line_load(program: pathlib.Path, port: int, options: argparse.Namespace) -> 
 
 def make_rows(port: int, rows: int) -> None:
     """Makes the table of an ifdb at this port."""
-    with socket.create_connection(("127.0.0.1", port)) as link, link.makefile("rwb") as lines:
-
-        def ask(statement: str) -> None:
-            lines.write(statement.encode() + b"\n")
-            lines.flush()
-            answer = lines.readline()
-            if not answer.startswith(b"OK"):
-                raise SystemExit(f"ifdb answers {statement[:60]!r} by {answer!r}")
-
-        ask("HELLO admin KEY 'admin'")
-        ask(f"CREATE TABLE {TABLE} (id INT, v INT, PRIMARY KEY (id))")
-        ask(f"CREATE TAG {TAG}")
-        ask(f"SET LABEL ({TAG})")
+    with program.connected(port) as session:
+        session.answer("HELLO admin KEY 'admin'")
+        session.answer(f"CREATE TABLE {TABLE} (id INT, v INT, PRIMARY KEY (id))")
+        session.answer(f"CREATE TAG {TAG}")
+        session.answer(f"SET LABEL ({TAG})")
         for low in range(0, rows, 200):
-            ask(f"INSERT INTO {TABLE} VALUES " + ", ".join(f"({key}, 0)" for key in range(low, min(low + 200, rows))))
-
-
-def free_port() -> int:
-    with socket.create_server(("127.0.0.1", 0)) as door:
-        return door.getsockname()[1]
+            session.answer(f"INSERT INTO {TABLE} VALUES " + ", ".join(f"({key}, 0)" for key in range(low, min(low + 200, rows))))
 
 
 def measure_ifdb(load: pathlib.Path, options: argparse.Namespace) -> None:
-    port, workers = free_port(), max(options.clients) + 8
-    words = [options.program, "serve", "--port", str(port), "--workers", str(workers)]
-    with subprocess.Popen(words, stdout=subprocess.PIPE) as server:
-        try:
-            if not server.stdout.readline().startswith(b"LISTENING"):
-                raise SystemExit(f"{options.program} doesn't serve")
-            make_rows(port, options.rows)
-            told("ifdb", options, line_load(load, port, options), lambda: [server.pid])
-        finally:
-            server.kill()
+    with program.Server(workers=max(options.clients) + 8) as server:
+        make_rows(server.port, options.rows)
+        told("ifdb", options, line_load(load, server.port, options), lambda: [server.pid])
 
 
 def measure_echo(load: pathlib.Path, echo: pathlib.Path, options: argparse.Namespace) -> None:
     with subprocess.Popen([echo], stdout=subprocess.PIPE) as server:
+        assert server.stdout
         try:
             told("echo in C", options, line_load(load, int(server.stdout.readline()), options), lambda: [server.pid])
         finally:
@@ -131,6 +117,12 @@ def measure_echo(load: pathlib.Path, echo: pathlib.Path, options: argparse.Names
 def postgres_pids() -> list[int]:
     said = subprocess.run(["pgrep", "-x", "postgres"], capture_output=True, text=True).stdout
     return [int(pid) for pid in said.split()]
+
+
+def said_of(said: str, word: str) -> str:
+    """The number behind a word of what pgbench says, 0 if it doesn't say it."""
+    found = re.search(rf"{word}([\d.]+)", said)
+    return found[1] if found else "0"
 
 
 def measure_postgres(folder: pathlib.Path, options: argparse.Namespace) -> None:
@@ -159,17 +151,14 @@ def measure_postgres(folder: pathlib.Path, options: argparse.Namespace) -> None:
                  "-c", str(clients), "-j", str(clients), "-T", str(max(1, round(options.seconds))), "-D", f"rows={options.rows}"]
         settings = {**os.environ, "PGOPTIONS": f"-c served.tags={TAG} -c synchronous_commit=off"}
         said = subprocess.run([*words, options.database], check=True, capture_output=True, text=True, env=settings).stdout
-        done = int(re.search(r"actually processed: (\d+)", said)[1])
-        failed = int((re.search(r"failed transactions: (\d+)", said) or [0, 0])[1])
-        rate = 4 * float(re.search(r"tps = ([\d.]+)", said)[1])
-        return Run(rate, 4 * done + 3 * failed, failed, 0)
+        done, failed = int(said_of(said, "actually processed: ")), int(said_of(said, "failed transactions: "))
+        return Run(4 * float(said_of(said, "tps = ")), 4 * done + 3 * failed, failed, 0)
 
     told("PostgreSQL", options, load, postgres_pids)
 
 
 def main() -> None:
     parser = argparse.ArgumentParser(description=__doc__, formatter_class=argparse.RawDescriptionHelpFormatter)
-    parser.add_argument("--program", default=HERE.parent / "crates/ifdb/out/ifdb")
     parser.add_argument("--postgres", type=int, metavar="PORT")
     parser.add_argument("--user", default="postgres")
     parser.add_argument("--database", default="postgres")
@@ -189,4 +178,4 @@ def main() -> None:
 
 
 if __name__ == "__main__":
-    sys.exit(main())
+    main()

@@ -12,6 +12,9 @@ rows stands how many times that over the first number of rows it is.
 At the end the generator's script runs, and the inserts and counts of it in SQLite; its refusals are of keys that stand already.
 Wants sqlite3. 10,000,000 rows take some GB of memory and a few minutes.
 """
+
+from __future__ import annotations
+
 import argparse
 import fcntl
 import os
@@ -24,7 +27,9 @@ import termios
 import time
 import typing
 
-PROGRAM = os.environ.get("IFDB", str(pathlib.Path(__file__).resolve().parent.parent / "crates/ifdb/out/ifdb"))
+sys.path.append(str(pathlib.Path(__file__).resolve().parents[1] / "clients/python"))
+import program  # noqa: E402
+
 IN_MEMORY = "/dev/shm" if os.path.isdir("/dev/shm") else None
 # As many rows as one INSERT brings while the table is made.
 AT_ONCE = 200
@@ -40,7 +45,7 @@ class Peer(typing.NamedTuple):
     """A program, and how it is told statements."""
 
     name: str
-    words: list[str]
+    words: list[program.Word]
     # lines before the tables are made, and statements behind that
     opening: str
     labelling: list[str]
@@ -55,7 +60,7 @@ class Peer(typing.NamedTuple):
 
 IFDB = Peer(
     "ifdb",
-    [PROGRAM, "run"],
+    [program.path(), "run"],
     "OPEN\n1 HELLO admin KEY 'admin'\n",
     ["CREATE TAG bench", "SET LABEL (bench)"],
     "1 ",
@@ -76,24 +81,26 @@ class Batch(typing.NamedTuple):
 class Fed:
     """A program that reads what it is told from a pipe."""
 
-    def __init__(self, peer: Peer, output: typing.BinaryIO) -> None:
+    def __init__(self, peer: Peer, output: typing.IO[bytes]) -> None:
         self.peer = peer
         self.child = subprocess.Popen(peer.words, stdin=subprocess.PIPE, stdout=output)
-        self.child.stdin.write(peer.opening.encode())
+        assert self.child.stdin
+        self.told_to = self.child.stdin
+        self.told_to.write(peer.opening.encode())
 
     def ask(self, statements: typing.Iterable[str]) -> float:
         """Seconds of the program's processor that these take."""
-        self.child.stdin.flush()
+        self.told_to.flush()
         before = self.settled()
-        self.child.stdin.write(self.peer.text(statements))
-        self.child.stdin.flush()
+        self.told_to.write(self.peer.text(statements))
+        self.told_to.flush()
         return self.settled() - before
 
     def settled(self) -> float:
         """The seconds of its processor when it has read all that it was told, and sleeps."""
         last = -1.0
         while True:
-            unread = struct.unpack("i", fcntl.ioctl(self.child.stdin, termios.FIONREAD, b"\0" * 4))[0]
+            unread = struct.unpack("i", fcntl.ioctl(self.told_to, termios.FIONREAD, b"\0" * 4))[0]
             now = self.seconds()
             if unread == 0 and now == last and self.state() == "S":
                 return now
@@ -118,12 +125,12 @@ class Fed:
     def end(self) -> float:
         """Ends its input, and gives the seconds of its processor until it has ended."""
         before = self.settled()
-        self.child.stdin.close()
+        self.told_to.close()
         _, status, used = os.wait4(self.child.pid, 0)
         self.child.returncode = os.waitstatus_to_exitcode(status)
         if self.child.returncode:
             raise SystemExit(f"{self.peer.words[0]} ended with {self.child.returncode}")
-        return used.ru_utime + used.ru_stime - before
+        return float(used.ru_utime + used.ru_stime - before)
 
 
 def inserts(table: str, rows: typing.Iterable[str]) -> typing.Iterator[str]:
@@ -200,20 +207,9 @@ def of_the_generator(count: int) -> typing.Iterator[str]:
             yield "SELECT COUNT(*) FROM item WHERE qty < 500"
 
 
-def milliseconds(words: list[str], text: bytes, runs: int) -> float:
+def milliseconds(words: list[program.Word], text: bytes, runs: int) -> float:
     """The least processor time of so many runs."""
-    taken = []
-    for _ in range(runs):
-        with tempfile.TemporaryFile(dir=IN_MEMORY) as given:
-            given.write(text)
-            given.seek(0)
-            child = subprocess.Popen(words, stdin=given, stdout=subprocess.DEVNULL)
-            _, status, used = os.wait4(child.pid, 0)
-            child.returncode = os.waitstatus_to_exitcode(status)
-            if child.returncode:
-                raise SystemExit(f"{words[0]} ended with {child.returncode}")
-            taken.append((used.ru_utime + used.ru_stime) * 1000)
-    return min(taken)
+    return min(program.timed(*words, given=text).processor for _ in range(runs)) * 1000
 
 
 def main() -> None:
@@ -233,13 +229,13 @@ def main() -> None:
             print(f"{name:32} {' '.join(cells)}", flush=True)
     print(f"\n{'the generator, ms':32} {'ifdb':>10} {'':>7} {'SQLite':>10}")
     for count in (1000, 10_000):
-        script = subprocess.run([PROGRAM, "generate", str(count)], stdout=subprocess.PIPE, check=True).stdout
+        script = program.run("generate", str(count)).written
         ours = milliseconds(IFDB.words, script, given.runs)
-        inside = milliseconds([PROGRAM, "generate", "--run", str(count)], b"", given.runs)
+        inside = milliseconds([program.path(), "generate", "--run", str(count)], b"", given.runs)
         theirs = milliseconds(SQLITE.words, SQLITE.text(of_the_generator(count)), given.runs)
         print(f"{f'its script of {count:,} INSERTs':32} {ours:10.1f} {'':>7} {theirs:10.1f}")
         print(f"{f'generate --run {count}':32} {inside:10.1f}")
 
 
 if __name__ == "__main__":
-    sys.exit(main())
+    main()

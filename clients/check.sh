@@ -1,18 +1,28 @@
 #!/usr/bin/env bash
-# Tests what runs outside the kit, over the built program: the client, the shell, the stored dialogues, the clinic, recorded
-# runs of the example scripts, journals in files, ranges of keys beside passes, and transactions of many writes.
+# Tests what runs outside the kit, over the built program: the client, the shell, each stored dialogue, the clinic, recorded runs of the
+# example scripts, journals in files, ranges of keys beside passes, and transactions of many writes.
 #
 #   clients/check.sh      the variable IFDB names another program than crates/ifdb/out/ifdb
 #
-# Exit statuses: 0 all passed, 1 something didn't, 69 nothing was tried: python3 is missing or older than 3.9, or the program
-# isn't built.
+# Names what failed, and says at the end how many passed. Exit statuses: 0 all passed, 1 something didn't, 69 nothing was tried: python3
+# is missing or older than 3.9, or the program isn't built.
 set -euo pipefail
 
-readonly FAILED=1 NOT_HERE=69
+readonly NOT_HERE=69
+passed=0 failed=0
 
 not_here() {
   echo "clients/check.sh: nothing was tried: $*" >&2
   exit $NOT_HERE
+}
+
+try() {
+  if "$@"; then
+    passed=$((passed + 1))
+  else
+    failed=$((failed + 1))
+    echo "clients/check.sh: failed: $*" >&2
+  fi
 }
 
 program=$(realpath -m -- "${IFDB:-$(dirname "${BASH_SOURCE[0]}")/../crates/ifdb/out/ifdb}")
@@ -23,13 +33,10 @@ command -v python3 >/dev/null || not_here "python3 isn't on the path"
 python3 -c 'import sys; sys.exit(sys.version_info < (3, 9))' || not_here "python3 is older than 3.9"
 [ -x "$IFDB" ] || not_here "there is no program $IFDB; ./ifdb build makes it"
 
-status=0
-python3 -m unittest discover -s clients/python || status=$FAILED
-python3 clients/python/dialogue.py examples/session.dialogue examples/clinic/roles.dialogue || status=$FAILED
-python3 examples/clinic/check.py || status=$FAILED
-python3 examples/traces.py || status=$FAILED
-python3 examples/kept.py || status=$FAILED
-python3 examples/ranges.py || status=$FAILED
-python3 examples/many.py || status=$FAILED
-if ((status == 0)); then echo "clients/check.sh: all passed"; else echo "clients/check.sh: something failed" >&2; fi
-exit $status
+try python3 -m unittest discover -s clients/python
+# The dialogue of browsers is played by the clinic's test.
+mapfile -t dialogues < <(find examples -name '*.dialogue' ! -name web.dialogue | LC_ALL=C sort)
+try python3 clients/python/dialogue.py "${dialogues[@]}"
+for test in clinic traces kept ranges many; do try python3 "tests/$test.py"; done
+echo "clients: $passed passed, $failed failed"
+((failed == 0))

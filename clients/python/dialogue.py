@@ -12,14 +12,12 @@ from __future__ import annotations
 
 import argparse
 import difflib
-import io
 import pathlib
 import re
-import socket
 import sys
 from typing import Callable, Dict, List, Optional, Sequence
 
-import served
+import program
 
 Ask = Callable[[str, str], Sequence[str]]
 """Has somebody, by name, ask a line, and returns the lines of the reply."""
@@ -28,26 +26,20 @@ _ASKED = re.compile(r"(?P<name>[a-z][a-z0-9]*)> (?P<line>.*)")
 
 
 class Connections:
-    """Connections to one server by name. They know nothing of replies but that `ROWS n` has n further lines."""
+    """Connections to one server by name."""
 
     def __init__(self, port: int) -> None:
         self._port = port
-        self._links: Dict[str, io.BufferedRWPair] = {}
+        self._sessions: Dict[str, program.Session] = {}
 
     def ask(self, name: str, line: str) -> List[str]:
-        if name not in self._links:
-            with socket.create_connection(("127.0.0.1", self._port), served.PATIENCE) as connected:
-                self._links[name] = connected.makefile("rwb")
-        link = self._links[name]
-        link.write(line.encode() + b"\n")
-        link.flush()
-        head = link.readline().decode().rstrip("\n")
-        more = int(head.split()[1]) if head.startswith("ROWS ") else 0
-        return [head, *(link.readline().decode().rstrip("\n") for _ in range(more))]
+        if name not in self._sessions:
+            self._sessions[name] = program.connected(self._port)
+        return self._sessions[name].ask(line)
 
     def close(self) -> None:
-        for link in self._links.values():
-            link.close()
+        for session in self._sessions.values():
+            session.close()
 
 
 def played(dialogue: str, ask: Ask) -> str:
@@ -88,7 +80,7 @@ def main(words: Optional[Sequence[str]] = None) -> int:
     options = parser.parse_args(words)
     differing = 0
     for path in options.files:
-        with served.Server(workers=16) as server:
+        with program.Server(workers=16) as server:
             connections = Connections(server.port)
             differing += differs(path, connections.ask, update=options.update)
             connections.close()

@@ -15,7 +15,7 @@ from typing import Any, Callable, Iterable, List, Set, Tuple, Union
 from unittest import mock
 
 import ifdb
-import served
+import program
 
 Piece = Union[bytes, OSError]
 
@@ -234,10 +234,10 @@ class Errors(unittest.TestCase):
         self.assertEqual(self.refused(PROGRAMMING, 1, "Syntax", lambda: session.ask("SHOW")).place, 65_535)
 
     def test_each_error_that_a_connection_can_get_comes_from_the_server(self) -> None:
-        with served.Server() as server:
+        with program.Server() as server:
             asked = {}
             for user in ("admin", "ann"):
-                asked[user] = ifdb.connect(server.port, user, user, timeout=served.PATIENCE)
+                asked[user] = ifdb.connect(server.port, user, user, timeout=program.PATIENCE)
                 self.addCleanup(asked[user].close)
                 for request in SETTING.pop(user):
                     asked[user].cursor().execute(request)
@@ -251,7 +251,7 @@ class Errors(unittest.TestCase):
                     for connection in asked.values():
                         connection.rollback()
                         connection.label = frozenset()
-            session = ifdb.Session(server.port, timeout=served.PATIENCE)
+            session = ifdb.Session(server.port, timeout=program.PATIENCE)
             self.refused(PROGRAMMING, 2, "NotHello", lambda: session.ask("SHOW LABEL"))
             with mock.patch("ifdb.LONGEST_LINE", 70_000):
                 self.refused(ifdb.DataError, 21, "TooLong", lambda: session.ask("x" * 65_536))
@@ -359,13 +359,13 @@ class Requests(unittest.TestCase):
 class Served(unittest.TestCase):
     """The client over the built program."""
 
-    server: served.Server
+    server: program.Server
     known: ifdb.Columns
     """What the connection knows that made the tables."""
 
     @classmethod
     def setUpClass(cls) -> None:
-        cls.server = served.Server(workers=16)
+        cls.server = program.Server(workers=16)
         cls.addClassCleanup(cls.server.stop)
         with cls.connect() as admin:
             for request in (
@@ -384,7 +384,7 @@ class Served(unittest.TestCase):
 
     @classmethod
     def connect(cls, user: str = "admin", key: str = "admin", **options: Any) -> ifdb.Connection:
-        return ifdb.connect(cls.server.port, user, key, timeout=served.PATIENCE, **options)
+        return ifdb.connect(cls.server.port, user, key, timeout=program.PATIENCE, **options)
 
     def setUp(self) -> None:
         with self.connect() as admin:
@@ -689,16 +689,16 @@ class Served(unittest.TestCase):
 
     def test_nobody_serves(self) -> None:
         with self.assertRaisesRegex(ifdb.OperationalError, "no connection to port"):
-            ifdb.connect(served.free_port(), "admin", "admin")
+            ifdb.connect(program.free_port(), "admin", "admin")
 
     def test_no_worker_is_free(self) -> None:
-        with served.Server(workers=1) as server, ifdb.connect(server.port, "admin", "admin"):
+        with program.Server(workers=1) as server, ifdb.connect(server.port, "admin", "admin"):
             with self.assertRaisesRegex(ifdb.OperationalError, "no reply within 0.2 s"):
                 ifdb.connect(server.port, "admin", "admin", timeout=0.2)
 
     def test_the_server_ends_in_the_middle(self) -> None:
-        server = served.Server()
-        connection = ifdb.connect(server.port, "admin", "admin", timeout=served.PATIENCE)
+        server = program.Server()
+        connection = ifdb.connect(server.port, "admin", "admin", timeout=program.PATIENCE)
         connection.cursor().execute("CREATE TAG a")
         server.stop()
         with self.assertRaises(ifdb.OperationalError):
@@ -707,7 +707,7 @@ class Served(unittest.TestCase):
         connection.close()
 
     def test_closed_sessions_are_no_faults_to_the_server(self) -> None:
-        with served.Server(workers=1, links=3) as server:
+        with program.Server(workers=1, links=3) as server:
             ifdb.connect(server.port, "admin", "admin").close()
             with ifdb.connect(server.port, "admin", "admin") as connection:
                 connection.cursor().execute("SHOW LABEL")

@@ -17,7 +17,7 @@ from typing import Dict, List, Optional, Tuple
 from unittest import mock
 
 import ifdb_shell
-import served
+import program
 
 SHELL = str(pathlib.Path(ifdb_shell.__file__).resolve())
 
@@ -56,11 +56,11 @@ class Showing(unittest.TestCase):
 class OverAServer(unittest.TestCase):
     """A server with some rows, and the shell's ways to run."""
 
-    server: served.Server
+    server: program.Server
 
     @classmethod
     def setUpClass(cls) -> None:
-        cls.server = served.Server()
+        cls.server = program.Server()
         cls.addClassCleanup(cls.server.stop)
         status, _, told = cls.shell(SETTING)
         assert status == 0, told
@@ -77,7 +77,7 @@ class OverAServer(unittest.TestCase):
             [sys.executable, SHELL, *words, str(cls.server.port), user],
             input=text.encode(errors="surrogateescape"),
             capture_output=True,
-            timeout=served.PATIENCE,
+            timeout=program.PATIENCE,
             env=environment(key),
         )
         return ran.returncode, ran.stdout.decode(), ran.stderr.decode()
@@ -159,7 +159,7 @@ class Piped(OverAServer):
             ],
         )
         words = [sys.executable, SHELL, str(self.server.port), "admin", str(inner)]
-        ran = subprocess.run(words, capture_output=True, text=True, timeout=served.PATIENCE, env=environment("admin"))
+        ran = subprocess.run(words, capture_output=True, text=True, timeout=program.PATIENCE, env=environment("admin"))
         self.assertEqual((ran.returncode, ran.stdout), (1, "{}\n{}\nOK\n{ann}\n"))
 
     def test_all_columns_go_by_their_places(self) -> None:
@@ -180,7 +180,7 @@ class Piped(OverAServer):
         self.assertIn("is no name", err)
 
     def test_the_server_ends(self) -> None:
-        server = served.Server()
+        server = program.Server()
         words = [sys.executable, SHELL, str(server.port), "admin"]
         pipes = {"stdin": subprocess.PIPE, "stdout": subprocess.PIPE, "stderr": subprocess.PIPE}
         with subprocess.Popen(words, env=environment("admin"), **pipes) as shell:  # type: ignore[call-overload]
@@ -189,7 +189,7 @@ class Piped(OverAServer):
             while shell.stdout.readline() != b"{}\n":
                 pass
             server.stop()
-            out, err = shell.communicate(b"SHOW LABEL\nSHOW LABEL\n", timeout=served.PATIENCE)
+            out, err = shell.communicate(b"SHOW LABEL\nSHOW LABEL\n", timeout=program.PATIENCE)
         self.assertEqual((shell.returncode, out), (3, b""))
         self.assertRegex(err.decode(), r"^stdin:3: the (server ended the )?connection.*\n$")
 
@@ -197,7 +197,7 @@ class Piped(OverAServer):
         line = f"{sys.executable} {SHELL} {self.server.port} admin | head -n 1"
         asked = b"SELECT a.id FROM note a, note b, note c, note d\n" * 2000
         ran = subprocess.run(
-            ["sh", "-c", line], input=asked, capture_output=True, timeout=served.PATIENCE, env=environment("admin")
+            ["sh", "-c", line], input=asked, capture_output=True, timeout=program.PATIENCE, env=environment("admin")
         )
         self.assertEqual((ran.stdout, ran.stderr), (b" id\n", b""))
 
@@ -212,7 +212,7 @@ class Terminal:
             os.execve(sys.executable, [sys.executable, SHELL, *words], env)
         self.seen = ""
 
-    def expect(self, text: str, patience: float = served.PATIENCE) -> str:
+    def expect(self, text: str, patience: float = program.PATIENCE) -> str:
         """Waits until this is shown, and returns what was shown before it."""
         until = time.monotonic() + patience
         while text not in self.seen:
@@ -227,7 +227,7 @@ class Terminal:
 
     def interrupt(self, prompt: str) -> None:
         """Presses ^C until the prompt is shown: Python's readline goes on waiting for a key where ^C comes just before it waits."""
-        until = time.monotonic() + served.PATIENCE
+        until = time.monotonic() + program.PATIENCE
         while True:
             self.type("\x03")
             try:
@@ -330,7 +330,7 @@ class AtATerminal(OverAServer):
         self.assertEqual(shell.status(), 0)
 
     def test_the_server_ends(self) -> None:
-        with mock.patch.object(self, "server", served.Server()) as server:
+        with mock.patch.object(self, "server", program.Server()) as server:
             shell = self.terminal(user="admin", key="admin")
             shell.expect("> ")
             server.stop()

@@ -1,0 +1,306 @@
+#!/usr/bin/env python3
+"""The edits that must fail and that stand aside: those that the gate doesn't try, since the prover refused them over the text as it is.
+
+    tools/edits.py             tells which crates' edits have to be tried again, and why
+    tools/edits.py NAME..      tries all edits of these crates, and notes the crates of which all were refused
+    tools/edits.py --all       tries those of all crates that have to be tried again
+
+Where a rebase left the commit of a note behind, and nothing else changed, the note gets another one without a try.
+
+An edit stands aside under a name that ends in edit.md. What refuses it is a contract, and what a contract says is said by the definitions
+and the contracts below as well. So tools/refused.txt notes for a crate the sum of its own text, of its edits, and of the definitions and
+contracts of all crates below it; the commit whose tree has that text; and the kit. tools/check.py fails where any of the three is another.
+
+An edit counts as refused where the prover says that the edited crate isn't proved. Where it gave up at a limit of its own, or where only a
+proof misses a name that the edit took away, no contract refused anything, and the crate isn't noted.
+
+Wants the kit and git, the text committed, and a crate that rt check has proved, without which each try takes a whole proof.
+"""
+
+from __future__ import annotations
+
+import fcntl
+import functools
+import hashlib
+import io
+import re
+import shutil
+import subprocess
+import sys
+import tarfile
+import tempfile
+from collections.abc import Iterable, Iterator
+from contextlib import contextmanager
+from pathlib import Path
+from typing import NamedTuple, Optional
+
+TOP = Path(__file__).resolve().parent.parent
+REFUSED = TOP / "tools" / "refused.txt"
+ASIDE = ".md"
+SOURCES = (".rt", ".antt")
+TOLD = re.compile(r"must-fail (?P<crate>\w+)/(?P<edit>\S+\.edit): (?P<said>.*)")
+IS_REFUSED = "refused, as it must be"
+# What rt says behind IS_REFUSED where no contract refused the edit.
+BUT = ("(only by a limit of the prover", "(only because a proof file names")
+COMMENT = {".rt": "//", ".antt": "--"}
+# What an item of a source file begins with that contracts are made of, and what a line ends with that ends it, with its brackets
+# closed: a clause or a ghost item, a declaration, a signature.
+ITEMS = (
+    (re.compile(r"(ensures|requires)\b|(pub(\(\w+\))? )?ghost\b"), ("",)),
+    (re.compile(r"(pub(\(\w+\))? )?(struct|enum|type|static|const)\b(?! fn\b)"), (";", "}")),
+    (re.compile(r"(pub(\(\w+\))? )?(const )?fn\b"), ("{", "}", ";")),
+)
+SIGNATURE = ITEMS[2][1]
+WRONG_WORDS, FAILED = 64, 1
+
+
+def lines_of(file: Path) -> list[str]:
+    """The lines of a file that say something: not the empty ones, and not those of a comment alone."""
+    comment = COMMENT.get(file.suffix, "#")
+    return [line for line in file.read_text().split("\n") if line.strip() and not line.lstrip().startswith(comment)]
+
+
+def depth_of(line: str) -> int:
+    """How many brackets a line opens and doesn't close."""
+    return sum(map(line.count, "({[")) - sum(map(line.count, ")}]"))
+
+
+def promised(file: Path) -> list[str]:
+    """The lines of a source file that contracts are made of: signatures, clauses, ghost items, and the types and constants that these
+    cite. They are told by how rt fmt lays them out: each begins a line, and what begins a body ends a signature's line or stands alone."""
+    said: list[str] = []
+    ends: tuple[str, ...] = ()  # of the item that is being read, if one is
+    depth = 0
+    for line in lines_of(file):
+        head = line.strip()
+        if depth == 0:
+            begun = next((ends for form, ends in ITEMS if form.match(head)), ())
+            if begun or head == "{":
+                ends = begun
+        if not ends:
+            continue
+        said.append(line)
+        if ends is not SIGNATURE:
+            depth = max(depth + depth_of(line), 0)
+        if depth == 0 and head.endswith(ends):
+            ends = ()
+    return said
+
+
+class Tree:
+    """The crates of a checkout."""
+
+    def __init__(self, top: Path) -> None:
+        self.crates = top / "crates"
+        lines = [line.partition(":") for line in lines_of(top / "crates.txt")]
+        self.uses = {head.split()[0]: uses.split() for head, _, uses in lines}
+
+    def edits(self, crate: str) -> list[Path]:
+        return sorted((self.crates / crate / "must-fail").glob("*.edit*"))
+
+    def with_aside(self) -> list[str]:
+        """The crates of which some edit stands aside."""
+        return sorted({edit.parts[-3] for edit in self.crates.glob(f"*/must-fail/*.edit{ASIDE}")})
+
+    def below(self, crate: str) -> list[str]:
+        """The crates of this repository that a crate stands on, through others too."""
+        found: set[str] = set()
+        left = [crate]
+        while left:
+            uses = set(self.uses.get(left.pop(), ())) & set(self.uses) - found
+            found |= uses
+            left += uses
+        return sorted(found)
+
+    def files(self, crate: str, *parts: str) -> list[Path]:
+        top = self.crates / crate
+        return sorted(file for part in parts for file in (top / part).rglob("*") if file.suffix in SOURCES)
+
+    @functools.cache
+    def promises_sum(self, crate: str) -> str:
+        """The sum of a crate's definitions and contracts, but of those of its tests."""
+        sources = [file for file in self.files(crate, "src") if "tests" not in (file.stem, file.parent.name)]
+        said = [(file, promised(file)) for file in sources]
+        said += [(file, lines_of(file)) for file in self.files(crate, "specs")]
+        return sum_of((str(file.relative_to(self.crates)), lines) for file, lines in said if lines)
+
+    def text_sum(self, crate: str) -> str:
+        """The sum of all that decides whether a crate's edits are refused, under whatever name they stand."""
+        own = [*self.files(crate, "src", "specs", "proofs"), *self.edits(crate)]
+        said = [(str(file.relative_to(self.crates)).removesuffix(ASIDE), lines_of(file)) for file in own]
+        return sum_of([*said, *((name, [self.promises_sum(name)]) for name in self.below(crate))])
+
+
+def sum_of(said: Iterable[tuple[str, list[str]]]) -> str:
+    return hashlib.sha256(repr(sorted(said)).encode()).hexdigest()[:32]
+
+
+# ---- Notes
+
+
+class Note(NamedTuple):
+    """Over what text all edits of a crate were refused: its sum, a commit that has it, and the kit."""
+
+    sum: str
+    commit: str
+    kit: str
+
+
+def noted() -> dict[str, Note]:
+    lines = REFUSED.read_text().splitlines() if REFUSED.exists() else []
+    return {name: Note(*said.split(" ", 2)) for name, said in (line.split(" ", 1) for line in lines if line)}
+
+
+def write_note(crate: str, note: Note) -> None:
+    with open(__file__) as lock:  # (crates may be tried side by side)
+        fcntl.flock(lock, fcntl.LOCK_EX)
+        notes = noted() | {crate: note}
+        REFUSED.write_text("".join(f"{name} {' '.join(note)}\n" for name, note in sorted(notes.items())))
+
+
+def kit() -> Optional[str]:
+    """How the kit names itself; None where it isn't there."""
+    if shutil.which("rt") is None:
+        return None
+    return subprocess.run(["rt", "version"], capture_output=True, text=True, check=True).stdout.strip()
+
+
+def git(*words: str) -> Optional[bytes]:
+    """What git says; None where it fails, or isn't there."""
+    try:
+        return subprocess.run(["git", "-C", str(TOP), *words], capture_output=True, check=True).stdout
+    except (OSError, subprocess.CalledProcessError):
+        return None
+
+
+@functools.cache
+def is_whole_repository() -> bool:
+    """Whether all commits are here to be looked at: not in an archive, and not in a shallow clone."""
+    top = git("rev-parse", "--show-toplevel")
+    return top is not None and Path(top.decode().strip()) == TOP and git("rev-parse", "--is-shallow-repository") == b"false\n"
+
+
+@contextmanager
+def tree_of(commit: str, *, whole: bool = False) -> Iterator[Optional[Tree]]:
+    """The crates of a commit, or all that it has, for a while; None where there is no such commit."""
+    archive = git("archive", commit, *([] if whole else ["crates", "crates.txt"]))
+    if archive is None:
+        yield None
+        return
+    with tempfile.TemporaryDirectory(prefix="ifdb-edits-") as folder, tarfile.open(fileobj=io.BytesIO(archive)) as tar:
+        read = [it for it in tar if whole or it.name == "crates.txt" or it.name.endswith((*SOURCES, ".edit", ASIDE))]
+        tar.extractall(folder, read)
+        yield Tree(Path(folder))
+
+
+def sums_at(commit: str, crates: Iterable[str]) -> dict[str, str]:
+    """The sums of crates in a commit's tree; none where no such commit is in the history of what is checked out."""
+    if git("merge-base", "--is-ancestor", commit, "HEAD") is None:
+        return {}
+    with tree_of(commit) as tree:
+        return {crate: tree.text_sum(crate) for crate in crates} if tree else {}
+
+
+def wrong_notes() -> dict[str, str]:
+    """The crates whose edits have to be tried again, each with the reason."""
+    tree, notes, our_kit = Tree(TOP), noted(), kit()
+    sums = {crate: tree.text_sum(crate) for crate in tree.with_aside()}
+    at = {}
+    if is_whole_repository():
+        at = {commit: sums_at(commit, sums) for commit in {note.commit for note in notes.values()}}
+    wrong = {crate: "no edit of it stands aside" for crate in notes.keys() - sums.keys()}
+    for crate, now in sums.items():
+        note = notes.get(crate)
+        if note is None:
+            wrong[crate] = "its edits weren't all refused yet"
+        elif note.sum != now:
+            wrong[crate] = "its text is another, or a definition or a contract below it is"
+        elif our_kit is not None and note.kit != our_kit:
+            wrong[crate] = f"they were refused by {note.kit}"
+        elif note.commit in at and at[note.commit].get(crate) != now:
+            wrong[crate] = f"the commit {note.commit} isn't in the history, or has another text"
+    return wrong
+
+
+# ---- Tries
+
+
+@contextmanager
+def laid_out(crate: str) -> Iterator[Path]:
+    """A folder that rt takes for this checkout, but that all edits of a crate have the names of tried ones there."""
+    with tempfile.TemporaryDirectory(prefix="ifdb-edits-") as folder:
+        top = Path(folder)
+        for name in ("crates.txt", "HANDLES"):
+            (top / name).symlink_to(TOP / name)
+        (top / "crates" / crate / "must-fail").mkdir(parents=True)
+        for other in (TOP / "crates").iterdir():
+            if other.name != crate:
+                (top / "crates" / other.name).symlink_to(other)
+        for part in (TOP / "crates" / crate).iterdir():
+            if part.name != "must-fail":
+                (top / "crates" / crate / part.name).symlink_to(part)
+        for edit in Tree(TOP).edits(crate):
+            shutil.copyfile(edit, top / "crates" / crate / "must-fail" / edit.name.removesuffix(ASIDE))
+        yield top
+
+
+def told_of(crate: str) -> dict[str, str]:
+    """What rt says of each edit of a crate, by the edit's name."""
+    told = {}
+    words = ["rt", "must-fail", crate]
+    with laid_out(crate) as top, subprocess.Popen(words, cwd=top, stdout=subprocess.PIPE, stderr=subprocess.STDOUT, text=True) as tried:
+        assert tried.stdout
+        for line in tried.stdout:
+            print(line, end="", flush=True)
+            found = TOLD.search(line)
+            if found:
+                told[found["edit"]] = found["said"]
+    return told
+
+
+def let_through(told: dict[str, str], edits: Iterable[str]) -> list[str]:
+    """The edits of which rt doesn't say that a contract refused them."""
+    return [edit for edit in edits if not told.get(edit, "").startswith(IS_REFUSED) or any(but in told[edit] for but in BUT)]
+
+
+def note_all(crate: str) -> bool:
+    """Tries all edits of a crate, and notes its text if all are refused over one that the last commit has."""
+    commit, kit_now = git("rev-parse", "--short=12", "HEAD"), kit()
+    tree = Tree(TOP)
+    note = Note(tree.text_sum(crate), (commit or b"").decode().strip(), kit_now or "")
+    if sums_at("HEAD", [crate]).get(crate) != note.sum:
+        print(f"{crate}: the last commit hasn't this text; commit it first")
+        return False
+    was = noted().get(crate)
+    if was and (was.sum, was.kit) == (note.sum, note.kit):
+        print(f"{crate}: its edits were all refused over this text")
+    else:
+        names = [edit.name.removesuffix(ASIDE) for edit in tree.edits(crate)]
+        left = let_through(told_of(crate), names)
+        for edit in left:
+            print(f"{crate}: no contract refused {edit}")
+        if left or Tree(TOP).text_sum(crate) != note.sum:
+            return False
+    write_note(crate, note)
+    return True
+
+
+def main(words: list[str]) -> int:
+    tree, wrong = Tree(TOP), wrong_notes()
+    if not words:
+        for crate, why in sorted(wrong.items()):
+            print(f"{crate}: {why}")
+        print(f"edits: those of {len(wrong)} of {len(tree.with_aside())} crates have to be tried again")
+        return FAILED if wrong else 0
+    crates = sorted(set(wrong) & set(tree.with_aside())) if words == ["--all"] else words
+    unknown = [crate for crate in crates if not tree.edits(crate)]
+    if unknown:
+        print(f"no edits: {' '.join(unknown)}\n{__doc__}", file=sys.stderr)
+        return WRONG_WORDS
+    left = [crate for crate in crates if not note_all(crate)]
+    print(f"edits: {len(crates) - len(left)} crates noted, {len(left)} not{': ' if left else ''}{' '.join(left)}")
+    return FAILED if left else 0
+
+
+if __name__ == "__main__":
+    sys.exit(main(sys.argv[1:]))
