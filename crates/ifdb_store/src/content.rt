@@ -14,6 +14,9 @@ use std::alloc::Global;
 use std::marker::Model;
 use std::sync::ledger::Ledger;
 
+/// How many writes are tried in place. What more of them make of a part mostly doesn't fit into one, and is then made in vain.
+const FEW_WRITES: usize = 16;
+
 /// Rows, and the links from their parents to them.
 #[derive(Drop)]
 struct Body {
@@ -22,7 +25,7 @@ struct Body {
 }
 
 impl Body {
-    /// Puts writes into the rows in place, and other links with them, if that can be.
+    /// Puts writes into the rows as `Tree::put` does, and these links beside them.
     fn put(&mut self, alloc: Global, writes: &Writes, links: Tree) -> bool
         ensures rows { self.new.rows
             ≡ (if result then after self.old.rows writes.now else self.old.rows) }
@@ -36,8 +39,9 @@ impl Body {
     }
 }
 
-/// Rows in the order of their slots, each slot once. A later version is a content of its own, which shares what it has in
-/// common with this one, or it is this one changed in place, where nobody else holds it. Contracts see the list of the rows.
+/// Rows in the order of their slots, each slot once. A later version is a content of its own, which shares what it has in common
+/// with this one, or this one with other rows: `put` changes only what nobody else holds, so whoever reads a content that is
+/// shared goes on reading it. Contracts see the list of the rows.
 #[derive(Drop)]
 pub struct Content {
     body: Shared<Body>,
@@ -93,11 +97,14 @@ impl Content {
         Content::of(alloc, rows, links)
     }
 
-    /// Puts writes into the rows in place. Where that can't be, as where somebody else holds a part that they touch, or where
-    /// memory is refused, the answer is no and the rows are as before.
+    /// Puts a few writes into the rows in place, and copies only what somebody else holds or what doesn't take them as it lies.
+    /// Where that isn't enough, or memory is refused, the answer is no and the rows are as before.
     pub fn put(&mut self, alloc: Global, writes: &Writes) -> bool
         ensures { self.new ≡ (if result then after self.old writes.now else self.old) }
     {
+        if writes.len() > FEW_WRITES || self.body.get_mut().is_none() {
+            return false;
+        }
         let Ok(links) = self.links_after(alloc, writes) else {
             return false;
         };
