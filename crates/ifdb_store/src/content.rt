@@ -25,17 +25,53 @@ struct Body {
 }
 
 impl Body {
-    /// Puts writes into the rows as `Tree::put` does, and these links beside them.
-    fn put(&mut self, alloc: Global, writes: &Writes, links: Tree) -> bool
+    /// Puts writes into the rows as `Tree::put` does, and the links that follow beside them. Where memory is refused, the answer
+    /// is no.
+    fn put(&mut self, alloc: Global, writes: &Writes) -> bool
+        requires { IsTrue (are_links self.old.links self.old.rows) }
         ensures rows { self.new.rows
             ≡ (if result then after self.old.rows writes.now else self.old.rows) }
-        ensures links { self.new.links ≡ (if result then links else self.old.links) }
+        ensures links { IsTrue (are_links self.new.links self.new.rows) }
     {
+        let Ok(links) = self.links_after(alloc, writes) else {
+            return false;
+        };
         let done = self.rows.put(alloc, writes);
         if done {
             self.links = links;
         }
         done
+    }
+
+    /// The links after writes to the rows.
+    fn links_after(&self, alloc: Global, writes: &Writes) -> Result<Tree, OutOfMemory>
+        requires { IsTrue (are_links self.now.links self.now.rows) }
+        ensures { IfOk result (λ links. IsTrue (are_links links (after self.now.rows writes.now))) }
+    {
+        let following = writes_after(alloc, self.linked_rows(), writes.items())?;
+        links_after(alloc, self.links(), &following)
+    }
+
+    /// The rows, if any of them has a link.
+    fn linked_rows(&self) -> Option<&Tree>
+        ensures { IsTrue (rising self.now.rows) }
+    {
+        // Its limbs also say that the rows rise.
+        let _ = self.rows.limbs();
+        if self.links.limbs().is_empty() {
+            None
+        } else {
+            Some(&self.rows)
+        }
+    }
+
+    /// The links.
+    fn links(&self) -> &Tree
+        ensures links { result.now ≡ self.now.links }
+        ensures rising { IsTrue (rising result.now) }
+    {
+        let _ = self.links.limbs();
+        &self.links
     }
 }
 
@@ -92,7 +128,7 @@ impl Content {
     pub fn after(&self, alloc: Global, writes: &Writes) -> Result<Content, OutOfMemory>
         ensures { IfOk result (λ c. c ≡ after self.now writes.now) }
     {
-        let links = self.links_after(alloc, writes)?;
+        let links = self.body.get().links_after(alloc, writes)?;
         let rows = self.rows().after(alloc, writes)?;
         Content::of(alloc, rows, links)
     }
@@ -102,35 +138,12 @@ impl Content {
     pub fn put(&mut self, alloc: Global, writes: &Writes) -> bool
         ensures { self.new ≡ (if result then after self.old writes.now else self.old) }
     {
-        if writes.len() > FEW_WRITES || self.body.get_mut().is_none() {
+        if writes.len() > FEW_WRITES {
             return false;
         }
-        let Ok(links) = self.links_after(alloc, writes) else {
-            return false;
-        };
         match self.body.get_mut() {
-            Some(body) => body.put(alloc, writes, links),
+            Some(body) => body.put(alloc, writes),
             None => false,
-        }
-    }
-
-    /// The links after writes to the rows.
-    fn links_after(&self, alloc: Global, writes: &Writes) -> Result<Tree, OutOfMemory>
-        ensures { IfOk result (λ links. IsTrue (are_links links (after self.now writes.now))) }
-    {
-        let following = writes_after(alloc, self.linked_rows(), writes.items())?;
-        links_after(alloc, self.links(), &following)
-    }
-
-    /// The rows, if any of them has a link.
-    fn linked_rows(&self) -> Option<&Tree>
-        ensures { IsTrue (rising self.now) }
-    {
-        let rows = self.rows();
-        if self.links().limbs().is_empty() {
-            None
-        } else {
-            Some(rows)
         }
     }
 

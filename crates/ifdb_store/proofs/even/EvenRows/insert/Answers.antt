@@ -1,9 +1,9 @@
-use Rattle.std.proofs.Common.{◌≡◌, ◌≤◌, ◌<◌, ◌+◌, ◌-◌, ◌*◌, ◌++◌, ◌∷◌, [], ◌∙◌, ap, arith, drop, length, rules, sym, take, true}
+use Rattle.std.proofs.Common.{◌≡◌, ◌≤◌, ◌+◌, ◌*◌, ◌++◌, ◌∷◌, ◌∙◌, ap, arith, drop, length, rules, take, true}
 use Rattle.std.proofs.lemmas.Bool.Decides.{nat_tests}
-use Rattle.std.proofs.lemmas.List.{length-append, length-drop, length-take-le}
+use Rattle.std.proofs.lemmas.List.{length-append, length-take-le}
 use Rattle.ifdb_row.specs.ByReference.{row_of}
 use Rattle.ifdb_row.specs.Runs.{even_rows}
-use Rattle.ifdb_row.proofs.EvenRows.{even_length, front_within, row_within}
+use Rattle.ifdb_row.proofs.EvenRows.{even_length, front_within}
 use Rattle.ifdb_store.specs.Shapes.{cells_in, has_shape, head_in, is_unbound}
 use Rattle.ifdb_store.specs.declared.even.Shape.{Shape}
 use Rattle.ifdb_store.proofs.InPlace.{cells_wide, even_insert, insert_long, one_row, undone}
