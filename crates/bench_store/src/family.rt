@@ -58,8 +58,9 @@ fn parent_of(i: u32, rows: u32) -> i64 {
 
 /// Commits writes.
 fn commit(store: &mut Store, writes: Writes) -> Result<(), OutOfMemory> {
-    store.reserve(&writes)?;
-    store.install(1, writes);
+    let Ok(()) = store.commit(1, writes) else {
+        return Err(OutOfMemory);
+    };
     store.trim(1);
     Ok(())
 }

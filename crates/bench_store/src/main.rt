@@ -13,7 +13,7 @@ use family::{QUESTIONS, add_each, add_many, children, count};
 use ifdb_store::Store;
 use std::time::Instant;
 use std::{env, io};
-use work::{CALLS, fill, look, make, make_writes, refill, share, shrink, walk};
+use work::{CALLS, Holder, fill, look, make, make_writes, share, shrink, walk};
 
 fn main(rt: HostRuntime) -> io::Result<()> {
     if env::args(&rt)?.nth(1).is_some() {
@@ -30,7 +30,7 @@ fn main(rt: HostRuntime) -> io::Result<()> {
 /// Prints how many rows a walk finds in a store of so many.
 fn show(rt: &HostRuntime, rows: u32) -> io::Result<()> {
     let mut store = Store::new(rt.alloc())?;
-    fill(rt.alloc(), &mut store, rows, rows)?;
+    fill(rt.alloc(), &mut store, rows, rows, Holder::Nobody)?;
     let found = walk(store.content());
     println!(rt; "{rows} commits of one write: {found} rows")
 }
@@ -47,23 +47,26 @@ fn show_children(rt: &HostRuntime, rows: u32) -> io::Result<()> {
 fn time(rt: &HostRuntime, rows: u32) -> io::Result<()> {
     println!(rt; "{rows} rows")?;
     let mut store = Store::new(rt.alloc())?;
-    fill(rt.alloc(), &mut store, rows, rows)?;
+    fill(rt.alloc(), &mut store, rows, rows, Holder::Nobody)?;
     time_make(rt, rows)?;
     time_look(rt, &store, rows)?;
     time_share(rt, &store)?;
-    time_fill(rt, &mut store, rows)?;
-    time_refill(rt, &mut store, rows)?;
-    time_fill(rt, &mut store, rows)?;
-    time_refill(rt, &mut store, rows)?;
     time_writes(rt, rows)?;
-    time_shrink(rt, &mut store, rows, false)?;
-    fill(rt.alloc(), &mut store, CALLS, rows)?;
-    time_shrink(rt, &mut store, rows, true)?;
-    time_regrow(rt, &mut store, rows)?;
-    time_shrink(rt, &mut store, rows, true)?;
-    time_fill(rt, &mut store, rows)?;
+    time_commits(rt, &mut store, rows, Holder::Snapshot)?;
+    time_commits(rt, &mut store, rows, Holder::Nobody)?;
     time_walk(rt, &store, rows)?;
     time_family(rt, rows)
+}
+
+/// Times commits that replace rows, give them up, and insert them again.
+fn time_commits(rt: &HostRuntime, store: &mut Store, rows: u32, holder: Holder) -> io::Result<()> {
+    match holder {
+        Holder::Nobody => println!(rt; "  in place:")?,
+        Holder::Snapshot => println!(rt; "  beside a snapshot:")?,
+    }
+    time_fill(rt, store, rows, holder, "row replaced")?;
+    time_shrink(rt, store, rows, holder)?;
+    time_fill(rt, store, rows, holder, "row inserted")
 }
 
 /// Times the making of slots, which is a part of a look-up's time.
@@ -87,36 +90,24 @@ fn time_share(rt: &HostRuntime, store: &Store) -> io::Result<()> {
     tell(rt, "snapshot", start, CALLS)
 }
 
-/// Times commits of one write.
-fn time_fill(rt: &HostRuntime, store: &mut Store, rows: u32) -> io::Result<()> {
+/// Times commits of one row each.
+fn time_fill(
+    rt: &HostRuntime,
+    store: &mut Store,
+    rows: u32,
+    holder: Holder,
+    what: &str,
+) -> io::Result<()> {
     let start = Instant::now(rt)?;
-    fill(rt.alloc(), store, CALLS, rows)?;
-    tell(rt, "commit of one write", start, CALLS)
+    fill(rt.alloc(), store, CALLS, rows, holder)?;
+    tell(rt, what, start, CALLS)
 }
 
-/// Times commits of one write in place.
-fn time_refill(rt: &HostRuntime, store: &mut Store, rows: u32) -> io::Result<()> {
+/// Times commits of one deletion each.
+fn time_shrink(rt: &HostRuntime, store: &mut Store, rows: u32, holder: Holder) -> io::Result<()> {
     let start = Instant::now(rt)?;
-    refill(rt.alloc(), store, CALLS, rows)?;
-    tell(rt, "commit of one write in place", start, CALLS)
-}
-
-/// Times commits of one deletion.
-fn time_shrink(rt: &HostRuntime, store: &mut Store, rows: u32, in_place: bool) -> io::Result<()> {
-    let start = Instant::now(rt)?;
-    shrink(rt.alloc(), store, rows, in_place)?;
-    if in_place {
-        tell(rt, "commit of one deletion in place", start, CALLS)
-    } else {
-        tell(rt, "commit of one deletion", start, CALLS)
-    }
-}
-
-/// Times commits of one insertion in place, of the rows that were given up.
-fn time_regrow(rt: &HostRuntime, store: &mut Store, rows: u32) -> io::Result<()> {
-    let start = Instant::now(rt)?;
-    refill(rt.alloc(), store, CALLS, rows)?;
-    tell(rt, "commit of one insertion in place", start, CALLS)
+    shrink(rt.alloc(), store, rows, holder)?;
+    tell(rt, "row deleted", start, CALLS)
 }
 
 /// Times the making of writes, which is a part of a commit's time.

@@ -8,6 +8,15 @@ use std::alloc::Global;
 /// How often each thing is done.
 pub(crate) const CALLS: u32 = 20_000;
 
+/// Who else holds the rows while a commit is made.
+#[derive(Clone, Copy)]
+pub(crate) enum Holder {
+    /// Nobody: the commit changes them in place.
+    Nobody,
+    /// A snapshot of just before it: the commit copies what it changes, from the root on.
+    Snapshot,
+}
+
 /// Looks slots up.
 pub(crate) fn look(alloc: Global, content: &Content, rows: u32) -> Result<(), OutOfMemory> {
     for i in 0..CALLS {
@@ -39,10 +48,50 @@ pub(crate) fn fill(
     store: &mut Store,
     count: u32,
     rows: u32,
+    holder: Holder,
 ) -> Result<(), OutOfMemory> {
     for i in 0..count {
-        set(alloc, store, spread(i, rows))?;
+        let writes = one_write(alloc, spread(i, rows))?;
+        commit(store, writes, holder)?;
     }
+    Ok(())
+}
+
+/// Gives rows up, each in a commit of its own.
+pub(crate) fn shrink(
+    alloc: Global,
+    store: &mut Store,
+    rows: u32,
+    holder: Holder,
+) -> Result<(), OutOfMemory> {
+    for i in 0..CALLS {
+        let mut writes = Writes::new(alloc);
+        let slot = slot_of(alloc, spread(i, rows))?;
+        writes.put(Write { slot, row: None })?;
+        commit(store, writes, holder)?;
+    }
+    Ok(())
+}
+
+/// Makes writes of rows.
+pub(crate) fn make_writes(alloc: Global, rows: u32) -> Result<(), OutOfMemory> {
+    for i in 0..CALLS {
+        let _ = one_write(alloc, spread(i, rows))?;
+    }
+    Ok(())
+}
+
+/// Commits writes, while a snapshot that was just taken is held or is not.
+fn commit(store: &mut Store, writes: Writes, holder: Holder) -> Result<(), OutOfMemory> {
+    let held = match holder {
+        Holder::Nobody => None,
+        Holder::Snapshot => Some(store.snapshot()?),
+    };
+    let Ok(()) = store.commit(1, writes) else {
+        return Err(OutOfMemory);
+    };
+    store.trim(1);
+    drop(held);
     Ok(())
 }
 
@@ -67,70 +116,4 @@ pub(crate) fn walk(content: &Content) -> u64 {
 pub(crate) fn spread(i: u32, rows: u32) -> i64 {
     let far = u64::from(i).wrapping_mul(7919);
     i64::from(far.checked_rem(u64::from(rows)).unwrap_or(0) as u32)
-}
-
-/// Writes a row and commits it.
-fn set(alloc: Global, store: &mut Store, number: i64) -> Result<(), OutOfMemory> {
-    let writes = one_write(alloc, number)?;
-    store.reserve(&writes)?;
-    store.install(1, writes);
-    store.trim(1);
-    Ok(())
-}
-
-/// Writes rows in place, each in a commit of its own.
-pub(crate) fn refill(
-    alloc: Global,
-    store: &mut Store,
-    count: u32,
-    rows: u32,
-) -> Result<(), OutOfMemory> {
-    for i in 0..count {
-        reset(alloc, store, spread(i, rows))?;
-    }
-    Ok(())
-}
-
-/// Makes writes of rows.
-pub(crate) fn make_writes(alloc: Global, rows: u32) -> Result<(), OutOfMemory> {
-    for i in 0..CALLS {
-        let _ = one_write(alloc, spread(i, rows))?;
-    }
-    Ok(())
-}
-
-/// Writes a row and commits it, in place if that can be.
-fn reset(alloc: Global, store: &mut Store, number: i64) -> Result<(), OutOfMemory> {
-    let writes = one_write(alloc, number)?;
-    let _ = store.commit(1, writes).is_ok();
-    store.trim(1);
-    Ok(())
-}
-
-/// Gives rows up, each in a commit of its own.
-pub(crate) fn shrink(
-    alloc: Global,
-    store: &mut Store,
-    rows: u32,
-    in_place: bool,
-) -> Result<(), OutOfMemory> {
-    for i in 0..CALLS {
-        let mut writes = Writes::new(alloc);
-        let slot = slot_of(alloc, spread(i, rows))?;
-        writes.put(Write { slot, row: None })?;
-        commit(store, writes, in_place)?;
-    }
-    Ok(())
-}
-
-/// Commits writes, in place if that is asked for and can be.
-fn commit(store: &mut Store, writes: Writes, in_place: bool) -> Result<(), OutOfMemory> {
-    if in_place {
-        let _ = store.commit(1, writes).is_ok();
-    } else {
-        store.reserve(&writes)?;
-        store.install(1, writes);
-    }
-    store.trim(1);
-    Ok(())
 }

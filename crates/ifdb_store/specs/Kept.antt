@@ -1,21 +1,17 @@
 -- What a store keeps, and the log that it stands for.
-use Rattle.std.specs.Prelude.{◌≡◌, ℕ, Bool, List, [], ◌++◌, ◌<◌, ◌≤◌, ◌∷◌, nat_lt, map, filter, Option, None, Some, vec_len, vec_capacity}
-use Rattle.std.specs.declared.vec.Vec.{Vec}
-use Rattle.std.specs.declared.alloc.Global.{Global}
+use Rattle.std.specs.Prelude.{◌≡◌, ℕ, Bool, List, [], ◌++◌, ◌<◌, ◌≤◌, ◌∷◌, nat_lt, map, filter}
 use Rattle.ifdb_row.specs.declared.row.Row.{Row}
 use Rattle.ifdb_row.specs.Content.{after, content_from}
 use Rattle.ifdb_row.specs.declared.commit.Commit.{Commit}
 
--- the rows, the rows that the store is ready to have next, and the commits that are kept
+-- the rows, and the commits that are kept
 pub record Kept : Type 0 where
   pub rows : List Row
-  pub next : Option (List Row)
   pub commits : List Commit
 
--- a store that is ready has room for a commit
-abbrev pub HasRoom : {X : Type 0} → Option X → Vec Commit Global → Type 0
-HasRoom None commits = Unit {0}
-HasRoom (Some x) commits = vec_len commits < vec_capacity commits
+-- the store after a commit
+abbrev pub committed : Kept → Commit → Kept
+committed kept c = record { rows = after kept.rows c.writes; commits = kept.commits ++ c ∷ [] }
 
 -- the commit is later than a stamp
 abbrev pub is_later : ℕ → Commit → Bool
@@ -36,12 +32,12 @@ pub record StandsFor (kept : Kept) (log : List Commit) (floor : ℕ) : Type 0 wh
 -- after a commit the store stands for the longer log
 abbrev pub Installs : Type 0
 Installs = (kept : Kept) (log : List Commit) (floor : ℕ) (c : Commit) → StandsFor kept log floor → floor < c.stamp
-    → StandsFor (record { rows = after kept.rows c.writes; next = None; commits = kept.commits ++ c ∷ [] }) (log ++ c ∷ []) floor
+    → StandsFor (committed kept c) (log ++ c ∷ []) floor
 
 -- after commits are given up it stands for the same log, with a higher floor
 abbrev pub Trims : Type 0
 Trims = (kept : Kept) (log : List Commit) (floor oldest : ℕ) → StandsFor kept log floor → floor ≤ oldest
-    → StandsFor (record { rows = kept.rows; next = None; commits = trimmed oldest kept.commits }) log oldest
+    → StandsFor (record { rows = kept.rows; commits = trimmed oldest kept.commits }) log oldest
 
 -- it tells the commits after each BEGIN that isn't below the floor
 abbrev pub Tells : Type 0

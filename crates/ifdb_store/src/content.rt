@@ -14,6 +14,9 @@ use std::alloc::Global;
 use std::marker::Model;
 use std::sync::ledger::Ledger;
 
+/// How many writes are tried in place. What more of them make of a part mostly doesn't fit into one, and is then made in vain.
+const FEW_WRITES: usize = 16;
+
 /// Rows, and the links from their parents to them.
 #[derive(Drop)]
 struct Body {
@@ -22,22 +25,59 @@ struct Body {
 }
 
 impl Body {
-    /// Puts writes into the rows in place, and other links with them, if that can be.
-    fn put(&mut self, alloc: Global, writes: &Writes, links: Tree) -> bool
+    /// Puts writes into the rows as `Tree::put` does, and the links that follow beside them. Where memory is refused, the answer
+    /// is no.
+    fn put(&mut self, alloc: Global, writes: &Writes) -> bool
+        requires { IsTrue (are_links self.old.links self.old.rows) }
         ensures rows { self.new.rows
             ≡ (if result then after self.old.rows writes.now else self.old.rows) }
-        ensures links { self.new.links ≡ (if result then links else self.old.links) }
+        ensures links { IsTrue (are_links self.new.links self.new.rows) }
     {
+        let Ok(links) = self.links_after(alloc, writes) else {
+            return false;
+        };
         let done = self.rows.put(alloc, writes);
         if done {
             self.links = links;
         }
         done
     }
+
+    /// The links after writes to the rows.
+    fn links_after(&self, alloc: Global, writes: &Writes) -> Result<Tree, OutOfMemory>
+        requires { IsTrue (are_links self.now.links self.now.rows) }
+        ensures { IfOk result (λ links. IsTrue (are_links links (after self.now.rows writes.now))) }
+    {
+        let following = writes_after(alloc, self.linked_rows(), writes.items())?;
+        links_after(alloc, self.links(), &following)
+    }
+
+    /// The rows, if any of them has a link.
+    fn linked_rows(&self) -> Option<&Tree>
+        ensures { IsTrue (rising self.now.rows) }
+    {
+        // Its limbs also say that the rows rise.
+        let _ = self.rows.limbs();
+        if self.links.limbs().is_empty() {
+            None
+        } else {
+            Some(&self.rows)
+        }
+    }
+
+    /// The links.
+    fn links(&self) -> &Tree
+        ensures links { result.now ≡ self.now.links }
+        ensures rising { IsTrue (rising result.now) }
+    {
+        let _ = self.links.limbs();
+        &self.links
+    }
 }
 
-/// Rows in the order of their slots, each slot once. A later version is a content of its own, which shares what it has in
-/// common with this one, or it is this one changed in place, where nobody else holds it. Contracts see the list of the rows.
+/// Rows in the order of their slots, each slot once. A later version is a content of its own, which shares what it has in common
+/// with this one, or this one with other rows: `put` changes only what nobody else holds, so whoever reads a content that is
+/// shared goes on reading it. Contracts see the list of the rows.
 #[derive(Drop)]
 pub struct Content {
     body: Shared<Body>,
@@ -88,42 +128,22 @@ impl Content {
     pub fn after(&self, alloc: Global, writes: &Writes) -> Result<Content, OutOfMemory>
         ensures { IfOk result (λ c. c ≡ after self.now writes.now) }
     {
-        let links = self.links_after(alloc, writes)?;
+        let links = self.body.get().links_after(alloc, writes)?;
         let rows = self.rows().after(alloc, writes)?;
         Content::of(alloc, rows, links)
     }
 
-    /// Puts writes into the rows in place. Where that can't be, as where somebody else holds a part that they touch, or where
-    /// memory is refused, the answer is no and the rows are as before.
+    /// Puts a few writes into the rows in place, and copies only what somebody else holds or what doesn't take them as it lies.
+    /// Where that isn't enough, or memory is refused, the answer is no and the rows are as before.
     pub fn put(&mut self, alloc: Global, writes: &Writes) -> bool
         ensures { self.new ≡ (if result then after self.old writes.now else self.old) }
     {
-        let Ok(links) = self.links_after(alloc, writes) else {
+        if writes.len() > FEW_WRITES {
             return false;
-        };
-        match self.body.get_mut() {
-            Some(body) => body.put(alloc, writes, links),
-            None => false,
         }
-    }
-
-    /// The links after writes to the rows.
-    fn links_after(&self, alloc: Global, writes: &Writes) -> Result<Tree, OutOfMemory>
-        ensures { IfOk result (λ links. IsTrue (are_links links (after self.now writes.now))) }
-    {
-        let following = writes_after(alloc, self.linked_rows(), writes.items())?;
-        links_after(alloc, self.links(), &following)
-    }
-
-    /// The rows, if any of them has a link.
-    fn linked_rows(&self) -> Option<&Tree>
-        ensures { IsTrue (rising self.now) }
-    {
-        let rows = self.rows();
-        if self.links().limbs().is_empty() {
-            None
-        } else {
-            Some(rows)
+        match self.body.get_mut() {
+            Some(body) => body.put(alloc, writes),
+            None => false,
         }
     }
 

@@ -56,8 +56,21 @@ impl<T: Placed> Entry<T> {
 }
 
 impl<P: Part> Entry<P> {
-    /// Puts one write into its rows in place, if that can be.
+    /// Puts writes into its rows: in place, if nobody else holds the part and it takes them as it lies, or else by a copy of
+    /// the part in its stead.
     pub(crate) fn put(&mut self, alloc: Global, writes: &[Write]) -> bool
+        requires part { IsTrue (P.is_part self.old) }
+        requires fitting { IsTrue (are_fitting writes.now) }
+        requires rising { IsTrue (are_rising writes.now) }
+        ensures rows { IsPut (P.rows self.old) (P.rows self.new) writes.now result }
+        ensures part { IsTrue (P.is_part self.new) }
+        ensures full { P.is_full self.new ≡ P.is_full self.old }
+    {
+        self.put_in_place(alloc, writes) || self.put_copied(alloc, writes)
+    }
+
+    /// Puts writes into its rows in place, if nobody else holds the part and it takes them as it lies.
+    fn put_in_place(&mut self, alloc: Global, writes: &[Write]) -> bool
         requires part { IsTrue (P.is_part self.old) }
         requires fitting { IsTrue (are_fitting writes.now) }
         requires rising { IsTrue (are_rising writes.now) }
@@ -67,13 +80,12 @@ impl<P: Part> Entry<P> {
     {
         match self.part.get_mut() {
             Some(part) => part.put(alloc, writes),
-            None => self.copy(alloc, writes),
+            None => false,
         }
     }
 
-    /// Takes the part that holds the rows after one write in place of the part, which somebody else holds too, if it is one part,
-    /// as full as this one, and stands in the same slot.
-    fn copy(&mut self, alloc: Global, writes: &[Write]) -> bool
+    /// Takes the part that holds the rows after writes in place of the part, if `copied` gives it.
+    fn put_copied(&mut self, alloc: Global, writes: &[Write]) -> bool
         requires part { IsTrue (P.is_part self.old) }
         requires fitting { IsTrue (are_fitting writes.now) }
         requires rising { IsTrue (are_rising writes.now) }
@@ -90,7 +102,8 @@ impl<P: Part> Entry<P> {
         }
     }
 
-    /// The part that holds the rows after one write, if it is one part, as full as this one, and stands in the same slot.
+    /// The part that holds the rows after writes; `None` where they are not one part, as full as this one and in the same slot, and
+    /// where memory is refused.
     fn copied(&self, alloc: Global, writes: &[Write]) -> Option<Entry<P>>
         requires part { IsTrue (P.is_part self.now) }
         requires fitting { IsTrue (are_fitting writes.now) }

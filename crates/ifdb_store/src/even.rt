@@ -11,6 +11,7 @@ ghost use Rattle.ifdb_store.specs.Splices.{cells_put, put_in, rows_put};
 
 use crate::join::SMALL_PAGE;
 use crate::page::PAGE_ROWS;
+use crate::room::{SPARE_ROWS, insert, insert_all};
 use crate::share::{add_shared, joined};
 use crate::splice::{Gap, Inset, gap_for};
 use ifdb_row::{EvenRun, Head, OutOfMemory, Refs, RowRef, Run, SlotRef, Write};
@@ -83,13 +84,13 @@ impl EvenRows {
         let gap = gap_for(Run::Even(rows), write.slot.by_ref());
         match &write.row {
             Some(row) => with(alloc, rows, gap, row.get().by_ref()),
-            None => spliced(alloc, rows, gap, Inset::none()),
+            None => spliced(alloc, rows, gap, Inset::none(), 0),
         }
     }
 
-    /// Puts a write into the rows in place. Where the first row's slot would be another, or the rows too many or few for a page,
-    /// where a new one doesn't lie in one list with the others, or refers to something or any of them does, or where memory is
-    /// refused, the answer is no and the rows are as before.
+    /// Puts a write into the rows in place. The answer is no, and the rows are as before, where the first row's slot would be
+    /// another, or the rows too many or too few for a page; where a row has another shape, or refers to something; and where
+    /// memory is refused.
     pub(crate) fn put(&mut self, alloc: Global, write: &Write) -> bool
         requires rising { IsTrue (rising self.old) }
         requires fitting { IsTrue (is_fitting write.now.slot write.now.row) }
@@ -108,7 +109,8 @@ impl EvenRows {
         }
     }
 
-    /// Puts a row between others, if it lies in one list with them, and if neither it nor any of them refers to anything.
+    /// Puts a row before the one at a place, or at the end, if it lies in one list with the others, and if neither it nor any of
+    /// them refers to anything.
     fn insert(&mut self, alloc: Global, place: usize, row: RowRef<'_>) -> bool
         requires { place ≤ length self.old }
         ensures { self.new ≡ (if result
@@ -127,10 +129,10 @@ impl EvenRows {
         };
         // That they lie within the list keeps the product in range.
         let _ = self.cells.len();
-        if self.heads.insert(place, head).is_err() {
+        if insert(alloc, &mut self.heads, place, head).is_err() {
             return false;
         }
-        if self.cells.insert_all(place * self.width, cells).is_err() {
+        if insert_all(alloc, &mut self.cells, place * self.width, cells).is_err() {
             self.heads.remove(place);
             return false;
         }
@@ -158,7 +160,9 @@ impl EvenRows {
     /// refers to anything.
     fn replace(&mut self, alloc: Global, place: usize, row: RowRef<'_>) -> bool
         requires { place < length self.old }
-        ensures { self.new ≡ (if result then slice_set self.old place (row_of row.entry) else self.old) }
+        ensures { self.new ≡ (if result
+            then slice_set self.old place (row_of row.entry)
+            else self.old) }
     {
         let shape = Shape {
             key: self.key,
@@ -235,15 +239,21 @@ fn with(
         key: row.slot.key,
         values: row.values,
     };
-    spliced(alloc, rows, gap, inset)
+    spliced(alloc, rows, gap, inset, spare_rows(gap))
 }
 
-/// Rows with others in a gap between them; `None` where not each has a place for what it refers to.
+/// For how many rows more there is room in lists that are copied so that a row comes into a gap: for some, where it is a new one.
+fn spare_rows(gap: Gap) -> usize {
+    if gap.from < gap.to { 0 } else { SPARE_ROWS }
+}
+
+/// Rows with others in a gap between them, and room for more; `None` where not each has a place for what it refers to.
 fn spliced(
     alloc: Global,
     rows: EvenRun<'_>,
     gap: Gap,
     inset: Inset<'_>,
+    spare: usize,
 ) -> Result<Option<EvenRows>, OutOfMemory>
     requires within { gap.to ≤ length (rows_even rows) }
     requires long { length (cells_put inset) ≡ length inset.heads.now * rows.width }
@@ -255,16 +265,20 @@ fn spliced(
         Sequence::new(alloc)
     } else if rows.refs.len() == rows.heads.len() {
         let (before, behind) = around(rows.refs, gap.from, gap.to);
-        Sequence::from_vec(joined(alloc, &[before, inset.refs, behind])?)
+        Sequence::from_vec(joined(alloc, &[before, inset.refs, behind], spare)?)
     } else {
         return Ok(None);
     };
     let (before, behind) = around(rows.heads, gap.from, gap.to);
-    let heads = joined(alloc, &[before, inset.heads, behind])?;
+    let heads = joined(alloc, &[before, inset.heads, behind], spare)?;
     // That they lie within the list keeps the products in range.
     let _ = rows.cells.len();
     let (before, behind) = around(rows.cells, gap.from * rows.width, gap.to * rows.width);
-    let cells = joined(alloc, &[before, inset.key, inset.values, behind])?;
+    let cells = joined(
+        alloc,
+        &[before, inset.key, inset.values, behind],
+        spare.saturating_mul(rows.width),
+    )?;
     Ok(Some(EvenRows {
         key: rows.key,
         width: rows.width,

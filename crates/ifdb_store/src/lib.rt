@@ -15,6 +15,7 @@ mod page;
 mod part;
 mod print;
 mod put;
+mod room;
 mod search;
 mod share;
 mod splice;

@@ -66,11 +66,12 @@ impl<P: Part> Node<P> {
         self.parts.items()
     }
 
-    /// Puts one write into its rows in place, if that can be.
+    /// Puts writes into its rows, if all are of one part and it takes them.
     pub(crate) fn put(&mut self, alloc: Global, writes: &[Write]) -> bool
         requires fitting { IsTrue (are_fitting writes.now) }
         requires rising { IsTrue (are_rising writes.now) }
-        ensures rows { IsPut (flat_map P.rows self.old) (flat_map P.rows self.new) writes.now result }
+        ensures rows { IsPut
+            (flat_map P.rows self.old) (flat_map P.rows self.new) writes.now result }
         ensures node { IsTrue (is_node P.rows P.is_part P.is_full self.new) }
         ensures full { is_full_node self.new ≡ is_full_node self.old }
     {

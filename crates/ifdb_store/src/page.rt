@@ -38,7 +38,7 @@ enum Layout {
 impl Layout {
     ghost use Rattle.ifdb_store.specs.Layouts.{rows_laid};
 
-    /// Puts a write into the rows in place, if that can be.
+    /// Puts a write into the rows in place, if they take it as they lie.
     fn put(&mut self, alloc: Global, write: &Write) -> bool
         requires rising { IsTrue (rising (rows_laid self.old)) }
         requires fitting { IsTrue (is_fitting write.now.slot write.now.row) }
@@ -99,7 +99,7 @@ impl Page {
         }
     }
 
-    /// Puts one write into the rows in place, if that can be.
+    /// Puts writes into the rows in place, if it is one and they take it as they lie.
     fn put_one(&mut self, alloc: Global, writes: &[Write]) -> bool
         requires { IsTrue (are_fitting writes.now) }
         ensures rows { IsPut self.old self.new writes.now result }

@@ -48,8 +48,8 @@ pub(crate) trait Part: Placed + Drop {
             (AddsAfter Self.rows out.old out.new (Self.rows self.now) writes.now) }
         ensures parts { OnOk result (IsTrue (list_all is_part out.new.items)) };
 
-    /// Puts one write into its rows in place. Where that can't be, as where somebody else holds a part of it, where it would
-    /// have other pages or another first slot, or where memory is refused, the answer is no and the rows are as before.
+    /// Puts writes into its rows, and copies only such parts of it as somebody else holds or as don't take them as they lie. Where
+    /// it would have other parts or another first slot, or where memory is refused, the answer is no and the rows are as before.
     fn put(&mut self, alloc: Global, writes: &[Write]) -> bool
         requires part { IsTrue (is_part self.old) }
         requires fitting { IsTrue (are_fitting writes.now) }
@@ -263,7 +263,7 @@ pub(crate) fn parts_after<P: Part>(
     Ok(())
 }
 
-/// Puts one write into the rows of some parts in place, if that can be.
+/// Puts writes into the rows of some parts, if all are of one part and it takes them.
 pub(crate) fn put_in<P: Part>(
     alloc: Global,
     parts: &mut Sequence<Entry<P>>,
@@ -274,7 +274,8 @@ pub(crate) fn put_in<P: Part>(
     requires in_order { IsTrue (rising (flat_map P.rows parts.old)) }
     requires fitting { IsTrue (are_fitting writes.now) }
     requires rising { IsTrue (are_rising writes.now) }
-    ensures rows { IsPut (flat_map P.rows parts.old) (flat_map P.rows parts.new) writes.now result }
+    ensures rows { IsPut
+        (flat_map P.rows parts.old) (flat_map P.rows parts.new) writes.now result }
     ensures many { length parts.new ≡ length parts.old }
     ensures parts { IsTrue (list_all P.is_part parts.new) }
     ensures full { list_all P.is_full parts.new ≡ list_all P.is_full parts.old }
@@ -287,13 +288,14 @@ pub(crate) fn put_in<P: Part>(
     part.put(alloc, writes)
 }
 
-/// Whether writes are all of the part at a place, as far as they stand before the next one. It touches no row where the marks
-/// tell.
+/// Whether writes that stand behind the parts before a place are all of the part there. Of one write marks tell most, and then
+/// no row is touched.
 fn are_within<P: Part>(parts: &[Entry<P>], at: usize, writes: &[Write]) -> bool
     requires there { at < length parts.now }
     requires parts { IsTrue (list_all P.is_part parts.now) }
     requires in_order { IsTrue (rising (flat_map P.rows parts.now)) }
     requires fitting { IsTrue (are_fitting writes.now) }
+    requires rising { IsTrue (are_rising writes.now) }
     ensures { result ≡ true → Divides P.rows parts.now at writes.now (length writes.now) }
 {
     match parts.get(at + 1) {
@@ -302,8 +304,9 @@ fn are_within<P: Part>(parts: &[Entry<P>], at: usize, writes: &[Write]) -> bool
     }
 }
 
-/// Whether a part stands behind one write.
+/// Whether a part stands behind all writes.
 fn is_behind<P: Part>(part: &Entry<P>, writes: &[Write]) -> bool
+    requires { IsTrue (are_rising writes.now) }
     ensures { result ≡ true → IsTrue (are_before (P.place part.now) writes.now) }
 {
     match writes {
@@ -312,7 +315,7 @@ fn is_behind<P: Part>(part: &Entry<P>, writes: &[Write]) -> bool
             let edge = Edge::Behind(*slot.table, slot.key, slot.label);
             !part.is_before(&edge, &Mark::of_edge(&edge))
         }
-        _ => false,
+        _ => writes_before(writes, part.get().slot()) == writes.len(),
     }
 }
 

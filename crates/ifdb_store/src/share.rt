@@ -47,11 +47,15 @@ pub(crate) fn shared<T: Share>(
     Ok(all)
 }
 
-/// The items of some lists, one list behind the other, shared.
-pub(crate) fn joined<T: Share>(alloc: Global, lists: &[&[T]]) -> Result<Vec<T>, OutOfMemory>
+/// The items of some lists, one list behind the other, shared, with room for more items.
+pub(crate) fn joined<T: Share>(
+    alloc: Global,
+    lists: &[&[T]],
+    spare: usize,
+) -> Result<Vec<T>, OutOfMemory>
     ensures { IfOk result (λ all. all.items ≡ flat_map (λ list. list.now) lists.now) }
 {
-    let mut room: usize = 0;
+    let mut room = spare;
     for list in lists {
         room = room.saturating_add(list.len());
     }

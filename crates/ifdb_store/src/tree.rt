@@ -22,9 +22,9 @@ use std::alloc::Global;
 use std::marker::{Brand, Model};
 use std::sync::ledger::{Blank, Ledger};
 
-/// Rows in the order of their slots, each slot once, in pages, pages in twigs, twigs in branches, branches in limbs. It never
-/// changes: a later version is a tree of its own, which shares what it has in common with this one. Contracts see the list of
-/// the rows.
+/// Rows in the order of their slots, each slot once, in pages, pages in twigs, twigs in branches, branches in limbs. A later
+/// version is a tree of its own, which shares what it has in common with this one, or this one with other rows: `put` changes
+/// only what nobody else holds, so no other version changes with it. Contracts see the list of the rows.
 #[derive(Drop)]
 pub(crate) struct Tree {
     limbs: Shared<Sequence<Entry<Limb>>>,
@@ -71,8 +71,8 @@ impl Tree {
         })
     }
 
-    /// Puts writes into the rows in place. Where that can't be, as where somebody else holds a part that they touch, or where
-    /// memory is refused, the answer is no and the rows are as before.
+    /// Puts writes into the rows, and copies only what somebody else holds or what doesn't take them as it lies. Where the
+    /// limbs would be others, or memory is refused, the answer is no and the rows are as before.
     pub(crate) fn put(&mut self, alloc: Global, writes: &Writes) -> bool
         ensures { self.new ≡ (if result then after self.old writes.now else self.old) }
     {
@@ -158,7 +158,7 @@ impl Rows for Tree {
     }
 }
 
-/// Puts writes into the rows of some limbs in place, if that can be.
+/// Puts writes into the rows of some limbs, if all are of one limb and it takes them.
 fn put_in_limbs(alloc: Global, limbs: &mut Sequence<Entry<Limb>>, writes: &[Write]) -> bool
     requires tree { IsTrue (is_tree limbs.old) }
     requires fitting { IsTrue (are_fitting writes.now) }

@@ -153,8 +153,9 @@ fn store_of(alloc: Global, tags: &Tags) -> Result<Store, OutOfMemory>
         let Entry(stamp, put) = entry;
         let mut writes = Writes::new(alloc);
         writes.put(write_of(alloc, tags, *put)?)?;
-        store.reserve(&writes)?;
-        store.install(*stamp, writes);
+        let Ok(()) = store.commit(*stamp, writes) else {
+            return Err(OutOfMemory);
+        };
     }
     Ok(store)
 }

@@ -1,4 +1,6 @@
 //! Contents of many rows, against what was written.
+ghost use Rattle.std.specs.Prelude.{◌≤◌, ◌<◌};
+
 use self::walk::{value_at, walk};
 use self::writes::{one, range, thinned};
 use ifdb_row::{OutOfMemory, Writes};
@@ -10,6 +12,7 @@ use std::thread::join;
 
 mod children;
 mod random;
+mod refused;
 mod walk;
 mod writes;
 
@@ -45,6 +48,48 @@ fn twigs_are_made_anew(rt: HostRuntime) -> Result<(), Fail> {
     is_thinned(&rt, rt.alloc(), store.content())
 }
 
+/// 10,000 rows of the values 0, 1 and 2, of which 0 is no row, in scattered order, each in a commit of its own; then all anew.
+#[test]
+fn ten_thousand_commits(rt: HostRuntime) -> Result<(), Fail> {
+    let mut store = Store::new(rt.alloc())?;
+    scatter(rt.alloc(), &mut store, 0)?;
+    let held = store.snapshot()?;
+    scatter(rt.alloc(), &mut store, 1)?;
+    assert_eq!(rt; (walk(&held).rows, walk(&held).sum), (6666, 9999));
+    assert_eq!(rt;
+        (walk(store.content()).rows, walk(store.content()).sum),
+        (6667, 10_000)
+    );
+    Ok(())
+}
+
+/// Writes 10,000 rows, each in a commit of its own.
+fn scatter(alloc: Global, store: &mut Store, shift: i64) -> Result<(), OutOfMemory>
+    requires { (0 ≤ shift) × (shift < 2) }
+{
+    for i in 0..10_000 {
+        commit(store, one(alloc, i * 7919 % 10_000, (i + shift) % 3)?)?;
+    }
+    Ok(())
+}
+
+/// Rows that somebody made are the store's.
+#[test]
+fn made_rows_are_installed(rt: HostRuntime) -> Result<(), Fail> {
+    let mut store = filled(rt.alloc(), 200, 1)?;
+    let writes = one(rt.alloc(), 70, 3)?;
+    let rows = store.content().after(rt.alloc(), &writes)?;
+    if let Err((writes, rows)) = store.install(2, writes, rows) {
+        assert_eq!(rt; (walk(store.content()).sum, walk(&rows).sum), (200, 202));
+        let Ok(()) = store.install(2, writes, rows) else {
+            return Err(Fail::from("refused twice"));
+        };
+    }
+    assert_eq!(rt; walk(store.content()).sum, 202);
+    assert_eq!(rt; store.commits().len(), 2);
+    Ok(())
+}
+
 /// Tests that the last thousand of 10,000 rows are left.
 fn is_thinned(rt: &impl Abort, alloc: Global, content: &Content) -> Result<(), Fail> {
     assert_eq!(rt; walk(content).rows, 1000);
@@ -62,7 +107,7 @@ fn threads_read_one_content(rt: HostRuntime) -> Result<(), Fail> {
     Ok(())
 }
 
-/// Run with one allocation refused at a time: few of them are a snapshot's, and few a reserve's.
+/// Run with one allocation refused at a time: few of them are a snapshot's, and few a commit's.
 #[test]
 fn snapshot_shares(rt: HostRuntime) -> Result<(), Fail> {
     let Ok(mut store) = filled(rt.alloc(), 6400, 1) else {
@@ -74,15 +119,14 @@ fn snapshot_shares(rt: HostRuntime) -> Result<(), Fail> {
     shares(&rt, &mut store, writes)
 }
 
-/// Tests that what is installed leaves a snapshot as it is.
+/// Tests that a commit leaves a snapshot as it is.
 fn shares(rt: &impl Abort, store: &mut Store, writes: Writes) -> Result<(), Fail> {
     let Ok(before) = store.snapshot() else {
         return Err(Fail::from("refused to the snapshot"));
     };
-    let Ok(()) = store.reserve(&writes) else {
-        return Err(Fail::from("refused to the reserve"));
+    let Ok(()) = store.commit(2, writes) else {
+        return Err(Fail::from("refused to the commit"));
     };
-    store.install(2, writes);
     assert_eq!(rt; walk(&before).sum, 6400);
     assert_eq!(rt; walk(store.content()).sum, 6401);
     Ok(())
@@ -120,7 +164,11 @@ fn commit(store: &mut Store, writes: Writes) -> Result<(), OutOfMemory> {
 
 /// Commits writes with a stamp.
 fn commit_at(store: &mut Store, stamp: u64, writes: Writes) -> Result<(), OutOfMemory> {
-    store.reserve(&writes)?;
-    store.install(stamp, writes);
-    Ok(())
+    match store.commit(stamp, writes) {
+        Ok(()) => Ok(()),
+        Err(writes) => {
+            drop(writes);
+            Err(OutOfMemory)
+        }
+    }
 }

@@ -1,8 +1,9 @@
 //! Pseudo-random writes, one after the other, beside a plain list of what stands under each key.
+use super::commit;
 use super::walk::{listed, value_at, walk};
 use super::writes::{one, write_of};
 use ifdb_row::{OutOfMemory, Rows, Writes};
-use ifdb_store::Content;
+use ifdb_store::{Content, Store};
 use std::alloc::Global;
 use std::ops::Range;
 use std::process::Abort;
@@ -28,6 +29,71 @@ fn pseudo_random_writes_at_once(rt: HostRuntime) -> Result<(), Fail> {
     let content = scatter(rt.alloc(), Content::new(rt.alloc())?, 0..1000, &mut plain)?;
     is_listed(&rt, rt.alloc(), &content, &plain)?;
     is_written_at_once(&rt, rt.alloc(), &plain)
+}
+
+#[test]
+fn pseudo_random_commits(rt: HostRuntime) -> Result<(), Fail> {
+    let mut plain = Vec::from_elem(rt.alloc(), 0i64, KEYS as usize)?;
+    let mut store = Store::new(rt.alloc())?;
+    commit_each(rt.alloc(), &mut store, 0..1000, &mut plain)?;
+    assert!(rt; holds(store.content(), rt.alloc(), &plain)?);
+    Ok(())
+}
+
+#[test]
+fn pseudo_random_commits_of_several(rt: HostRuntime) -> Result<(), Fail> {
+    let mut plain = Vec::from_elem(rt.alloc(), 0i64, KEYS as usize)?;
+    let mut store = Store::new(rt.alloc())?;
+    for first in 0..200 {
+        commit(&mut store, merged(rt.alloc(), first * 5..first * 5 + 5)?)?;
+        note(first * 5..first * 5 + 5, &mut plain);
+    }
+    assert!(rt; holds(store.content(), rt.alloc(), &plain)?);
+    Ok(())
+}
+
+#[test]
+fn pseudo_random_commits_beside_snapshots(rt: HostRuntime) -> Result<(), Fail> {
+    let mut plain = Vec::from_elem(rt.alloc(), 0i64, KEYS as usize)?;
+    let mut store = Store::new(rt.alloc())?;
+    for round in 0..20 {
+        let held = store.snapshot()?;
+        let before = Vec::from_slice(rt.alloc(), &plain)?;
+        commit_each(
+            rt.alloc(),
+            &mut store,
+            round * 50..round * 50 + 50,
+            &mut plain,
+        )?;
+        assert!(rt; holds(&held, rt.alloc(), &before)?);
+        assert!(rt; holds(store.content(), rt.alloc(), &plain)?);
+    }
+    Ok(())
+}
+
+/// Commits the writes of these numbers one by one. What stands under each key is put into the plain list as well.
+fn commit_each(
+    alloc: Global,
+    store: &mut Store,
+    numbers: Range<u32>,
+    plain: &mut [i64],
+) -> Result<(), OutOfMemory> {
+    for number in numbers.start..numbers.end {
+        let (key, value) = pseudo_random(number);
+        commit(store, one(alloc, i64::from(key), value)?)?;
+    }
+    note(numbers, plain);
+    Ok(())
+}
+
+/// Puts what the writes of these numbers leave under each key into the plain list.
+fn note(numbers: Range<u32>, plain: &mut [i64]) {
+    for number in numbers {
+        let (key, value) = pseudo_random(number);
+        if let Some(place) = plain.get_mut(key as usize) {
+            *place = value;
+        }
+    }
 }
 
 /// Tests that the rows of a content in a list are what stands under each key.

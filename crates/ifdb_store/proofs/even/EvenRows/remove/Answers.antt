@@ -1,11 +1,6 @@
-use Rattle.std.proofs.Common.{◌≡◌, ◌≤◌, ◌<◌, ◌+◌, ◌-◌, ◌*◌, ◌++◌, ◌∷◌, [], ◌∙◌, ap, arith, drop, length, rules, sym, take, true}
-use Rattle.std.proofs.lemmas.Bool.Decides.{nat_tests}
-use Rattle.std.proofs.lemmas.List.{length-append, length-drop, length-take-le}
-use Rattle.ifdb_row.specs.ByReference.{row_of}
+use Rattle.std.proofs.Common.{◌≡◌, ◌<◌, ◌+◌, ◌*◌, ◌++◌, ◌∙◌, ap, arith, drop, length, rules, take}
 use Rattle.ifdb_row.specs.Runs.{even_rows}
 use Rattle.ifdb_row.proofs.EvenRows.{even_length, front_within, row_within}
-use Rattle.ifdb_store.specs.Shapes.{cells_in, has_shape, head_in, is_unbound}
-use Rattle.ifdb_store.specs.declared.even.Shape.{Shape}
 use Rattle.ifdb_store.proofs.InPlace.{even_remove, remove_long}
 use Rattle.ifdb_store.proofs.Splicing.{empty}
 use Rattle.ifdb_store.proofs.even.EvenRows.remove.Goals as goal

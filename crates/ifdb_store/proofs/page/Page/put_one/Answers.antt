@@ -1,11 +1,10 @@
-use Rattle.std.proofs.Common.{◌≡◌, ◌∙◌, arith, ap, length, sym, true}
+use Rattle.std.proofs.Common.{◌≡◌, ◌∙◌, arith, ap, true}
 use Rattle.std.proofs.lemmas.Bool.Decides.{nat_tests}
 use Rattle.ifdb_row.specs.declared.write.Write.{Write}
-use Rattle.ifdb_row.specs.Writes.{are_fitting, is_fitting}
+use Rattle.ifdb_row.specs.Writes.{is_fitting}
 use Rattle.ifdb_row.proofs.TableWalks.{is_true}
 use Rattle.ifdb_value.proofs.Lists.{all_at}
 use Rattle.ifdb_store.specs.Layouts.{rows_laid}
-use Rattle.ifdb_store.specs.Pages.{is_page}
 use Rattle.ifdb_store.proofs.InPlace.{page_put}
 use Rattle.ifdb_store.proofs.page.Page.put_one.Goals as goal
 
