@@ -5,11 +5,10 @@
     tools/edits.py NAME..      tries all edits of these crates, and notes the crates of which all were refused
     tools/edits.py --all       tries those of all crates that have to be tried again
 
-Where a rebase left the commit of a note behind, and nothing else changed, the note gets another one without a try.
-
 An edit stands aside under a name that ends in edit.md. What refuses it is a contract, and what a contract says is said by the definitions
-and the contracts below as well. So tools/refused.txt notes for a crate the sum of its own text, of its edits, and of the definitions and
-contracts of all crates below it; the commit whose tree has that text; and the kit. tools/check.py fails where any of the three is another.
+and the contracts below as well. So tools/refused.txt notes for a crate the sum of its own text; the commit over which all of its edits
+were refused; and the kit. tools/check.py fails where the crate's text is another, where an edit is, where a definition or a contract that
+stood below it then is changed or gone, or where the kit is another. What came since and nothing of the crate cites hides no edit.
 
 An edit counts as refused where the prover says that the edited crate isn't proved. Where it gave up at a limit of its own, or where only a
 proof misses a name that the edit took away, no contract refused anything, and the crate isn't noted.
@@ -43,14 +42,15 @@ IS_REFUSED = "refused, as it must be"
 # What rt says behind IS_REFUSED where no contract refused the edit.
 BUT = ("(only by a limit of the prover", "(only because a proof file names")
 COMMENT = {".rt": "//", ".antt": "--"}
-# What an item of a source file begins with that contracts are made of, and what a line ends with that ends it, with its brackets
-# closed: a clause or a ghost item, a declaration, a signature.
-ITEMS = (
-    (re.compile(r"(ensures|requires)\b|(pub(\(\w+\))? )?ghost\b"), ("",)),
-    (re.compile(r"(pub(\(\w+\))? )?(struct|enum|type|static|const)\b(?! fn\b)"), (";", "}")),
-    (re.compile(r"(pub(\(\w+\))? )?(const )?fn\b"), ("{", "}", ";")),
-)
-SIGNATURE = ITEMS[2][1]
+# How an item of a source file begins that contracts are made of, with what ends the line that ends it, once its brackets are closed: a
+# ghost item, a declaration, a signature with its clauses.
+CLAUSE = re.compile(r"(ensures|requires)\b")
+GHOST = re.compile(r"(pub(\(\w+\))? )?ghost\b")
+DECLARATION = re.compile(r"(pub(\(\w+\))? )?(struct|enum|type|static|const|trait)\b(?! fn\b)")
+SIGNATURE = re.compile(r"(pub(\(\w+\))? )?(const )?fn\b")
+# How a definition begins, and a field of one.
+DEFINITION = re.compile(r"\s*((abbrev|unfoldable|pub|record|data|infix\w*) |[^\s:(){}]+ +: )")
+FIELD = re.compile(r"\s+pub (?!record|data)\S+ +:")
 WRONG_WORDS, FAILED = 64, 1
 
 
@@ -65,26 +65,43 @@ def depth_of(line: str) -> int:
     return sum(map(line.count, "({[")) - sum(map(line.count, ")}]"))
 
 
-def promised(file: Path) -> list[str]:
-    """The lines of a source file that contracts are made of: signatures, clauses, ghost items, and the types and constants that these
-    cite. They are told by how rt fmt lays them out: each begins a line, and what begins a body ends a signature's line or stands alone."""
-    said: list[str] = []
-    ends: tuple[str, ...] = ()  # of the item that is being read, if one is
+def contracts(file: Path) -> list[str]:
+    """What a source file promises: each signature that has clauses with these, its ghost items, and its types and constants. They are told
+    by how rt fmt lays them out: each begins a line, and a line of its own, or the end of one, begins a body. Who may name them is not
+    among it."""
+    items: list[list[str]] = []
+    is_open = False  # the last item goes on
     depth = 0
     for line in lines_of(file):
         head = line.strip()
-        if depth == 0:
-            begun = next((ends for form, ends in ITEMS if form.match(head)), ())
-            if begun or head == "{":
-                ends = begun
-        if not ends:
+        if head.startswith("ghost use ") and " as " not in head:
             continue
-        said.append(line)
-        if ends is not SIGNATURE:
+        if depth == 0 and (GHOST.match(head) or DECLARATION.match(head) or SIGNATURE.match(head)):
+            items.append([])
+            is_open = True
+        elif depth == 0 and head == "{":
+            is_open = False
+        if not is_open:
+            continue
+        items[-1].append(head)
+        if not SIGNATURE.match(items[-1][0]) or CLAUSE.match(head) or depth:
             depth = max(depth + depth_of(line), 0)
-        if depth == 0 and head.endswith(ends):
-            ends = ()
-    return said
+        if depth == 0 and head.endswith(("{", ";", "}")) and not CLAUSE.match(head):
+            is_open = SIGNATURE.match(items[-1][0]) is not None and head.endswith("}")
+    said = [item for item in items if not SIGNATURE.match(item[0]) or any(map(CLAUSE.match, item))]
+    return [re.sub(r"^pub(\(\w+\))? ", "", "\n".join(item)) for item in said]
+
+
+def definitions(file: Path) -> list[str]:
+    """What a file of definitions defines, each with its clauses."""
+    items: list[list[str]] = []
+    for line in lines_of(file):
+        if line.startswith("use ") and " as " not in line:
+            continue
+        if not items or line.startswith("use ") or DEFINITION.match(line) and not FIELD.match(line):
+            items.append([])
+        items[-1].append(line.strip())
+    return ["\n".join(item) for item in items]
 
 
 class Tree:
@@ -117,18 +134,26 @@ class Tree:
         return sorted(file for part in parts for file in (top / part).rglob("*") if file.suffix in SOURCES)
 
     @functools.cache
-    def promises_sum(self, crate: str) -> str:
-        """The sum of a crate's definitions and contracts, but of those of its tests."""
+    def promises(self, crate: str) -> frozenset[str]:
+        """A crate's definitions and contracts, but for those of its tests."""
         sources = [file for file in self.files(crate, "src") if "tests" not in (file.stem, file.parent.name)]
-        said = [(file, promised(file)) for file in sources]
-        said += [(file, lines_of(file)) for file in self.files(crate, "specs")]
-        return sum_of((str(file.relative_to(self.crates)), lines) for file, lines in said if lines)
+        said = [item for file in sources for item in contracts(file)]
+        said += [item for file in self.files(crate, "specs") for item in definitions(file)]
+        return frozenset(said)
 
-    def text_sum(self, crate: str) -> str:
-        """The sum of all that decides whether a crate's edits are refused, under whatever name they stand."""
-        own = [*self.files(crate, "src", "specs", "proofs"), *self.edits(crate)]
-        said = [(str(file.relative_to(self.crates)).removesuffix(ASIDE), lines_of(file)) for file in own]
-        return sum_of([*said, *((name, [self.promises_sum(name)]) for name in self.below(crate))])
+    @functools.cache
+    def promises_below(self, crate: str) -> frozenset[str]:
+        """Those of all crates that a crate stands on, each behind the name of its crate."""
+        return frozenset(f"{name}: {item}" for name in self.below(crate) for item in self.promises(name))
+
+    def text(self, crate: str) -> str:
+        """The sum of a crate's own text, but for comments and edits."""
+        own = self.files(crate, "src", "specs", "proofs")
+        return sum_of((str(file.relative_to(self.crates)), lines_of(file)) for file in own)
+
+    def changes(self, crate: str) -> dict[str, str]:
+        """What each edit of a crate changes, by its name."""
+        return {edit.name.removesuffix(ASIDE): edit.read_text() for edit in self.edits(crate)}
 
 
 def sum_of(said: Iterable[tuple[str, list[str]]]) -> str:
@@ -193,32 +218,45 @@ def tree_of(commit: str, *, whole: bool = False) -> Iterator[Optional[Tree]]:
         yield Tree(Path(folder))
 
 
-def sums_at(commit: str, crates: Iterable[str]) -> dict[str, str]:
-    """The sums of crates in a commit's tree; none where no such commit is in the history of what is checked out."""
-    if git("merge-base", "--is-ancestor", commit, "HEAD") is None:
-        return {}
-    with tree_of(commit) as tree:
-        return {crate: tree.text_sum(crate) for crate in crates} if tree else {}
+def changed_since(tree: Tree, before: Optional[Tree], crate: str) -> Optional[str]:
+    """What of a crate and of those below it isn't as at a commit, if anything."""
+    if before is None or not (before.crates / crate).is_dir():
+        return "isn't in the history"
+    if before.text(crate) != tree.text(crate):
+        return "has another text"
+    others = [name for name, said in tree.changes(crate).items() if before.changes(crate).get(name) != said]
+    if others:
+        return f"has no such edit: {', '.join(others)}"
+    gone = sorted(before.promises_below(crate) - tree.promises_below(crate))
+    return f"had below it: {gone[0].splitlines()[0]}" + (f" (and {len(gone) - 1} more)" if gone[1:] else "") if gone else None
+
+
+def in_history(commit: str) -> bool:
+    return git("merge-base", "--is-ancestor", commit, "HEAD") is not None
 
 
 def wrong_notes() -> dict[str, str]:
     """The crates whose edits have to be tried again, each with the reason."""
     tree, notes, our_kit = Tree(TOP), noted(), kit()
-    sums = {crate: tree.text_sum(crate) for crate in tree.with_aside()}
-    at = {}
-    if is_whole_repository():
-        at = {commit: sums_at(commit, sums) for commit in {note.commit for note in notes.values()}}
-    wrong = {crate: "no edit of it stands aside" for crate in notes.keys() - sums.keys()}
-    for crate, now in sums.items():
+    crates = tree.with_aside()
+    wrong = {crate: "no edit of it stands aside" for crate in notes.keys() - set(crates)}
+    by_commit: dict[str, list[str]] = {}
+    for crate in crates:
         note = notes.get(crate)
         if note is None:
             wrong[crate] = "its edits weren't all refused yet"
-        elif note.sum != now:
-            wrong[crate] = "its text is another, or a definition or a contract below it is"
+        elif note.sum != tree.text(crate):
+            wrong[crate] = "its text is another"
         elif our_kit is not None and note.kit != our_kit:
             wrong[crate] = f"they were refused by {note.kit}"
-        elif note.commit in at and at[note.commit].get(crate) != now:
-            wrong[crate] = f"the commit {note.commit} isn't in the history, or has another text"
+        else:
+            by_commit.setdefault(note.commit, []).append(crate)
+    for commit, of_it in by_commit.items() if is_whole_repository() else ():
+        with tree_of(commit) as before:
+            for crate in of_it:
+                change = changed_since(tree, before if in_history(commit) else None, crate)
+                if change:
+                    wrong[crate] = f"the commit {commit} {change}"
     return wrong
 
 
@@ -267,20 +305,18 @@ def note_all(crate: str) -> bool:
     """Tries all edits of a crate, and notes its text if all are refused over one that the last commit has."""
     commit, kit_now = git("rev-parse", "--short=12", "HEAD"), kit()
     tree = Tree(TOP)
-    note = Note(tree.text_sum(crate), (commit or b"").decode().strip(), kit_now or "")
-    if sums_at("HEAD", [crate]).get(crate) != note.sum:
-        print(f"{crate}: the last commit hasn't this text; commit it first")
+    note = Note(tree.text(crate), (commit or b"").decode().strip(), kit_now or "")
+    with tree_of("HEAD") as last:
+        change = changed_since(tree, last, crate)
+    if change:
+        print(f"{crate}: the last commit {change}; commit it first")
         return False
-    was = noted().get(crate)
-    if was and (was.sum, was.kit) == (note.sum, note.kit):
-        print(f"{crate}: its edits were all refused over this text")
-    else:
-        names = [edit.name.removesuffix(ASIDE) for edit in tree.edits(crate)]
-        left = let_through(told_of(crate), names)
-        for edit in left:
-            print(f"{crate}: no contract refused {edit}")
-        if left or Tree(TOP).text_sum(crate) != note.sum:
-            return False
+    names = [edit.name.removesuffix(ASIDE) for edit in tree.edits(crate)]
+    left = let_through(told_of(crate), names)
+    for edit in left:
+        print(f"{crate}: no contract refused {edit}")
+    if left or Tree(TOP).text(crate) != note.sum:
+        return False
     write_note(crate, note)
     return True
 
