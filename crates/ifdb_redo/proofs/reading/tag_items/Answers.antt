@@ -1,0 +1,16 @@
+use Rattle.std.proofs.lemmas.Result.{err_from_is_err_and}
+use Rattle.ifdb_redo.specs.Reading.{items_at, number_at}
+use Rattle.ifdb_redo.proofs.Loop.{goes_on, ends, is_done}
+use Rattle.ifdb_redo.proofs.reading.tag_items.Goals as goal
+
+pub returns-in_err-tag : goal.returns-in_err-tag
+returns-in_err-tag c =
+    let p = err_from_is_err_and c.from_residual.result c.from_residual.ensures.1 in
+    rw (p.1, p.2) (ends c.in_err-tag.field-0.0 number_at c.loop.tags.items c.args.count c.loop.counter c.loop.rest.now (items_at number_at c.args.count c.args.bytes.now) c.loop-test.true c.in_err-tag.ensures c.loop.invariant)
+
+pub loop-preserved : goal.loop-preserved
+loop-preserved c =
+    rw c.in_ok-push.ensures.items (goes_on number_at c.loop.tags.items c.args.count c.loop.counter c.loop.rest.now c.in_ok-tag.tag c.in_ok-tag.after.now (items_at number_at c.args.count c.args.bytes.now) c.loop-test.true c.in_ok-tag.ensures c.loop.invariant)
+
+pub returns : goal.returns
+returns c = is_done number_at c.loop.tags.items c.args.count c.loop.counter c.loop.rest.now (items_at number_at c.args.count c.args.bytes.now) c.loop-test.false c.loop.invariant

@@ -1,0 +1,7 @@
+use Rattle.std.proofs.Common.{◌≡◌, ◌-◌}
+use Rattle.ifdb_redo.specs.Reading.{items_at, number_at}
+use Rattle.ifdb_redo.proofs.Loop.{with_front}
+use Rattle.ifdb_redo.proofs.reading.tag_items.Given as goal
+
+abbrev pub invariant-loop : goal.invariant-loop
+invariant-loop l = with_front l.tags.items (items_at number_at (l.count - l.counter) l.rest) ≡ items_at number_at l.count l.bytes

@@ -1,0 +1,5 @@
+pub mod Spelling
+pub mod Reading
+pub mod Spelled
+pub mod Laws
+pub mod Checksum
