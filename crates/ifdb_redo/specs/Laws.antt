@@ -1,4 +1,3 @@
--- decides: that what is recorded comes back, and that no byte of it changes unseen
 -- What is true of every record.
 use Rattle.std.specs.Prelude.{◌≡◌, ◌≢◌, ◌<◌, ◌^◌, ℕ, List, ◌∷◌, ◌++◌, Some, None, All}
 use Rattle.ifdb_redo.specs.declared.record.RedoRecord.{RedoRecord}

@@ -1,4 +1,3 @@
--- decides: what is asked of parents before a recorded commit is installed
 -- What a COMMIT asks of written rows and of children is just that each row's parents stand after the writes.
 use Rattle.std.specs.Prelude.{◌≡◌, ◌&&◌, Bool, true, not, List}
 use Rattle.ifdb_row.specs.declared.row.Row.{Row}
