@@ -113,6 +113,9 @@ def words_of(path: pathlib.Path, folder: pathlib.Path) -> List[Word]:
 def tried(word: Word, name: str, shim: pathlib.Path) -> Tuple[int, int]:
     """Refuses each request of a word in turn: how many there were, and how many faults were found."""
     count, told, before, faults = int(word.call(shim, 0).said), 0, 0, 0
+    if count == 0:
+        print(f"{word.name} {name}: no request was seen: does the program take its memory from the C library?")
+        return 0, 1
     for number in range(1, count + 1):
         status, is_told, fault = word.fault_at(shim, number)
         before += status == NO_MEMORY
