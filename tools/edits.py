@@ -28,6 +28,7 @@ import subprocess
 import sys
 import tarfile
 import tempfile
+from collections import Counter
 from collections.abc import Iterable, Iterator
 from contextlib import contextmanager
 from pathlib import Path
@@ -48,6 +49,10 @@ CLAUSE = re.compile(r"(ensures|requires)\b")
 GHOST = re.compile(r"(pub(\(\w+\))? )?ghost\b")
 DECLARATION = re.compile(r"(pub(\(\w+\))? )?(struct|enum|type|static|const|trait)\b(?! fn\b)")
 SIGNATURE = re.compile(r"(pub(\(\w+\))? )?(const )?fn\b")
+# What a file takes from another, the names that an item has, and how an operator stands among those.
+IMPORT = re.compile(r"\buse Rattle\.([\w.]+?)\.\{([^}]*)\}")
+NAME = re.compile(r"[^\s(){},;.\[\]|λ→]+")
+OPERAND = "◌"
 # How a definition begins, and a field of one.
 DEFINITION = re.compile(r"\s*((abbrev|unfoldable|pub|record|data|infix\w*) |[^\s:(){}]+ +: )")
 FIELD = re.compile(r"\s+pub (?!record|data)\S+ +:")
@@ -63,6 +68,25 @@ def lines_of(file: Path) -> list[str]:
 def depth_of(line: str) -> int:
     """How many brackets a line opens and doesn't close."""
     return sum(map(line.count, "({[")) - sum(map(line.count, ")}]"))
+
+
+def imports(file: Path) -> dict[str, set[str]]:
+    """What the names of a file stand for that it takes from others."""
+    named: dict[str, set[str]] = {}
+    for module, names in IMPORT.findall(file.read_text()):
+        for item in str(names).split(","):
+            own, _, other = item.strip().partition(" as ")
+            words = [part for part in (other or own).split(OPERAND) if part]
+            for word in words:
+                named.setdefault(word, set()).add(f"{module}.{own}")
+    return named
+
+
+def resolved(file: Path, items: list[str]) -> list[str]:
+    """Items of a file, each with what it cites of others. So an item is another where a name in it comes to stand for something else."""
+    named = imports(file)
+    cited = ((item, sorted(set(NAME.findall(item)) & named.keys())) for item in items)
+    return ["\n".join([item, *(f"{word}: {' '.join(sorted(named[word]))}" for word in words)]) for item, words in cited]
 
 
 def contracts(file: Path) -> list[str]:
@@ -89,7 +113,7 @@ def contracts(file: Path) -> list[str]:
         if depth == 0 and head.endswith(("{", ";", "}")) and not CLAUSE.match(head):
             is_open = SIGNATURE.match(items[-1][0]) is not None and head.endswith("}")
     said = [item for item in items if not SIGNATURE.match(item[0]) or any(map(CLAUSE.match, item))]
-    return [re.sub(r"^pub(\(\w+\))? ", "", "\n".join(item)) for item in said]
+    return resolved(file, [re.sub(r"^pub(\(\w+\))? ", "", "\n".join(item)) for item in said])
 
 
 def definitions(file: Path) -> list[str]:
@@ -101,7 +125,7 @@ def definitions(file: Path) -> list[str]:
         if not items or line.startswith("use ") or DEFINITION.match(line) and not FIELD.match(line):
             items.append([])
         items[-1].append(line.strip())
-    return ["\n".join(item) for item in items]
+    return resolved(file, ["\n".join(item) for item in items])
 
 
 class Tree:
@@ -134,17 +158,17 @@ class Tree:
         return sorted(file for part in parts for file in (top / part).rglob("*") if file.suffix in SOURCES)
 
     @functools.cache
-    def promises(self, crate: str) -> frozenset[str]:
-        """A crate's definitions and contracts, but for those of its tests."""
+    def promises(self, crate: str) -> Counter[str]:
+        """A crate's definitions and contracts, but for those of its tests; how often each stands, since two may read alike."""
         sources = [file for file in self.files(crate, "src") if "tests" not in (file.stem, file.parent.name)]
         said = [item for file in sources for item in contracts(file)]
         said += [item for file in self.files(crate, "specs") for item in definitions(file)]
-        return frozenset(said)
+        return Counter(said)
 
     @functools.cache
-    def promises_below(self, crate: str) -> frozenset[str]:
+    def promises_below(self, crate: str) -> Counter[str]:
         """Those of all crates that a crate stands on, each behind the name of its crate."""
-        return frozenset(f"{name}: {item}" for name in self.below(crate) for item in self.promises(name))
+        return Counter({f"{name}: {item}": count for name in self.below(crate) for item, count in self.promises(name).items()})
 
     def text(self, crate: str) -> str:
         """The sum of a crate's own text, but for comments and edits."""
