@@ -1,7 +1,7 @@
 // The one call that does all that the program does.
 ghost use Rattle.std.specs.Prelude.{◌≡◌, ◌≤◌};
 ghost use Rattle.ifdb_closure.specs.Bounds.{CallsLeaveSessions, CallsStayWithin};
-ghost use Rattle.ifdb_closure.specs.ScriptBounds.{ScriptCallsCommitNothing};
+ghost use Rattle.ifdb_closure.specs.ScriptBounds.{ScriptCallsAreTheOwners, ScriptCallsCommitNothing};
 ghost use Rattle.ifdb_trace.specs.Laws.{ProjectionIsHeard};
 ghost use Rattle.ifdb_words.specs.First.{behind_first};
 ghost use Rattle.ifdb.specs.Base.{DoesBase};
@@ -71,14 +71,16 @@ pub fn top_more<T: AllocGlobal + Threads + Wait + Sync, R: Source, W: Sink, S: S
         input.old input.new output.old output.new result }
     ensures project { IsProject words.now → DoesProject R.Source W.Sink (behind_first words.now)
         input.old input.new output.old output.new result }
-    ensures heard { ProjectionIsHeard }
     ensures keep { IsKeep words.now → DoesKeep R.Source W.Sink H.Shelf H.Disk.Disk
         (behind_first words.now)
         input.old input.new output.old output.new shelf.old shelf.new result }
-
     ensures closures { IsClosures words.now → DoesClosures R.Source W.Sink
         (behind_first words.now) input.old input.new output.old output.new result }
+
+    // Laws of the definitions by which `project` and `closures` say what they did.
+    ensures heard { ProjectionIsHeard }
     ensures calls_within { CallsStayWithin }
+    ensures calls_owned { ScriptCallsAreTheOwners }
     ensures calls_apart { CallsLeaveSessions }
     ensures calls_refused { ScriptCallsCommitNothing }
 

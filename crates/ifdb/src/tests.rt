@@ -1,6 +1,8 @@
 // What no clause says: worked rows, the ends of a script, and that the calls succeed.
 ghost use Rattle.std.specs.Prelude.{◌≡◌, ◌<◌};
 
+mod ceilings;
+mod closures;
 mod ends;
 mod faults;
 mod generate;

@@ -4,7 +4,6 @@ use Rattle.std.specs.Prelude.{not, nat_lt, nat_le, OnOk, IfErr}
 use Rattle.std.proofs.lemmas.Bool.{false≢true, ltb-true, lt-ltb, leb-true, le-leb}
 use Rattle.std.proofs.lemmas.Bool.Decides.{nat_tests}
 use Rattle.std.proofs.lemmas.List.{append_assoc, append-nil, map-append, length-append, take-append-drop, map_more}
-use Rattle.std.proofs.Math.Seq.{take-append_seam}
 use Rattle.ifdb_label.specs.Label.{flows}
 use Rattle.ifdb_wire.specs.declared.fault.Fault.{Fault}
 use Rattle.ifdb_wire.specs.declared.fault.Fault.TheVariants as fault
@@ -20,10 +19,10 @@ use Rattle.ifdb_db.specs.Reading.{read_line}
 use Rattle.ifdb_db.specs.Room.{Hall, StandsFor, was_opened, client_in}
 use Rattle.ifdb_db.specs.RoomSteps.{GoesBy}
 use Rattle.ifdb_db.proofs.RoomLaws.{same_session, as_many}
-use Rattle.ifdb_closure.specs.Closures.{commit_line, is_refusal, is_within, call_goes, call_on, Called}
-use Rattle.ifdb_closure.specs.Lacking.{enough, lacks_at, memory_fault, Cut, cut_goes, cut_on}
+use Rattle.ifdb_closure.specs.Closures.{commit_line, is_refusal, memory_fault, is_within, call_goes, call_on, Called}
+use Rattle.ifdb_closure.specs.Lacking.{enough, lacks_at, lacks_only}
 use Rattle.ifdb_closure.specs.Speaking.{speech}
-use Rattle.ifdb_closure.specs.Asking.{reply_at, after_line, after_lines, label_of, all_pass, Passed, Stop, lacked, was_refused, outside, Stopped, asked_by, told_by, Says, IsLackTold, AskedAll, IsUncommitted, CallRan, IsCall}
+use Rattle.ifdb_closure.specs.Asking.{reply_at, after_line, after_lines, label_of, all_pass, Passed, Stop, lacked, was_refused, outside, Stopped, called_on, Says, IsLackTold, AskedAll, IsUncommitted, CallRan, IsCall}
 use Rattle.ifdb_closure.proofs.Thinning.{one_other, open_old}
 use Rattle.ifdb_closure.proofs.Twins.{asks_count}
 
@@ -71,8 +70,8 @@ last_append h st last (x ∷ xs) line = last_append h (after_line h st x) (reply
 module _ (label : List ℕ) (h : ℕ) where
   -- are asked, and what follows them goes on
   on_front : (st : State) (last : Reply) (front more : List (List ℕ)) → all_pass label h st front ≡ true
-      → let a = call_on speech label h (after_lines h st front) (last_told h st last front) more in
-      call_on speech label h st last (front ++ more) ≡ record { asked = front ++ a.asked; told = a.told }
+      → let a = call_on speech label h (after_lines h st front) (last_told h st last front) [] more in
+      call_on speech label h st last [] (front ++ more) ≡ record { asked = front ++ a.asked; lacked = a.lacked; told = a.told }
   on_front st last [] more p = refl
   on_front st last (x ∷ front) more p =
       let later = after_line h st x in
@@ -81,56 +80,56 @@ module _ (label : List ℕ) (h : ℕ) where
       let rest = on_front later r front more parts.2 in
       λ i. call_goes speech (parts.0 i) (parts.1 i) x r (rest i)
 
-  -- and so where nothing follows for want of memory
-  cut_front : (st : State) (front : List (List ℕ)) → all_pass label h st front ≡ true
-      → cut_on speech label h st front ≡ record { asked = front; lacked = true; told = memory_fault }
-  cut_front st [] p = refl
-  cut_front st (x ∷ front) p =
+  -- and where the line behind them has no memory, that is all
+  cut_front : (st : State) (last : Reply) (front more : List (List ℕ)) → all_pass label h st front ≡ true
+      → call_on speech label h st last (lacks_only (length front)) (front ++ more) ≡ record { asked = front; lacked = true; told = memory_fault }
+  cut_front st last [] [] p = refl
+  cut_front st last [] (line ∷ more) p = refl
+  cut_front st last (x ∷ front) more p =
       let later = after_line h st x in
       let r = reply_at h st x in
       let parts = passes_so (is_refusal r) (is_within label h later) (all_pass label h later front) p in
-      let rest = cut_front later front parts.2 in
-      λ i. cut_goes speech (parts.0 i) (parts.1 i) x r (rest i)
+      let rest = cut_front later r front more parts.2 in
+      λ i. call_goes speech (parts.0 i) (parts.1 i) x r (rest i)
 
   -- a line that is refused, or that leaves the label outside, ends it
   on_refused : (st : State) (last : Reply) (line : List ℕ) (rest : List (List ℕ)) (f : Fault) → reply_at h st line ≡ reply.Refused f
-      → call_on speech label h st last (line ∷ rest) ≡ record { asked = line ∷ []; told = reply.Refused f }
+      → call_on speech label h st last [] (line ∷ rest) ≡ record { asked = line ∷ []; lacked = false; told = reply.Refused f }
   on_refused st last line rest f e =
       let later = after_line h st line in
-      λ i. call_goes speech (is_refusal (e i)) (is_within label h later) line (e i) (call_on speech label h later (reply_at h st line) rest)
+      λ i. call_goes speech (is_refusal (e i)) (is_within label h later) line (e i) (call_on speech label h later (reply_at h st line) [] rest)
 
   on_outside : (st : State) (last : Reply) (line : List ℕ) (rest : List (List ℕ)) → is_refusal (reply_at h st line) ≡ false
       → is_within label h (after_line h st line) ≡ false
-      → call_on speech label h st last (line ∷ rest) ≡ record { asked = line ∷ []; told = reply.Refused fault.ClosureLabel }
+      → call_on speech label h st last [] (line ∷ rest) ≡ record { asked = line ∷ []; lacked = false; told = reply.Refused fault.ClosureLabel }
   on_outside st last line rest n o =
       let later = after_line h st line in
-      λ i. call_goes speech (n i) (o i) line (reply_at h st line) (call_on speech label h later (reply_at h st line) rest)
+      λ i. call_goes speech (n i) (o i) line (reply_at h st line) (call_on speech label h later (reply_at h st line) [] rest)
 
 -- ---- how asking all ends
 
 module _ {T : Type 0} (new : Hall) (label : List ℕ) (h : ℕ) (st : State) (shown : ℕ) (text : List ℕ) where
   -- none has memory behind a front that passed
-  ended_lacking : (lines front more : List (List ℕ)) → lines ++ commit_line ∷ [] ≡ front ++ more → all_pass label h st front ≡ true → StandsFor new (after_lines h st front)
+  ended_lacking : (lines front more : List (List ℕ)) → lines ≡ front ++ more → all_pass label h st front ≡ true → StandsFor new (after_lines h st front)
       → AskedAll {T = T} new label h st lines shown text (Err fault.OutOfMemory)
   ended_lacking lines front more all p stands =
-      let front_is : take (length front) (lines ++ commit_line ∷ []) ≡ front = ap (take (length front)) all ∙ take-append_seam front more in
-      let cut = ap (cut_on speech label h st) front_is ∙ cut_front label h st front p in
+      let cut = ap (call_on speech label h st reply.Opened (lacks_only (length front))) all ∙ cut_front label h st reply.Opened front more p in
       record {
         lack = Some (length front);
-        stands = subst (λ (c : Cut). StandsFor new (after_lines h st c.asked)) (sym cut) stands;
-        says = ap (λ (c : Cut). c.told) cut;
-        exact = ap (λ (c : Cut). c.told) cut;
+        stands = subst (λ (c : Called). StandsFor new (after_lines h st c.asked)) (sym cut) stands;
+        says = ap (λ (c : Called). c.told) cut;
+        exact = ap (λ (c : Called). c.told) cut;
       }
 
   -- a line ended it behind a front that passed
   ended_by : (lines front : List (List ℕ)) (line : List ℕ) (rest : List (List ℕ)) (f : Fault) → lines ≡ front ++ line ∷ rest → all_pass label h st front ≡ true
       → StandsFor new (after_line h (after_lines h st front) line)
-      → call_on speech label h (after_lines h st front) (last_told h st reply.Opened front) (line ∷ rest) ≡ record { asked = line ∷ []; told = reply.Refused f }
+      → call_on speech label h (after_lines h st front) (last_told h st reply.Opened front) [] (line ∷ rest) ≡ record { asked = line ∷ []; lacked = false; told = reply.Refused f }
       → AskedAll {T = T} new label h st lines shown text (Err f)
   ended_by lines front line rest f all p stands e =
-      let whole : call_on speech label h st reply.Opened lines ≡ record { asked = front ++ line ∷ []; told = reply.Refused f } =
-      ap (call_on speech label h st reply.Opened) all ∙ on_front label h st reply.Opened front (line ∷ rest) p
-      ∙ ap (λ (a : Called). record { asked = front ++ a.asked; told = a.told }) e in
+      let whole : call_on speech label h st reply.Opened [] lines ≡ record { asked = front ++ line ∷ []; lacked = false; told = reply.Refused f } =
+      ap (call_on speech label h st reply.Opened []) all ∙ on_front label h st reply.Opened front (line ∷ rest) p
+      ∙ ap (λ (a : Called). record { asked = front ++ a.asked; lacked = a.lacked; told = a.told }) e in
       record {
         lack = None;
         stands = subst (λ (a : Called). StandsFor new (after_lines h st a.asked)) (sym whole) (subst (StandsFor new) (sym (after_append h st front (line ∷ []))) stands);
@@ -141,7 +140,7 @@ module _ {T : Type 0} (new : Hall) (label : List ℕ) (h : ℕ) (st : State) (sh
   ended_stop : (lines front : List (List ℕ)) (line : List ℕ) (rest : List (List ℕ)) (f : Fault) → lines ≡ front ++ line ∷ rest → all_pass label h st front ≡ true
       → Stop new label h (after_lines h st front) line f → AskedAll {T = T} new label h st lines shown text (Err f)
   ended_stop lines front line rest f all p (lacked stands) =
-      ended_lacking lines front (line ∷ (rest ++ commit_line ∷ [])) (ap (λ l. l ++ commit_line ∷ []) all ∙ append_assoc front (line ∷ rest) (commit_line ∷ [])) p stands
+      ended_lacking lines front (line ∷ rest) all p stands
   ended_stop lines front line rest f all p (was_refused g stands e) =
       ended_by lines front line rest f all p stands (on_refused label h (after_lines h st front) (last_told h st reply.Opened front) line rest f e)
   ended_stop lines front line rest f all p (outside stands n o) =
@@ -161,12 +160,12 @@ module _ {T : Type 0} (new : Hall) (label : List ℕ) (h : ℕ) (st : State) (sh
   pub ended_commit : (lines : List (List ℕ)) (f : Fault) → all_pass label h st lines ≡ true → IsUncommitted new h (after_lines h st lines) f
       → AskedAll {T = T} new label h st lines shown text (Err f)
   ended_commit lines f p (inl (stands, memory)) =
-      subst (λ g. AskedAll {T = T} new label h st lines shown text (Err g)) (sym memory) (ended_lacking lines lines (commit_line ∷ []) refl p stands)
+      subst (λ g. AskedAll {T = T} new label h st lines shown text (Err g)) (sym memory) (ended_lacking lines lines [] (sym (append-nil lines)) p stands)
   ended_commit lines f p (inr (stands, e)) =
       let last = last_told h st reply.Opened lines in
-      let whole : call_on speech label h st reply.Opened lines ≡ record { asked = lines ++ commit_line ∷ []; told = reply.Refused f } =
-      ap (call_on speech label h st reply.Opened) (sym (append-nil lines)) ∙ on_front label h st reply.Opened lines [] p
-      ∙ (λ i. record { asked = lines ++ commit_line ∷ []; told = cond (is_refusal (e i)) (e i) last }) in
+      let whole : call_on speech label h st reply.Opened [] lines ≡ record { asked = lines ++ commit_line ∷ []; lacked = false; told = reply.Refused f } =
+      ap (call_on speech label h st reply.Opened []) (sym (append-nil lines)) ∙ on_front label h st reply.Opened lines [] p
+      ∙ (λ i. record { asked = lines ++ commit_line ∷ []; lacked = false; told = cond (is_refusal (e i)) (e i) last }) in
       record {
         lack = None;
         stands = subst (λ (a : Called). StandsFor new (after_lines h st a.asked)) (sym whole) (subst (StandsFor new) (sym (after_append h st lines (commit_line ∷ []))) stands);
@@ -182,10 +181,10 @@ module _ {T : Type 0} (new : Hall) (label : List ℕ) (h : ℕ) (st : State) (sh
   ended_well end front line p told stands good =
       let lines = front ++ line ∷ [] in
       let last = last_told h st reply.Opened lines in
-      let whole : call_on speech label h st reply.Opened lines ≡ record { asked = lines ++ commit_line ∷ []; told = reply_at h (after_lines h st front) line } =
-      ap (call_on speech label h st reply.Opened) (sym (append-nil lines)) ∙ on_front label h st reply.Opened lines [] p
-      ∙ (λ i. record { asked = lines ++ commit_line ∷ []; told = cond (good i) (reply_at h (after_lines h st lines) commit_line) last })
-      ∙ (λ i. record { asked = lines ++ commit_line ∷ []; told = last_append h st reply.Opened front line i }) in
+      let whole : call_on speech label h st reply.Opened [] lines ≡ record { asked = lines ++ commit_line ∷ []; lacked = false; told = reply_at h (after_lines h st front) line } =
+      ap (call_on speech label h st reply.Opened []) (sym (append-nil lines)) ∙ on_front label h st reply.Opened lines [] p
+      ∙ (λ i. record { asked = lines ++ commit_line ∷ []; lacked = false; told = cond (good i) (reply_at h (after_lines h st lines) commit_line) last })
+      ∙ (λ i. record { asked = lines ++ commit_line ∷ []; lacked = false; told = last_append h st reply.Opened front line i }) in
       record {
         lack = None;
         stands = subst (λ (a : Called). StandsFor new (after_lines h st a.asked)) (sym whole) (subst (StandsFor new) (sym (after_append h st lines (commit_line ∷ []))) stands);
@@ -258,16 +257,16 @@ call_ran asked new label st lines shown text end goes a = by a.lack a.stands a.s
   later : State
   later = next read_line st opens
 
-  by : (o : Option ℕ) → StandsFor asked (after_lines h later (asked_by label h later lines o)) → Says shown text end (told_by label h later lines o)
-      → IsLackTold o (told_by label h later lines o) → CallRan new label st lines shown text end
+  by : (o : Option ℕ) → StandsFor asked (after_lines h later (called_on label h later lines o).asked) → Says shown text end (called_on label h later lines o).told
+      → IsLackTold o (called_on label h later lines o).told → CallRan new label st lines shown text end
   by None stands says exact = record {
     memory = enough;
-    stands = subst (StandsFor new) (sym (left h later (asked_by label h later lines None) false)) (goes (after_lines h later (asked_by label h later lines None)) stands);
+    stands = subst (StandsFor new) (sym (left h later (called_on label h later lines None).asked false)) (goes (after_lines h later (called_on label h later lines None).asked) stands);
     says = says;
     exact = tt;
   }
   by (Some i) stands says exact =
-      let c = cut_on speech label h later (take i (lines ++ commit_line ∷ [])) in
+      let c = called_on label h later lines (Some i) in
       record {
         memory = lacks_at (suc i);
         stands = subst (StandsFor new) (sym (left h later c.asked c.lacked)) (goes (after_lines h later c.asked) stands);

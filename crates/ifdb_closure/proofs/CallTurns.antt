@@ -1,5 +1,5 @@
 -- What stands for a world goes on with it by a CALL.
-use Rattle.std.proofs.Common.{◌≡◌, ℕ, zero, suc, ◌+◌, true, false, List, [], ◌∷◌, ◌++◌, length, map, take, refl, sym, ap, subst, ◌∙◌, arith, cond, Some, None, Ok, Err, Result}
+use Rattle.std.proofs.Common.{◌≡◌, ℕ, zero, suc, ◌+◌, true, false, List, [], ◌∷◌, ◌++◌, length, map, refl, sym, ap, subst, ◌∙◌, arith, cond, Some, None, Ok, Err, Result}
 use Rattle.std.specs.Prelude.{is_some}
 use Rattle.std.proofs.lemmas.List.{length-append}
 use Rattle.ifdb_wire.specs.declared.fault.Fault.{Fault}
@@ -15,12 +15,12 @@ use Rattle.ifdb_db.specs.Room.{Hall, StandsFor}
 use Rattle.ifdb_closure.specs.declared.stage.Seat.{Seat}
 use Rattle.ifdb_closure.specs.declared.stage.Stage.{Stage}
 use Rattle.ifdb_closure.specs.Numbers.{are_numbers, number_at}
-use Rattle.ifdb_closure.specs.Closures.{Closure, calls, commit_line, call_lines, asked_of, World, seated, Turn, call_fault, session_fault, calls_by, closure_named, or_none, asks_form, turn, after_turn}
-use Rattle.ifdb_closure.specs.Lacking.{Memory, enough, lacks, lacks_at, cut_on, call_cut, lacking_at, lacking_line, turn_with}
+use Rattle.ifdb_closure.specs.Closures.{Closure, calls, call_lines, asked_of, World, seated, Turn, call_fault, session_fault, calls_by, closure_named, or_none, asks_form, turn, after_turn}
+use Rattle.ifdb_closure.specs.Lacking.{Memory, enough, lacks, lacks_at, call_cut, lacking_at, lacking_line, turn_with}
 use Rattle.ifdb_closure.specs.Forms.{closure_form}
 use Rattle.ifdb_closure.specs.Speaking.{speech}
 use Rattle.ifdb_closure.specs.Standing.{seat_at, Stands, IsFor, IsToldAt, Turned}
-use Rattle.ifdb_closure.specs.Asking.{asked_by, steps_with, told_with_memory, CallRan, IsMemoryTold, Says}
+use Rattle.ifdb_closure.specs.Asking.{called_on, steps_with, told_with_memory, CallRan, IsMemoryTold, Says}
 use Rattle.ifdb_closure.specs.Turning.{text_with}
 use Rattle.ifdb_closure.proofs.Thinning.{thin_session, numbers_more}
 use Rattle.ifdb_closure.proofs.Twins.{asks_count, leaves_count}
@@ -67,9 +67,25 @@ calls_same w n line name lines form may are memory = subst goal (sym are) (by me
         cut (suc i) = refl
 
 -- the sessions that were there are as they were behind a call
-record StillSeated (w : World) (st : State) : Type 0 where
-  rise : are_numbers 0 (length st.sessions) w.seats ≡ true
-  same : map (session_of st) w.seats ≡ map (session_of w.state) w.seats
+pub record StillSeated (w : World) (st : State) : Type 0 where
+  pub rise : are_numbers 0 (length st.sessions) w.seats ≡ true
+  pub same : map (session_of st) w.seats ≡ map (session_of w.state) w.seats
+
+asks_number : (h : ℕ) (st : State) (asked : List (List ℕ)) → length (run read_line st (asked_of h asked)).sessions ≡ length st.sessions
+asks_number h st [] = leaves_count read_line st h
+asks_number h st (x ∷ asked) = asks_number h (next read_line st (asks h x)) asked ∙ asks_count read_line st h x
+
+pub called_seats : (w : World) → are_numbers 0 (length w.state.sessions) w.seats ≡ true → (asked : List (List ℕ))
+    → StillSeated w (run read_line (next read_line w.state opens) (asked_of (length w.state.sessions + 1) asked))
+called_seats w rise asked =
+    let count = length w.state.sessions in
+    let later = next read_line w.state opens in
+    let more = asks_number (count + 1) later asked in
+    let one = length-append w.state.sessions (new_session ∷ []) in
+    record {
+      rise = numbers_more 0 count (length (run read_line later (asked_of (count + 1) asked)).sessions) w.seats rise (omega (arith, more, one));
+      same = (grown_call read_line w.state w.seats count (count + 1) rise (omega arith) later asked (opened_grown read_line w.state w.seats rise)).seats;
+    }
 
 call_seats : (w : World) → are_numbers 0 (length w.state.sessions) w.seats ≡ true → (label : List ℕ) (lines : List (List ℕ)) (memory : Memory)
     → StillSeated w (run read_line w.state (steps_with label w.state lines memory))
@@ -83,26 +99,13 @@ call_seats w rise label lines memory = by memory where
   as_before : StillSeated w w.state
   as_before = record { rise = rise; same = refl }
 
-  asks_number : (st : State) (asked : List (List ℕ)) → length (run read_line st (asked_of (count + 1) asked)).sessions ≡ length st.sessions
-  asks_number st [] = leaves_count read_line st (count + 1)
-  asks_number st (x ∷ asked) = asks_number (next read_line st (asks (count + 1) x)) asked ∙ asks_count read_line st (count + 1) x
-
-  called_so : (asked : List (List ℕ)) → StillSeated w (run read_line later (asked_of (count + 1) asked))
-  called_so asked = record {
-    rise =
-        let more = asks_number later asked in
-        let one = length-append w.state.sessions (new_session ∷ []) in
-        numbers_more 0 count (length (run read_line later (asked_of (count + 1) asked)).sessions) w.seats rise (omega (arith, more, one));
-    same = (grown_call read_line w.state w.seats count (count + 1) rise (omega arith) later asked (opened_grown read_line w.state w.seats rise)).seats;
-  }
-
   by : (m : Memory) → StillSeated w (run read_line w.state (steps_with label w.state lines m))
-  by enough = called_so (asked_by label (count + 1) later lines None)
+  by enough = called_seats w rise (called_on label (count + 1) later lines None).asked
   by lacks = as_before
   by (lacks_at zero) = as_before
   by (lacks_at (suc i)) =
-      let c = cut_on speech label (count + 1) later (take i (lines ++ commit_line ∷ [])) in
-      subst (StillSeated w) (left (count + 1) later c.asked false ∙ sym (left (count + 1) later c.asked c.lacked)) (called_so c.asked)
+      let c = called_on label (count + 1) later lines (Some i) in
+      subst (StillSeated w) (left (count + 1) later c.asked false ∙ sym (left (count + 1) later c.asked c.lacked)) (called_seats w rise c.asked)
 
 call_stands : (old new : Hall) (seats : List Seat) (closures : List Closure) (w : World) (s : Stands old seats closures w) (label : List ℕ) (lines : List (List ℕ)) (memory : Memory) (n : ℕ) (told : List Told)
     → StandsFor new (run read_line w.state (steps_with label w.state lines memory))

@@ -3,7 +3,9 @@ pub mod Twins
 pub mod Names
 pub mod Calls
 pub mod Worlds
+pub mod Cuts
 pub mod Bounds
+pub mod Owners
 pub mod Refused
 pub mod ReadingBack
 pub mod Examples
@@ -16,4 +18,6 @@ pub mod Progress
 pub mod RanLaws
 pub mod Named
 pub mod Made
+pub mod FormParts
+pub mod Spared
 pub mod ScriptBounds

@@ -28,11 +28,12 @@ use Rattle.ifdb_closure.specs.Ran.{AreTold, IsTold, IsToldFirst, IsToldOfLines, 
 -- these steps led to a world and were told this, whatever follows them
 pub record Heard (done : List Step) (w : World) (told : List Told) : Type 0 where
   pub memory : List Memory
+  pub each : length memory ≡ length done
   pub on : (more : List Memory) (steps : List Step) → told_with speech start (memory ++ more) (done ++ steps) ≡ told ++ told_with speech w more steps
   pub exact : (more : List Memory) (steps : List Step) → AreTold w more steps → AreTold start (memory ++ more) (done ++ steps)
 
 heard_none : Heard [] start []
-heard_none = record { memory = []; on = λ more steps. refl; exact = λ more steps h. h }
+heard_none = record { memory = []; each = refl; on = λ more steps. refl; exact = λ more steps h. h }
 
 heard_on : (done : List Step) (w : World) (told : List Told) → Heard done w told → (m : Memory) (step : Step) → IsToldAt m (turn_with speech w m step).told
     → let t = turn_with speech w m step in Heard (done ++ step ∷ []) (after_turn speech w t) (told ++ t.told)
@@ -40,6 +41,7 @@ heard_on done w told h m step at =
     let t = turn_with speech w m step in
     record {
       memory = h.memory ++ m ∷ [];
+      each = omega (arith, h.each, length-append h.memory (m ∷ []), length-append done (step ∷ []));
       on = λ more steps.
           (λ i. told_with speech start (append_assoc h.memory (m ∷ []) more i) (append_assoc done (step ∷ []) steps i))
           ∙ h.on (m ∷ more) (step ∷ steps)
@@ -262,6 +264,7 @@ reached_long l0 l1 l2 w0 w1 w2 mid last old new text r g long_text skips does wr
 told_all : (input : List ℕ) (done : List Step) (w : World) (told : List Told) → Heard done w told → steps_of input ≡ done → IsTold input told
 told_all input done w told h e = record {
   memory = h.memory ++ [];
+  each = ap length (append-nil h.memory) ∙ h.each ∙ ap length (sym e);
   all = heard_all done w told h ∙ ap (told_with speech start (h.memory ++ [])) (sym e);
   exact = subst (AreTold start (h.memory ++ [])) (append-nil done ∙ sym e) (h.exact [] [] tt);
 }

@@ -42,8 +42,9 @@ use Rattle.ifdb_model.specs.Run.{State, opening, session_of, Step, opens, asks, 
 use Rattle.ifdb_model.proofs.LogLaws.{public_from-append}
 use Rattle.ifdb_laws.proofs.Shapes.{Shape, stayed, greeted_as, relabelled_to, begun, ended, published, joined, wrote, done, shape}
 use Rattle.ifdb_db.specs.Reading.{read_line, request_or_fault}
-use Rattle.ifdb_closure.specs.Closures.{Greeting, nobody, hello_line, names_of, label_line}
-use Rattle.ifdb_closure.specs.Laws.{IsHeard, is_hello, ReadsBack}
+use Rattle.ifdb_closure.specs.Closures.{nobody, hello_line, names_of, label_line}
+use Rattle.ifdb_closure.specs.Bounds.{ReadsHellosBack}
+use Rattle.ifdb_closure.specs.Laws.{is_hello, ReadsBack}
 
 -- ---- names that a token says
 
@@ -221,18 +222,18 @@ nobody_unread : read_line (hello_line nobody) ≡ Err (fault.Syntax 7)
 unfolding parsed canonical_text reserved token_parser name_parser text_parser hello_parser authority_parser session_parser request_parser line_parser whole utf8_valid_len is_utf8 chars encode
 nobody_unread = refl
 
-hello_back : (g : Greeting) → IsHeard read_line g → (r : Request) → read_line (hello_line g) ≡ Ok r → is_hello r ≡ true
-hello_back g (inl h) r e =
+pub hellos_read_back : ReadsHellosBack read_line
+hellos_read_back g (inl h) r e =
     let back = parsed_reads_back h.0 (request.Hello g.name g.key) (parsed_so h.0 (request.Hello g.name g.key) h.1) in
     let too = parsed_so (hello_line g) r e in
     let same : r ≡ request.Hello g.name g.key = cc in
-    ap is_hello same
-hello_back g (inr n) r e =
+    same
+hellos_read_back g (inr n) r e =
     let no : Err (fault.Syntax 7) ≡ Ok r = sym nobody_unread ∙ (ap (λ z. read_line (hello_line z)) (sym n) ∙ e) in absurd (cc)
 
 pub lines_read_back : ReadsBack read_line
 lines_read_back = record {
-  hello = hello_back;
+  hello = λ g heard r e. ap is_hello (hellos_read_back g heard r e);
   label = λ steps label made r e.
       let log = (run read_line opening steps).log in
       let names = names_of (public_of log) label in

@@ -21,8 +21,9 @@ use Rattle.ifdb_model.specs.Session.{Txn, Session, new_session, closed, in_txn, 
 use Rattle.ifdb_model.specs.Writes.{Written, writes_of, is_delete}
 use Rattle.ifdb_model.specs.Step.{Reader, Outcome, tells, refuses, label_refusal, relabelled_as, set_label, land_in, land, write_bound, commit_fault, ended, Form, relabels, looks, writes, form_of, ask_as, ask_new, ask_by, ask_read, ask}
 use Rattle.ifdb_model.specs.Run.{State, opening, session_of, opens, asks, leaves, with_outcome, with_session, next, outcome_of, run}
-use Rattle.ifdb_closure.specs.Closures.{Speech, Called, is_refusal, is_within, call_goes, call_on, asked_of, begin_line, commit_line, hello_line, label_line}
+use Rattle.ifdb_closure.specs.Closures.{Speech, Called, is_refusal, is_within, call_lacks, call_ends, call_goes, lacks_first, flags_behind, call_on, called_with, asked_of, begin_line, commit_line, hello_line, label_line}
 use Rattle.ifdb_closure.specs.Bounds.{is_inner_form, is_inner, RefusedCallsCommitNothing}
+use Rattle.ifdb_closure.proofs.Cuts.{cut_run}
 use Rattle.ifdb_closure.proofs.Thinning.{one_itself, open_new}
 use Rattle.ifdb_closure.proofs.Twins.{asks_count}
 use Rattle.ifdb_closure.proofs.Names.{speaks_back}
@@ -118,20 +119,23 @@ module _ (x : Speech) (label : List ℕ) (h : ℕ) (positive : 0 < h) where
   goes_same st line r a false false e rest t = leave_same x.read (next x.read st (asks h line)) h ∙ e
   goes_same st line r a false true e rest t = rest refl t ∙ e
 
+  -- a line without memory ends it
+  lacks_same : (st : State) (b : Bool) (a : Called) → (is_refusal a.told ≡ true → (run x.read st (asked_of h a.asked)).log ≡ st.log)
+      → is_refusal (cond b call_lacks a).told ≡ true → (run x.read st (asked_of h (cond b call_lacks a).asked)).log ≡ st.log
+  lacks_same st true a rest t = leave_same x.read st h
+  lacks_same st false a rest t = rest t
+
   -- the statements, in the transaction
-  statements_same : (st : State) → h ≤ length st.sessions → in_txn (session_of st h).txn ≡ true → (last : Reply) → is_refusal last ≡ false → (lines : List (List ℕ))
-      → x.read commit_line ≡ Ok request.Commit → list_all (λ line. is_inner (x.read line)) lines ≡ true → is_refusal (call_on x label h st last lines).told ≡ true
-      → (run x.read st (asked_of h (call_on x label h st last lines).asked)).log ≡ st.log
-  statements_same st le txn last good [] commit inner t = leave_same x.read (next x.read st (asks h commit_line)) h ∙ committed_same where
+  statements_same : (st : State) → h ≤ length st.sessions → in_txn (session_of st h).txn ≡ true → (last : Reply) → is_refusal last ≡ false → (flags : List Bool) (lines : List (List ℕ))
+      → x.read commit_line ≡ Ok request.Commit → list_all (λ line. is_inner (x.read line)) lines ≡ true → is_refusal (call_on x label h st last flags lines).told ≡ true
+      → (run x.read st (asked_of h (call_on x label h st last flags lines).asked)).log ≡ st.log
+  statements_same st le txn last good flags [] commit inner t = lacks_same st (lacks_first flags) (call_ends x h st last) asked_same t where
     refused : (r : Reply) (b : Bool) → is_refusal r ≡ b → is_refusal (cond b r last) ≡ true → is_refusal r ≡ true
     refused r true e i = e
     refused r false e i = absurd (false≢true (sym good ∙ i))
 
-    reply_is : is_refusal (outcome_of x.read st h commit_line).reply ≡ true
-    reply_is = refused (outcome_of x.read st h commit_line).reply (is_refusal (outcome_of x.read st h commit_line).reply) refl t
-
-    committed_same : (next x.read st (asks h commit_line)).log ≡ st.log
-    committed_same = by (session_of st h).is_open refl where
+    committed_same : is_refusal (outcome_of x.read st h commit_line).reply ≡ true → (next x.read st (asks h commit_line)).log ≡ st.log
+    committed_same reply_is = by (session_of st h).is_open refl where
       by : (b : Bool) → (session_of st h).is_open ≡ b → (cond b (with_outcome st h (ask x.read st.log (session_of st h) commit_line)) st).log ≡ st.log
       by false e = refl
       by true e =
@@ -139,14 +143,21 @@ module _ (x : Speech) (label : List ℕ) (h : ℕ) (positive : 0 < h) where
           let s = session_of st h in
           let none = ap (λ q. (ask_read st.log s q).added) commit ∙ commit_adds st.log s s.principal (ap (λ q. is_refusal (ask_read st.log s q).reply) (sym commit) ∙ yes) in
           ap (λ a. st.log ++ option_to_list a) none ∙ append-nil st.log
-  statements_same st le txn last good (line ∷ lines) commit inner t =
+
+    asked_same : is_refusal (call_ends x h st last).told ≡ true → (run x.read st (asked_of h (call_ends x h st last).asked)).log ≡ st.log
+    asked_same told =
+        leave_same x.read (next x.read st (asks h commit_line)) h
+        ∙ committed_same (refused (outcome_of x.read st h commit_line).reply (is_refusal (outcome_of x.read st h commit_line).reply) refl told)
+  statements_same st le txn last good flags (line ∷ lines) commit inner t =
       let parts : (is_inner (x.read line) ≡ true) × (list_all (λ l. is_inner (x.read l)) lines ≡ true) = grind (arith, nat_tests) in
       let more = next x.read st (asks h line) in
       let r = (outcome_of x.read st h line).reply in
       let a = inner_adds st.log (session_of st h) txn (x.read line) parts.0 in
       let size : h ≤ length more.sessions = omega (arith, le, asks_count x.read st h line) in
-      goes_same st line r (call_on x label h more r lines) (is_refusal r) (is_within label h more) (log_same x.read st h line a.none)
-      (λ no told. statements_same more size (session_after x.read st h line positive le (λ (s : Session). in_txn s.txn) txn a.still) r no lines commit parts.1 told) t
+      let rest = call_on x label h more r (flags_behind flags) lines in
+      lacks_same st (lacks_first flags) (call_goes x (is_refusal r) (is_within label h more) line r rest)
+      (λ goes. goes_same st line r rest (is_refusal r) (is_within label h more) (log_same x.read st h line a.none)
+      (λ no told. statements_same more size (session_after x.read st h line positive le (λ (s : Session). in_txn s.txn) txn a.still) r no (flags_behind flags) lines commit parts.1 told) goes) t
 
 -- ---- the whole call
 
@@ -171,7 +182,7 @@ begin_txn read st h p le e good = by (session_of st h).is_open refl where
       ∙ (begin_adds st.log s s.principal).1 (ap (λ q. is_refusal (ask_read st.log s q).reply) (sym e) ∙ yes)
 
 pub refused_calls_commit_nothing : RefusedCallsCommitNothing
-refused_calls_commit_nothing x back steps label c k made told =
+refused_calls_commit_nothing x back steps label c flags k made told =
     let speaks = speaks_back x.read back in
     let st = run x.read opening steps in
     let h = length st.sessions + 1 in
@@ -185,9 +196,16 @@ refused_calls_commit_nothing x back steps label c k made told =
     let r1 = (outcome_of x.read s1 h one).reply in
     let r2 = (outcome_of x.read s2 h two).reply in
     let r3 = (outcome_of x.read s3 h begin_line).reply in
-    let rest = call_on x label h s4 r3 c.statements in
-    let more = call_goes x (is_refusal r3) (is_within label h s4) begin_line r3 rest in
-    let most = call_goes x (is_refusal r2) (is_within label h s3) two r2 more in
+    let f1 = flags_behind flags in
+    let f2 = flags_behind f1 in
+    let f3 = flags_behind f2 in
+    let rest = call_on x label h s4 r3 f3 c.statements in
+    let third = call_goes x (is_refusal r3) (is_within label h s4) begin_line r3 rest in
+    let more = cond (lacks_first f2) call_lacks third in
+    let second = call_goes x (is_refusal r2) (is_within label h s3) two r2 more in
+    let most = cond (lacks_first f1) call_lacks second in
+    let first = call_goes x (is_refusal r1) (is_within label h s2) one r1 most in
+    let cut = called_with x st label c flags in
     let z1 : h ≤ length s1.sessions = omega (arith, length-append st.sessions (new_session ∷ [])) in
     let z2 : h ≤ length s2.sessions = omega (arith, z1, asks_count x.read s1 h one) in
     let z3 : h ≤ length s3.sessions = omega (arith, z2, asks_count x.read s2 h two) in
@@ -199,7 +217,11 @@ refused_calls_commit_nothing x back steps label c k made told =
     let free = none_from (session_of s2 h).txn (session_after x.read s1 h one p z1 f before (ap (λ o. Rattle.std.specs.Prelude.not (in_txn o)) greets.txn ∙ before)) in
     let gives = speaks.relabels steps (session_of s2 h) label free made in
     let e2 = log_same x.read s2 h two (ap (λ l. (ask x.read l (session_of s2 h) two).added) e1 ∙ gives.adds) in
-    goes_same x label h p s1 one r1 most (is_refusal r1) (is_within label h s2) e1
-    (λ no1 told1. goes_same x label h p s2 two r2 more (is_refusal r2) (is_within label h s3) e2
-    (λ no2 told2. goes_same x label h p s3 begin_line r3 rest (is_refusal r3) (is_within label h s4) (begin_same x.read s3 h k.begin)
-    (λ no3 told3. statements_same x label h p s4 z4 (begin_txn x.read s3 h p z3 k.begin no3) r3 no3 c.statements k.commit k.statements told3) told2) told1) told
+    ap (λ (u : State). u.log) (cut_run x.read h s1 cut.asked cut.lacked)
+    ∙ lacks_same x label h p s1 (lacks_first flags) first
+    (λ goes1. goes_same x label h p s1 one r1 most (is_refusal r1) (is_within label h s2) e1
+    (λ no1 told1. lacks_same x label h p s2 (lacks_first f1) second
+    (λ goes2. goes_same x label h p s2 two r2 more (is_refusal r2) (is_within label h s3) e2
+    (λ no2 told2. lacks_same x label h p s3 (lacks_first f2) third
+    (λ goes3. goes_same x label h p s3 begin_line r3 rest (is_refusal r3) (is_within label h s4) (begin_same x.read s3 h k.begin)
+    (λ no3 told3. statements_same x label h p s4 z4 (begin_txn x.read s3 h p z3 k.begin no3) r3 no3 f3 c.statements k.commit k.statements told3) goes3) told2) goes2) told1) goes1) told

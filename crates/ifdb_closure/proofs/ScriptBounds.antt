@@ -1,5 +1,5 @@
 -- The closures of a script are such as its calls need: read as statements, and their owners' HELLOs as HELLOs.
-use Rattle.std.proofs.Common.{◌≡◌, ℕ, zero, suc, Bool, true, false, List, [], ◌∷◌, ◌++◌, length, refl, sym, ap, ◌∙◌, cond, ◌&&◌, ◌||◌, Some, None, Ok, Err, Option, Result, inr}
+use Rattle.std.proofs.Common.{◌≡◌, ℕ, zero, suc, ◌+◌, Bool, true, false, List, [], ◌∷◌, ◌++◌, length, refl, sym, ap, subst, ◌∙◌, cond, ◌&&◌, ◌||◌, Some, None, Ok, Err, Option, Result, inr}
 use Rattle.std.specs.Prelude.{All, is_some, not, nat_lt, bytes_eq}
 use Rattle.std.specs.List.{list_all, list_any}
 use Rattle.std.specs.Str.{chars, is_utf8}
@@ -8,35 +8,35 @@ use lib.Utf8.{encode}
 use Rattle.std.proofs.lemmas.Bool.{false≢true}
 use Rattle.std.proofs.lemmas.List.Elements.{All-nil, All-head, All-tail, All-push}
 use Rattle.ifdb_label.specs.Tags.{are_made}
-use Rattle.ifdb_lex.specs.declared.token.Token.{Token}
-use Rattle.ifdb_lex.specs.declared.fault.LexFault.{LexFault}
 use Rattle.ifdb_lex.specs.Line.{without_return}
-use Rattle.ifdb_lex.specs.Lex.{lexed}
 use Rattle.ifdb_syntax.specs.declared.request.Request.{Request}
 use Rattle.ifdb_syntax.specs.declared.request.Request.TheVariants as request
-use Rattle.ifdb_syntax.specs.Words.{Lexemes}
 use Rattle.ifdb_parse.specs.declared.fault.ParseFault.{ParseFault}
 use Rattle.ifdb_parse.specs.declared.fault.ParseFault.TheVariants as unread
-use Rattle.ifdb_parse.specs.Lexemes.{lexemes_of, reserved}
+use Rattle.ifdb_parse.specs.Lexemes.{reserved}
 use Rattle.ifdb_parse.specs.Parsed.{parsed}
 use Rattle.ifdb_parse.specs.rules.Shared.{token as token_parser}
 use Rattle.ifdb_parse.specs.rules.Requests.{word as word_parser, session as session_parser, request as request_parser, line as line_parser, whole}
 use Rattle.ifdb_wire.specs.declared.fault.Fault.{Fault}
+use Rattle.ifdb_wire.specs.declared.reply.Reply.{Reply}
 use Rattle.ifdb_model.specs.Log.{all_tags}
 use Rattle.ifdb_model.specs.Step.{is_empty, form_of}
-use Rattle.ifdb_model.specs.Run.{State, opening, session_of, Step, opens, asks, refused, long, stray, leaves, outcome_of, run}
+use Rattle.ifdb_model.specs.Run.{State, opening, session_of, Step, opens, asks, refused, long, stray, leaves, outcome_of, next, run, tell}
 use Rattle.ifdb_model.proofs.Runs.{run-append}
 use Rattle.ifdb_laws.proofs.two_worlds.Sound.{opening_sound, run_sound, session_sound}
 use Rattle.ifdb_db.specs.Reading.{read_line, request_or_fault}
 use Rattle.ifdb_closure.specs.Numbers.{number_at}
-use Rattle.ifdb_closure.specs.Closures.{Closure, ClosureLine, plain, faulty, creates, calls, begin_line, commit_line, closure_named, or_none, is_refusal, called, call_steps, World, start, seated, greeting_in, Turn, is_done, create_fault, call_fault, session_fault, creates_by, calls_by, asks_form, turn, after_turn}
-use Rattle.ifdb_closure.specs.Lacking.{Memory, enough, lacks, lacks_at, call_cut, lacking_at, lacking_line, turn_with}
+use Rattle.ifdb_closure.specs.Closures.{Closure, ClosureLine, plain, faulty, creates, calls, begin_line, commit_line, closure_named, or_none, is_refusal, called_with, called, World, start, seated, greeting_in, Turn, is_done, create_fault, call_fault, session_fault, creates_by, calls_by, asks_form, turn, after_turn}
+use Rattle.ifdb_closure.specs.Lacking.{Memory, enough, lacks, lacks_at, lacks_only, call_steps_with, call_cut, lacking_at, lacking_line, turn_with}
 use Rattle.ifdb_closure.specs.Laws.{IsHeard}
 use Rattle.ifdb_closure.specs.Bounds.{is_inner_form, is_inner, IsReadable}
-use Rattle.ifdb_closure.specs.Forms.{is_call, is_create, is_closure, is_as, is_end, name_in, is_misread, is_beyond, statements_from, statements_fault, called_as, call_form, created_as, created_if, create_form, form_behind_create, form_of_lexemes, form_of_tokens, closure_form}
+use Rattle.ifdb_closure.specs.Forms.{is_misread, is_beyond, statements_from, statements_fault, closure_form}
 use Rattle.ifdb_closure.specs.Speaking.{speech}
-use Rattle.ifdb_closure.specs.ScriptBounds.{world_with, ScriptCallsCommitNothing}
-use Rattle.ifdb_closure.proofs.ReadingBack.{lines_read_back}
+use Rattle.ifdb_closure.specs.ScriptBounds.{world_with, are_refused, ScriptCallsCommitNothing, ScriptCallsAreTheOwners}
+use Rattle.ifdb_closure.proofs.Cuts.{cut_run}
+use Rattle.ifdb_closure.proofs.FormParts.{OfForm, line_parts}
+use Rattle.ifdb_closure.proofs.Owners.{calls_are_the_owners}
+use Rattle.ifdb_closure.proofs.ReadingBack.{lines_read_back, hellos_read_back}
 use Rattle.ifdb_closure.proofs.Refused.{refused_calls_commit_nothing}
 use Rattle.ifdb_closure.proofs.Worlds.{read_heard}
 
@@ -83,63 +83,11 @@ faultless statements e =
       by false me true be h = cc
       by false me false be h = all_inner statements me (none_of (nat_lt 64 (length statements)) (list_any (λ s. is_beyond (parsed s)) statements) be).1
 
--- ---- what a line that is CREATE CLOSURE enters
-
--- a closure line that creates, creates statements
-abbrev AreFit : ClosureLine → Type 0
-AreFit (creates name statements) = list_all (λ s. is_inner (read_line s)) statements ≡ true
-AreFit _ = Unit {0}
-
-created_fit : (name : List ℕ) (statements : List (List ℕ)) → AreFit (created_as name statements (statements_fault statements))
-created_fit name statements = by (statements_fault statements) refl where
-  by : (o : Option Fault) → statements_fault statements ≡ o → AreFit (created_as name statements o)
-  by None e = faultless statements e
-  by (Some f) e = tt
-
-if_fit : (o : Option (List ℕ)) (b : Bool) (line : List ℕ) (at : ℕ) (tokens : List Token) → AreFit (created_if o b line at tokens)
-if_fit (Some name) true line at tokens = created_fit name (statements_from line false at tokens)
-if_fit (Some name) false line at tokens = tt
-if_fit None b line at tokens = tt
-
-create_fit : (line : List ℕ) (tokens : List Token) (lexemes : Lexemes) → AreFit (create_form line tokens lexemes)
-create_fit line (t1 ∷ t2 ∷ t3 ∷ t4 ∷ tokens) (name ∷ second ∷ lexemes) = if_fit (name_in name) (is_as second) line t4.end tokens
-create_fit line [] lexemes = tt
-create_fit line (t1 ∷ []) lexemes = tt
-create_fit line (t1 ∷ t2 ∷ []) lexemes = tt
-create_fit line (t1 ∷ t2 ∷ t3 ∷ []) lexemes = tt
-create_fit line (t1 ∷ t2 ∷ t3 ∷ t4 ∷ tokens) [] = tt
-create_fit line (t1 ∷ t2 ∷ t3 ∷ t4 ∷ tokens) (name ∷ []) = tt
-
-called_fit : (o : Option (List ℕ)) (b : Bool) → AreFit (called_as o b)
-called_fit (Some name) true = tt
-called_fit (Some name) false = tt
-called_fit None b = tt
-
-call_fit : (lexemes : Lexemes) → AreFit (call_form lexemes)
-call_fit [] = tt
-call_fit (name ∷ []) = called_fit (name_in name) true
-call_fit (name ∷ last ∷ []) = called_fit (name_in name) (is_end last)
-call_fit (name ∷ last ∷ other ∷ more) = tt
-
-pick_fit : (b : Bool) (f g : ClosureLine) → AreFit f → AreFit g → AreFit (cond b f g)
-pick_fit true f g h k = h
-pick_fit false f g h k = k
-
-behind_fit : (line : List ℕ) (tokens : List Token) (lexemes : Lexemes) → AreFit (form_behind_create line tokens lexemes)
-behind_fit line tokens [] = tt
-behind_fit line tokens (second ∷ lexemes) = pick_fit (is_closure second) (create_form line tokens lexemes) plain (create_fit line tokens lexemes) tt
-
-lexemes_fit : (line : List ℕ) (tokens : List Token) (lexemes : Lexemes) → AreFit (form_of_lexemes line tokens lexemes)
-lexemes_fit line tokens [] = tt
-lexemes_fit line tokens (first ∷ lexemes) =
-    pick_fit (is_call first) (call_form lexemes) (cond (is_create first) (form_behind_create line tokens lexemes) plain) (call_fit lexemes)
-    (pick_fit (is_create first) (form_behind_create line tokens lexemes) plain (behind_fit line tokens lexemes) tt)
-
-line_fit : (line : List ℕ) → AreFit (closure_form line)
-line_fit line = by (lexed line) where
-  by : (o : Result (List Token) LexFault) → AreFit (form_of_tokens (without_return line) o)
-  by (Err f) = tt
-  by (Ok tokens) = lexemes_fit (without_return line) tokens (lexemes_of (without_return line) tokens)
+-- what a line that is CREATE CLOSURE enters
+line_fit : (line : List ℕ) → OfForm (λ statements. list_all (λ s. is_inner (read_line s)) statements ≡ true) (λ f. Unit {0}) (closure_form line)
+line_fit line =
+    line_parts (λ statements. list_all (λ s. is_inner (read_line s)) statements ≡ true) (λ f. Unit {0}) tt tt line
+    (λ at tokens e. faultless (statements_from (without_return line) false at tokens) e)
 
 -- ---- in each world of a script
 
@@ -150,12 +98,12 @@ pub record Fit (w : World) : Type 0 where
   pub ran : w.state ≡ run read_line opening past
 
 -- what stands beside the room is fit behind a turn
-record StillFit (t : Turn) : Type 0 where
-  heard : (m : ℕ) → IsHeard read_line (greeting_in t.greetings m)
-  readable : All (IsReadable read_line) t.closures
+pub record StillFit (t : Turn) : Type 0 where
+  pub heard : (m : ℕ) → IsHeard read_line (greeting_in t.greetings m)
+  pub readable : All (IsReadable read_line) t.closures
 
 module _ (w : World) (g : Fit w) where
-  form_fit : (n : ℕ) (line : List ℕ) (f : ClosureLine) → AreFit f → StillFit (asks_form speech w n line f)
+  form_fit : (n : ℕ) (line : List ℕ) (f : ClosureLine) → OfForm (λ statements. list_all (λ s. is_inner (read_line s)) statements ≡ true) (λ f. Unit {0}) f → StillFit (asks_form speech w n line f)
   form_fit n line plain h = record {
     heard = λ m. read_heard read_line line n m (is_done (outcome_of read_line w.state (number_at w.seats n) line).reply) w.greetings (g.heard m) (read_line line) refl;
     readable = g.readable;
@@ -177,7 +125,7 @@ module _ (w : World) (g : Fit w) where
     by None = record { heard = g.heard; readable = g.readable }
     by (Some f) = record { heard = g.heard; readable = g.readable }
 
-  turn_fit : (step : Step) → StillFit (turn speech w step)
+  pub turn_fit : (step : Step) → StillFit (turn speech w step)
   turn_fit opens = record { heard = g.heard; readable = g.readable }
   turn_fit (asks n line) = form_fit n line (closure_form line) (line_fit line)
   turn_fit (refused n) = record { heard = g.heard; readable = g.readable }
@@ -199,7 +147,7 @@ module _ (w : World) (g : Fit w) where
         by true = turn_fit (asks n line)
         by false = cut i
 
-  with_fit : (m : Memory) (step : Step) → StillFit (turn_with speech w m step)
+  pub with_fit : (m : Memory) (step : Step) → StillFit (turn_with speech w m step)
   with_fit enough step = turn_fit step
   with_fit lacks opens = record { heard = g.heard; readable = g.readable }
   with_fit lacks (asks n line) = (lack_fit n 0 line (closure_form line)).0
@@ -214,7 +162,7 @@ module _ (w : World) (g : Fit w) where
   with_fit (lacks_at i) stray = turn_fit stray
   with_fit (lacks_at i) (leaves n) = turn_fit (leaves n)
 
-  after_fit : (t : Turn) → StillFit t → Fit (after_turn speech w t)
+  pub after_fit : (t : Turn) → StillFit t → Fit (after_turn speech w t)
   after_fit t s = record {
     heard = s.heard;
     readable = s.readable;
@@ -228,10 +176,10 @@ world_fit w g [] (step ∷ steps) = world_fit (after_turn speech w (turn speech 
 world_fit w g (m ∷ memory) (step ∷ steps) =
     world_fit (after_turn speech w (turn_with speech w m step)) (after_fit w g (turn_with speech w m step) (with_fit w g m step)) memory steps
 
-start_fit : Fit start
+pub start_fit : Fit start
 start_fit = record { heard = λ m. inr refl; readable = All-nil (IsReadable read_line); past = []; ran = refl }
 
-named_fit : (closures : List Closure) (name : List ℕ) → All (IsReadable read_line) closures → is_some (closure_named closures name) ≡ true
+pub named_fit : (closures : List Closure) (name : List ℕ) → All (IsReadable read_line) closures → is_some (closure_named closures name) ≡ true
     → IsReadable read_line (or_none (closure_named closures name))
 named_fit [] name h e = absurd (false≢true e)
 named_fit (c ∷ closures) name h e = by (bytes_eq c.name name) e (named_fit closures name (All-tail (IsReadable read_line) c closures h)) where
@@ -241,17 +189,77 @@ named_fit (c ∷ closures) name h e = by (bytes_eq c.name name) e (named_fit clo
   by true k rest = All-head (IsReadable read_line) c closures h
   by false k rest = rest k
 
+-- ---- calls
+
+pub known_so : (known : Bool) (o : Option Fault) → is_some (call_fault known o) ≡ false → known ≡ true
+known_so known (Some f) e = absurd (false≢true (sym e))
+known_so false None e = absurd (false≢true (sym e))
+known_so true None e = refl
+
+one_refused : (n : ℕ) (r : Reply) → are_refused (tell n r) ≡ true → is_refusal r ≡ true
+one_refused n r = by (is_refusal r) where
+  by : (b : Bool) → (b || false) ≡ true → b ≡ true
+  by true e = refl
+  by false e = e
+
+-- a turn that is told a refusal leaves the log
+abbrev Leaves : World → Turn → Type 0
+Leaves w t = are_refused t.told ≡ true → (run read_line w.state t.steps).log ≡ w.state.log
+
+module _ (w : World) (g : Fit w) (n : ℕ) (name : List ℕ) where
+  abbrev c : Closure
+  c = or_none (closure_named w.closures name)
+
+  abbrev label : List ℕ
+  label = (seated w n).label
+
+  abbrev refusal : Option Fault
+  refusal = call_fault (is_some (closure_named w.closures name)) (session_fault (seated w n))
+
+  pub call_leaves : is_some (closure_named w.closures name) ≡ true → (flags : List Bool) → is_refusal (called_with speech w.state label c flags).told ≡ true
+      → (run read_line w.state (call_steps_with speech w.state label c flags)).log ≡ w.state.log
+  call_leaves known flags told =
+      let st = run read_line opening g.past in
+      let sound = run_sound read_line opening g.past opening_sound in
+      let made : are_made (length (all_tags st.log)) label ≡ true =
+      (λ i. are_made (length (all_tags st.log)) (session_of (g.ran i) (number_at w.seats n)).label) ∙ (session_sound st sound (number_at w.seats n)).label_made in
+      (λ i. (run read_line (g.ran i) (call_steps_with speech (g.ran i) label c flags)).log)
+      ∙ refused_calls_commit_nothing speech lines_read_back g.past label c flags (named_fit w.closures name g.readable known) made
+      (ap (λ u. is_refusal (called_with speech u label c flags).told) (sym g.ran) ∙ told)
+      ∙ ap (λ (u : State). u.log) (sym g.ran)
+
+  by_leaves : (o : Option Fault) → refusal ≡ o → Leaves w (calls_by speech w n label c o)
+  by_leaves (Some f) e told = refl
+  by_leaves None e told =
+      let all = called speech w.state label c in
+      ap (λ (u : State). u.log) (sym (cut_run read_line (length w.state.sessions + 1) (next read_line w.state opens) all.asked all.lacked))
+      ∙ call_leaves (known_so (is_some (closure_named w.closures name)) (session_fault (seated w n)) (ap is_some e)) [] (one_refused n all.told told)
+
+  cut_leaves : is_some refusal ≡ false → (i : ℕ) → Leaves w (call_cut speech w n label c i)
+  cut_leaves e zero told = refl
+  cut_leaves e (suc i) told =
+      call_leaves (known_so (is_some (closure_named w.closures name)) (session_fault (seated w n)) e) (lacks_only i)
+      (one_refused n (called_with speech w.state label c (lacks_only i)).told told)
+
+  -- a line that is a CALL
+  all_leaves : (line : List ℕ) → closure_form line ≡ calls name → Leaves w (turn speech w (asks n line))
+  all_leaves line form = subst (λ f. Leaves w (asks_form speech w n line f)) (sym form) (by_leaves refusal refl)
+
+  turn_leaves : (line : List ℕ) → closure_form line ≡ calls name → (m : Memory) → Leaves w (turn_with speech w m (asks n line))
+  turn_leaves line form enough = all_leaves line form
+  turn_leaves line form lacks = subst (λ f. Leaves w (lacking_line w n f)) (sym form) (λ told. refl)
+  turn_leaves line form (lacks_at i) = subst (λ f. Leaves w (lacking_at speech w i n line f)) (sym form) (by (is_some refusal) refl) where
+    by : (b : Bool) → is_some refusal ≡ b → Leaves w (cond b (turn speech w (asks n line)) (call_cut speech w n label c i))
+    by true e = all_leaves line form
+    by false e = cut_leaves e i
+
 pub script_calls_commit_nothing : ScriptCallsCommitNothing
-script_calls_commit_nothing memory steps n name there refusal =
+script_calls_commit_nothing memory steps m n line name form =
+    turn_leaves (world_with start memory steps) (world_fit start start_fit memory steps) n name line form m
+
+pub script_calls_are_the_owners : ScriptCallsAreTheOwners
+script_calls_are_the_owners memory steps n name flags known =
     let w = world_with start memory steps in
     let g = world_fit start start_fit memory steps in
     let c = or_none (closure_named w.closures name) in
-    let label = (seated w n).label in
-    let st = run read_line opening g.past in
-    let sound = run_sound read_line opening g.past opening_sound in
-    let made : are_made (length (all_tags st.log)) label ≡ true =
-    (λ i. are_made (length (all_tags st.log)) (session_of (g.ran i) (number_at w.seats n)).label) ∙ (session_sound st sound (number_at w.seats n)).label_made in
-    (λ i. (run read_line (g.ran i) (call_steps speech (g.ran i) label c)).log)
-    ∙ refused_calls_commit_nothing speech lines_read_back g.past label c (named_fit w.closures name g.readable there) made
-    (ap (λ u. is_refusal (called speech u label c).told) (sym g.ran) ∙ refusal)
-    ∙ ap (λ (u : State). u.log) (sym g.ran)
+    calls_are_the_owners speech hellos_read_back w.state (seated w n).label c flags (named_fit w.closures name g.readable known).owner

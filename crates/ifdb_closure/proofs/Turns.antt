@@ -22,8 +22,8 @@ use Rattle.ifdb_db.proofs.RoomLaws.{at_open}
 use Rattle.ifdb_closure.specs.declared.stage.Seat.{Seat}
 use Rattle.ifdb_closure.specs.declared.stage.Stage.{Stage}
 use Rattle.ifdb_closure.specs.Numbers.{number_at}
-use Rattle.ifdb_closure.specs.Closures.{Greeting, Closure, ClosureLine, plain, faulty, creates, calls, hello_line, names_of, label_line, begin_line, call_lines, World, seated, Turn, refuses_only, hello_of, asks_plain, asker_fault, create_fault, call_fault, session_fault, creates_by, calls_by, closure_named, or_none, asks_form, turn, after_turn}
-use Rattle.ifdb_closure.specs.Lacking.{enough, lacks, memory_fault, lacking_line}
+use Rattle.ifdb_closure.specs.Closures.{Greeting, Closure, ClosureLine, plain, faulty, creates, calls, hello_line, names_of, label_line, begin_line, call_lines, World, seated, Turn, refuses_only, hello_of, asks_plain, asker_fault, create_fault, call_fault, session_fault, creates_by, calls_by, closure_named, or_none, asks_form, turn, after_turn, memory_fault}
+use Rattle.ifdb_closure.specs.Lacking.{enough, lacks, lacking_line}
 use Rattle.ifdb_closure.specs.Forms.{closure_form}
 use Rattle.ifdb_closure.specs.Speaking.{speech}
 use Rattle.ifdb_closure.specs.Standing.{no_seat, seat_at, IsGreeted, Stands, IsFor, Turned, Does}

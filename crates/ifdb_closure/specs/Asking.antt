@@ -1,5 +1,5 @@
 -- What the session of a CALL is asked, line by line, and how far it gets.
-use Rattle.std.specs.Prelude.{◌≡◌, ◌≢◌, ◌⊎◌, ℕ, zero, suc, ◌+◌, Bool, true, false, ◌&&◌, not, List, [], ◌∷◌, ◌++◌, length, map, take, Option, Some, None, Result, Ok, Err}
+use Rattle.std.specs.Prelude.{◌≡◌, ◌≢◌, ◌⊎◌, ℕ, zero, suc, ◌+◌, Bool, true, false, ◌&&◌, not, List, [], ◌∷◌, ◌++◌, length, map, Option, Some, None, Result, Ok, Err}
 use Rattle.ifdb_wire.specs.declared.fault.Fault.{Fault}
 use Rattle.ifdb_wire.specs.declared.fault.Fault.TheVariants as fault
 use Rattle.ifdb_wire.specs.declared.reply.Reply.{Reply}
@@ -8,8 +8,8 @@ use Rattle.ifdb_wire.specs.Text.{reply_text}
 use Rattle.ifdb_model.specs.Run.{State, session_of, Step, opens, asks, refused, next, outcome_of, run}
 use Rattle.ifdb_db.specs.Reading.{read_line}
 use Rattle.ifdb_db.specs.Room.{Hall, StandsFor, was_opened}
-use Rattle.ifdb_closure.specs.Closures.{commit_line, is_refusal, is_within, call_on, asked_of}
-use Rattle.ifdb_closure.specs.Lacking.{Memory, enough, lacks, lacks_at, memory_fault, cut_on, cut_steps}
+use Rattle.ifdb_closure.specs.Closures.{commit_line, is_refusal, memory_fault, Called, is_within, call_on, asked_of}
+use Rattle.ifdb_closure.specs.Lacking.{Memory, enough, lacks, lacks_at, lacks_only, cut_steps}
 use Rattle.ifdb_closure.specs.Speaking.{speech}
 
 -- the reply to a line of session h
@@ -56,14 +56,14 @@ pub record Stopped (new : Hall) (label : List ℕ) (h : ℕ) (st : State) (lines
 
 -- ---- all lines, and the COMMIT
 
--- The lines that session h is asked and what the caller is told, where all have their memory, or where none has from the i-th on.
-abbrev pub asked_by : List ℕ → ℕ → State → List (List ℕ) → Option ℕ → List (List ℕ)
-asked_by label h st lines None = (call_on speech label h st reply.Opened lines).asked
-asked_by label h st lines (Some i) = (cut_on speech label h st (take i (lines ++ commit_line ∷ []))).asked
+-- the flags of the lines and of the COMMIT, where all have their memory, or the one at this place has none
+abbrev pub flags_of : Option ℕ → List Bool
+flags_of None = []
+flags_of (Some i) = lacks_only i
 
-abbrev pub told_by : List ℕ → ℕ → State → List (List ℕ) → Option ℕ → Reply
-told_by label h st lines None = (call_on speech label h st reply.Opened lines).told
-told_by label h st lines (Some i) = (cut_on speech label h st (take i (lines ++ commit_line ∷ []))).told
+-- what session h is asked and its caller is told
+abbrev pub called_on : List ℕ → ℕ → State → List (List ℕ) → Option ℕ → Called
+called_on label h st lines lack = call_on speech label h st reply.Opened (flags_of lack) lines
 
 -- the reply is that of an end: its text was put, or it is this refusal
 abbrev pub Says : {T : Type 0} → ℕ → List ℕ → Result T Fault → Reply → Type 0
@@ -78,9 +78,9 @@ IsLackTold (Some i) r = r ≡ memory_fault
 -- session h was asked the lines, as far as it got
 pub record AskedAll {T : Type 0} (new : Hall) (label : List ℕ) (h : ℕ) (st : State) (lines : List (List ℕ)) (shown : ℕ) (text : List ℕ) (end : Result T Fault) : Type 0 where
   pub lack : Option ℕ
-  pub stands : StandsFor new (after_lines h st (asked_by label h st lines lack))
-  pub says : Says shown text end (told_by label h st lines lack)
-  pub exact : IsLackTold lack (told_by label h st lines lack)
+  pub stands : StandsFor new (after_lines h st (called_on label h st lines lack).asked)
+  pub says : Says shown text end (called_on label h st lines lack).told
+  pub exact : IsLackTold lack (called_on label h st lines lack).told
 
 -- the COMMIT ended the call: there was no memory for it, or it was refused
 abbrev pub IsUncommitted : Hall → ℕ → State → Fault → Type 0
@@ -92,17 +92,17 @@ IsUncommitted new h st f = (StandsFor new st × (f ≡ fault.OutOfMemory))
 -- The steps that a call stands for, and what its caller is told, where its lines are these, with the memory that it has.
 abbrev pub steps_with : List ℕ → State → List (List ℕ) → Memory → List Step
 steps_with label st lines enough =
-    opens ∷ asked_of (length st.sessions + 1) (asked_by label (length st.sessions + 1) (next read_line st opens) lines None)
+    opens ∷ asked_of (length st.sessions + 1) (called_on label (length st.sessions + 1) (next read_line st opens) lines None).asked
 steps_with label st lines lacks = []
 steps_with label st lines (lacks_at zero) = refused 0 ∷ []
 steps_with label st lines (lacks_at (suc i)) =
-    opens ∷ cut_steps (length st.sessions + 1) (cut_on speech label (length st.sessions + 1) (next read_line st opens) (take i (lines ++ commit_line ∷ [])))
+    opens ∷ cut_steps (length st.sessions + 1) (called_on label (length st.sessions + 1) (next read_line st opens) lines (Some i))
 
 abbrev pub told_with_memory : List ℕ → State → List (List ℕ) → Memory → Reply
-told_with_memory label st lines enough = told_by label (length st.sessions + 1) (next read_line st opens) lines None
+told_with_memory label st lines enough = (called_on label (length st.sessions + 1) (next read_line st opens) lines None).told
 told_with_memory label st lines lacks = memory_fault
 told_with_memory label st lines (lacks_at zero) = memory_fault
-told_with_memory label st lines (lacks_at (suc i)) = told_by label (length st.sessions + 1) (next read_line st opens) lines (Some i)
+told_with_memory label st lines (lacks_at (suc i)) = (called_on label (length st.sessions + 1) (next read_line st opens) lines (Some i)).told
 
 -- want of memory is told
 abbrev pub IsMemoryTold : Memory → Reply → Type 0

@@ -79,40 +79,64 @@ abbrev pub is_refusal : Reply → Bool
 is_refusal (reply.Refused f) = true
 is_refusal _ = false
 
--- what a call's session was asked, and what the caller is told
+-- error 20
+abbrev pub memory_fault : Reply
+memory_fault = reply.Refused fault.OutOfMemory
+
+-- what a call's session was asked; whether the line behind that had no memory; and what the caller is told
 pub record Called : Type 0 where
   pub asked : List (List ℕ)
+  pub lacked : Bool
   pub told : Reply
+
+-- The next line has no memory, and isn't asked.
+abbrev pub call_lacks : Called
+call_lacks = record { asked = []; lacked = true; told = memory_fault }
 
 -- the last line: its refusal, or the reply to the line before it
 abbrev pub call_ends : Speech → ℕ → State → Reply → Called
 call_ends x h st last =
     let r = (outcome_of x.read st h commit_line).reply in
-    record { asked = commit_line ∷ []; told = if is_refusal r then r else last }
+    record { asked = commit_line ∷ []; lacked = false; told = if is_refusal r then r else last }
 
 -- A line was asked: a refusal ends the call, and so does a label that isn't within the caller's. Else the rest follows.
 abbrev pub call_goes : Speech → Bool → Bool → List ℕ → Reply → Called → Called
 call_goes x stops within line r more =
-    if stops then record { asked = line ∷ []; told = r }
-    else (if within then record { asked = line ∷ more.asked; told = more.told }
-    else record { asked = line ∷ []; told = reply.Refused fault.ClosureLabel })
+    if stops then record { asked = line ∷ []; lacked = false; told = r }
+    else (if within then record { asked = line ∷ more.asked; lacked = more.lacked; told = more.told }
+    else record { asked = line ∷ []; lacked = false; told = reply.Refused fault.ClosureLabel })
 
 -- the label of a session flows to this one
 abbrev pub is_within : List ℕ → ℕ → State → Bool
 is_within label h st = flows (all_tags st.log) (session_of st h).label label
 
--- these lines of session h, for a caller at this label, where the line before was told this; and then COMMIT
-abbrev pub call_on : Speech → List ℕ → ℕ → State → Reply → List (List ℕ) → Called
-call_on x label h st last [] = call_ends x h st last
-call_on x label h st last (line ∷ lines) =
+-- Each line has a flag: there is no memory for it. Lines behind the last flag have theirs.
+abbrev pub lacks_first : List Bool → Bool
+lacks_first [] = false
+lacks_first (lacks ∷ flags) = lacks
+
+abbrev pub flags_behind : List Bool → List Bool
+flags_behind [] = []
+flags_behind (lacks ∷ flags) = flags
+
+-- These lines of session h, for a caller at this label, where the line before was told this; and then COMMIT. The flags are those
+-- of the lines and of the COMMIT.
+abbrev pub call_on : Speech → List ℕ → ℕ → State → Reply → List Bool → List (List ℕ) → Called
+call_on x label h st last flags [] = if lacks_first flags then call_lacks else call_ends x h st last
+call_on x label h st last flags (line ∷ lines) =
     let more = next x.read st (asks h line) in
     let r = (outcome_of x.read st h line).reply in
-    call_goes x (is_refusal r) (is_within label h more) line r (call_on x label h more r lines)
+    if lacks_first flags then call_lacks
+    else call_goes x (is_refusal r) (is_within label h more) line r (call_on x label h more r (flags_behind flags) lines)
 
--- a call of a closure, for a caller at this label; its session is the next one
+-- a call of a closure, for a caller at this label, with these flags; its session is the next one
+abbrev pub called_with : Speech → State → List ℕ → Closure → List Bool → Called
+called_with x st label c flags =
+    call_on x label (length st.sessions + 1) (next x.read st opens) reply.Opened flags (call_lines st.log label c)
+
+-- the same with all its memory
 abbrev pub called : Speech → State → List ℕ → Closure → Called
-called x st label c =
-    call_on x label (length st.sessions + 1) (next x.read st opens) reply.Opened (call_lines st.log label c)
+called x st label c = called_with x st label c []
 
 -- the steps of session h
 abbrev pub asked_of : ℕ → List (List ℕ) → List Step

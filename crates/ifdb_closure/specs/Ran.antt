@@ -3,7 +3,7 @@
 use Rattle.std.specs.Prelude.{◌≡◌, ℕ, ◌<◌, ◌≤◌, true, List, [], ◌∷◌, ◌++◌, length, take, drop, Option, if◌then◌else◌}
 use Rattle.std.specs.Io.KnownBytes.{Appends, Consumes, IsAtEnd}
 use Rattle.ifdb_io.specs.Lines.{IsLine}
-use Rattle.ifdb_model.specs.Run.{Step, Told}
+use Rattle.ifdb_model.specs.Run.{Step, asks, Told}
 use Rattle.ifdb_model.specs.Script.{steps_of}
 use Rattle.ifdb_model.specs.Output.{texts, text_of}
 use Rattle.ifdb_laws.specs.Scripts.{none_reads_memory}
@@ -24,6 +24,7 @@ AreTold w (m ∷ memory) (step ∷ steps) =
 -- a script was told this, where memory was refused at exactly the steps whose replies read error 20
 pub record IsTold (input : List ℕ) (told : List Told) : Type 0 where
   pub memory : List Memory
+  pub each : length memory ≡ length (steps_of input)
   pub all : told ≡ told_with speech start memory (steps_of input)
   pub exact : AreTold start memory (steps_of input)
 
@@ -111,3 +112,10 @@ IsHeardAlike input told = (level other : List ℕ) → AgreeBelow level (steps_o
 abbrev pub KeepsLevels : ℕ → Option (List ℕ) → Option (List ℕ) → Option (List ℕ) → Option (List ℕ) → Type 0
 KeepsLevels limit left_old left_new written_old written_new =
     (ran : RanWhole limit left_old left_new written_old written_new) × (none_reads_memory ran.told ≡ true → IsHeardAlike ran.input ran.told)
+
+-- ---- error 20
+
+-- Error 20 comes of refused memory alone: a line whose step has its memory is told no want of it, in whatever world. So the steps of a
+-- script that are told it are those that lacked memory, and no others.
+abbrev pub MemoryIsRefusedAlone : Type 0
+MemoryIsRefusedAlone = (w : World) (n : ℕ) (line : List ℕ) → none_reads_memory (turn speech w (asks n line)).told ≡ true

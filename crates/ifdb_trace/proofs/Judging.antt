@@ -19,9 +19,10 @@ use Rattle.ifdb_trace.specs.Accepted.{IsAccepted, IsFront, IsFault}
 use Rattle.ifdb_trace.specs.Checking.{Due, behind, fault_behind, is_over, first_dues, lines_fault}
 use Rattle.ifdb_trace.specs.Stages.{IsAt, GoesOn, IsWrong, IsEnd, IsEndOf}
 use Rattle.ifdb_trace.specs.Checked.{CheckedWhole, CheckedWrong, CheckedPast}
-use Rattle.ifdb_trace.specs.Ended.{ended_lines}
+use Rattle.ifdb_trace.specs.Ended.{settled_lines}
 use Rattle.ifdb_trace.proofs.Exact.{check_none, check_fault}
-use Rattle.ifdb_trace.proofs.Lines.{plain, lines_front, lines_last, lines_long, ended_front, ended_last, before_newline}
+use Rattle.ifdb_trace.proofs.Lines.{plain, lines_front, lines_last, lines_long, before_newline}
+use Rattle.ifdb_trace.proofs.Settled.{settled_front, settled_last}
 use Rattle.ifdb_trace.proofs.Standing.{at_some, long_is, long_behind}
 
 -- ---- lines and their newlines
@@ -39,12 +40,12 @@ lines_split (line ∷ lines) rest h =
     ap lines_of (append_assoc (ended line) (bytes_of lines) rest ∙ append_assoc line (10 ∷ []) (bytes_of lines ++ rest))
     ∙ lines_front line (bytes_of lines ++ rest) parts.0 ∙ ap (λ ls. line ∷ ls) (lines_split lines rest parts.1)
 
-ended_split : (lines : List (List ℕ)) (rest : List ℕ) → list_all is_line lines ≡ true → ended_lines (bytes_of lines ++ rest) ≡ lines ++ ended_lines rest
-ended_split [] rest h = refl
-ended_split (line ∷ lines) rest h =
+settled_split : (lines : List (List ℕ)) (rest : List ℕ) → list_all is_line lines ≡ true → settled_lines (bytes_of lines ++ rest) ≡ lines ++ settled_lines rest
+settled_split [] rest h = refl
+settled_split (line ∷ lines) rest h =
     let parts : (is_line line ≡ true) × (list_all is_line lines ≡ true) = grind (arith, nat_tests) in
-    ap ended_lines (append_assoc (ended line) (bytes_of lines) rest ∙ append_assoc line (10 ∷ []) (bytes_of lines ++ rest))
-    ∙ ended_front line (bytes_of lines ++ rest) parts.0 ∙ ap (λ ls. line ∷ ls) (ended_split lines rest parts.1)
+    ap settled_lines (append_assoc (ended line) (bytes_of lines) rest ∙ append_assoc line (10 ∷ []) (bytes_of lines ++ rest))
+    ∙ settled_front line (bytes_of lines ++ rest) parts.0 ∙ ap (λ ls. line ∷ ls) (settled_split lines rest parts.1)
 
 -- no more lines than bytes
 few_lines : (lines : List (List ℕ)) → length lines ≤ length (bytes_of lines)
@@ -279,10 +280,10 @@ module _ (limit : ℕ) (l0 l1 l2 : Option (List ℕ)) (mid last : Reading) (chec
 
   pub past_at : (e : Exceeds mid last l1 l2) → last.limit ≡ limit → CheckedPast limit l0 l2
   past_at e same =
-      let ends : ended_lines (j.input ++ e.got) ≡ j.lines =
-      ap ended_lines (sym (append-nil (j.input ++ e.got)) ∙ bytes_on e.got []) ∙ ended_split j.lines (mid.held ++ (e.got ++ [])) j.plain
-      ∙ ap (λ b. j.lines ++ ended_lines b) (ap (λ b. mid.held ++ b) (append-nil e.got) ∙ sym (unskipped_on (mid.held ++ e.got)) ∙ e.all)
-      ∙ ap (λ ls. j.lines ++ ls) (ended_last last.text (plain last.text e.line.plain)) ∙ append-nil j.lines in
+      let ends : settled_lines (j.input ++ e.got) ≡ j.lines =
+      ap settled_lines (sym (append-nil (j.input ++ e.got)) ∙ bytes_on e.got []) ∙ settled_split j.lines (mid.held ++ (e.got ++ [])) j.plain
+      ∙ ap (λ b. j.lines ++ settled_lines b) (ap (λ b. mid.held ++ b) (append-nil e.got) ∙ sym (unskipped_on (mid.held ++ e.got)) ∙ e.all)
+      ∙ ap (λ ls. j.lines ++ ls) (settled_last last.text e.line) ∙ append-nil j.lines in
       record {
         input = j.input ++ e.got;
         last = e.last;

@@ -1,6 +1,7 @@
 mod Members
 mod Exact
 mod Lines
+mod Settled
 mod Telling
 mod Ways
 mod Standing

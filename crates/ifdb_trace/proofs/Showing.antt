@@ -23,43 +23,7 @@ use Rattle.ifdb_trace.specs.Projection.{overlong_line, projected_line, projected
 use Rattle.ifdb_trace.specs.Projected.{ProjectedWhole, ProjectedFront, ProjectedCut, ProjectedPast, is_kept, IsStepped, IsProjected, IsCut}
 use Rattle.ifdb_trace.proofs.Lines.{plain, lines_front, lines_last, lines_long, ended_front, ended_last, ended_long, before_newline}
 use Rattle.ifdb_trace.proofs.Projecting.{long_steps}
-
--- ---- settled lines
-
-settled_first : (bytes rest line : List ℕ) → ended_lines bytes ≡ line ∷ ended_lines rest → lines_of bytes ≡ line ∷ lines_of rest → settled_lines bytes ≡ line ∷ settled_lines rest
-settled_first bytes rest line e l = λ i. e i ++ filter is_overlong (drop (length (e i)) (l i))
-
-settled_front : (text rest : List ℕ) → is_line text ≡ true → settled_lines (text ++ 10 ∷ rest) ≡ text ∷ settled_lines rest
-settled_front text rest h = settled_first (text ++ 10 ∷ rest) rest text (ended_front text rest h) (lines_front text rest h)
-
--- a last piece that is short isn't settled
-settled_last : (text : List ℕ) → IsLine text → settled_lines text ≡ []
-settled_last [] h = refl
-settled_last (b ∷ text) h =
-    let p = plain (b ∷ text) h.plain in
-    let size = h.short in
-    let short : is_overlong (b ∷ text) ≡ false = grind (arith, nat_tests) in
-    (λ i. ended_last (b ∷ text) p i ++ filter is_overlong (drop (length (ended_last (b ∷ text) p i)) (lines_last (b ∷ text) p (omega arith) i)))
-    ∙ rw short refl
-
--- a piece that is too long is
-over_first : (bytes rest line : List ℕ) → is_overlong line ≡ true → lines_of bytes ≡ line ∷ lines_of rest
-    → (ended_lines bytes ≡ line ∷ ended_lines rest) ⊎ ((ended_lines bytes ≡ []) × (rest ≡ [])) → settled_lines bytes ≡ line ∷ settled_lines rest
-over_first bytes rest line too_long lines (inl e) = settled_first bytes rest line e lines
-over_first bytes rest line too_long lines (inr e) =
-    (λ i. e.0 i ++ filter is_overlong (drop (length (e.0 i)) (lines i)))
-    ∙ rw too_long (ap (λ b. line ∷ filter is_overlong (lines_of b)) e.1 ∙ sym (ap (λ b. line ∷ settled_lines b) e.1))
-
-long_is_over : (line : List ℕ) → 65535 < length line → is_overlong line ≡ true
-long_is_over line h = grind (arith, nat_tests)
-
-settled_long : (text rest : List ℕ) → IsLong text → settled_lines (text ++ rest) ≡ (text ++ before_newline rest) ∷ settled_lines (after_newline rest)
-settled_long text rest h =
-    let p = plain text h.plain in
-    let size = h.long in
-    over_first (text ++ rest) (after_newline rest) (text ++ before_newline rest)
-    (long_is_over (text ++ before_newline rest) (omega (arith, size, length-append text (before_newline rest))))
-    (lines_long text rest p (omega (arith, size))) (ended_long text rest p)
+use Rattle.ifdb_trace.proofs.Settled.{settled_front, settled_last, settled_long}
 
 -- ---- two ways to see an input's lines
 

@@ -5,7 +5,7 @@ use Rattle.std.specs.Io.KnownBytes.{Consumes, IsAtEnd}
 use Rattle.ifdb_model.specs.Script.{lines_of}
 use Rattle.ifdb_db.specs.Reading.{read_line}
 use Rattle.ifdb_trace.specs.Accepted.{IsAccepted, IsFront, IsFault}
-use Rattle.ifdb_trace.specs.Ended.{ended_lines}
+use Rattle.ifdb_trace.specs.Ended.{settled_lines}
 
 -- the input was read to its end, within the limit, and is accepted
 pub record CheckedWhole (limit : ℕ) (left_old left_new : Option (List ℕ)) : Type 0 where
@@ -24,10 +24,11 @@ pub record CheckedWrong (limit : ℕ) (left_old left_new : Option (List ℕ)) (k
   pub wrong : ((rest : List ℕ) → IsFault read_line (lines_of (input ++ rest)) k)
       ⊎ (IsAtEnd left_new × IsFault read_line (lines_of input) k)
 
--- one byte more than the limit was taken, and the lines that had ended before it have no fault
+-- One byte more than the limit was taken, and the settled lines before it have no fault: those with a newline, and a last piece that is
+-- too long already.
 pub record CheckedPast (limit : ℕ) (left_old left_new : Option (List ℕ)) : Type 0 where
   pub input : List ℕ
   pub last : ℕ
   pub read : Consumes left_old left_new (input ++ last ∷ [])
   pub size : length input ≡ limit
-  pub front : IsFront read_line (ended_lines input)
+  pub front : IsFront read_line (settled_lines input)

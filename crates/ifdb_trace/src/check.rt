@@ -21,7 +21,7 @@ pub enum TraceEnd {
     ReadFault,
     /// There was no memory, to begin with or for a step.
     OutOfMemory,
-    /// The input has more bytes than the limit, and the lines before it have no fault.
+    /// The input has more bytes than the limit. The lines that ended before it have no fault, and no line before it is too long.
     TooLarge,
 }
 
