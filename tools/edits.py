@@ -294,13 +294,13 @@ def laid_out(crate: str) -> Iterator[Path]:
         top = Path(folder)
         for name in ("crates.txt", "HANDLES"):
             (top / name).symlink_to(TOP / name)
-        (top / "crates" / crate / "must-fail").mkdir(parents=True)
-        for other in (TOP / "crates").iterdir():
-            if other.name != crate:
-                (top / "crates" / other.name).symlink_to(other)
-        for part in (TOP / "crates" / crate).iterdir():
-            if part.name != "must-fail":
-                (top / "crates" / crate / part.name).symlink_to(part)
+        for other in (TOP / "crates").iterdir():  # (rt wants each crate's own folder to be here)
+            here = top / "crates" / other.name
+            here.mkdir(parents=True)
+            for part in other.iterdir():
+                if (other.name, part.name) != (crate, "must-fail"):
+                    (here / part.name).symlink_to(part)
+        (top / "crates" / crate / "must-fail").mkdir()
         for edit in Tree(TOP).edits(crate):
             shutil.copyfile(edit, top / "crates" / crate / "must-fail" / edit.name.removesuffix(ASIDE))
         yield top
