@@ -1,5 +1,5 @@
 -- What a client is answered, by what its request came to.
-use Rattle.std.proofs.Common.{◌≡◌, ℕ, true, false, List, ◌∙◌, refl, sym, ap, subst, Option, Some, None, inl, inr}
+use Rattle.std.proofs.Common.{◌≡◌, ℕ, Bool, true, false, cond, List, ◌∙◌, refl, sym, ap, subst, Option, Some, None, inl, inr}
 use Rattle.std.specs.Prelude.{◌⊎◌, Result, Ok, Err}
 use Rattle.ifdb_syntax.specs.declared.request.Request.{Request}
 use Rattle.ifdb_wire.specs.declared.fault.Fault.{Fault}
@@ -7,18 +7,21 @@ use Rattle.ifdb_wire.specs.declared.fault.Fault.TheVariants as fault
 use Rattle.ifdb_wire.specs.declared.reply.Reply.{Reply}
 use Rattle.ifdb_wire.specs.declared.reply.Reply.TheVariants as reply
 use Rattle.ifdb_model.specs.Log.{Entry, changes, commits}
-use Rattle.ifdb_model.specs.Session.{Session, Seen, Txn}
+use Rattle.ifdb_model.specs.Session.{Session, Seen, Txn, in_txn}
 use Rattle.ifdb_bound.specs.Query.{label_names}
-use Rattle.ifdb_catalog.specs.Public.{tag_names, clearance_of}
-use Rattle.ifdb_model.specs.Step.{Form, greets, form_of, Outcome, tells, refuses, welcomed, hello, show_label, bye, answered_as, answered_new}
+use Rattle.ifdb_bound.specs.declared.request.Bound.{Bound}
+use Rattle.ifdb_bound.specs.declared.request.Bound.TheVariants as bound
+use Rattle.ifdb_bound.specs.declared.request.Change.{Change}
+use Rattle.ifdb_catalog.specs.Public.{Public, refusal, tag_names, clearance_of}
+use Rattle.ifdb_model.specs.Step.{Form, greets, publishes, form_of, Outcome, tells, refuses, welcomed, hello, show_label, bye, answered_as, answered_new, is_empty, publish, publish_bound, publish_it}
 use Rattle.ifdb_db.specs.Client.{Open, Client, Standing, standing, at_label, client_of, session_at, txn_at, seen_by, IsBased}
 use Rattle.ifdb_db.specs.Desk.{Desk, with_entry, settled, moved, begins_after}
 use Rattle.ifdb_db.specs.Answer.{answered_by, fault_of, IsDone, IsUndone, IsAnswered, IsStill}
 use Rattle.ifdb_db.specs.Inside.{session_of, Says, Denies, IsSaid, IsSaidAlike, Inside, IsReplied, IsDenied}
 use Rattle.ifdb_db.specs.Outside.{outside, IsAdded, IsNotAdded, IsPublished}
-use Rattle.ifdb_db.specs.Kept.{IsSound, IsKept}
+use Rattle.ifdb_db.specs.Kept.{IsSound, IsBegun, IsKept, IsHeld}
 use Rattle.ifdb_db.proofs.BeginLaws.{is_settled}
-use Rattle.ifdb_db.proofs.Keeping.{label_kept_by}
+use Rattle.ifdb_db.proofs.Keeping.{held_by, label_kept_by, not_begun}
 use Rattle.ifdb_db.proofs.Saying.{said_under}
 
 -- the parts of a client
@@ -159,9 +162,48 @@ module _ (asker : ℕ) (r : Request) (x y : Desk) (c : Client) where
   published_keeps (Ok told) a k = subst (λ (z : Desk). IsKept z.seen.public c) (sym a.desk) (label_kept_by x a.added c.label c.txn k)
   published_keeps (Err g) a k = subst (λ (z : Desk). IsKept z.seen.public c) (sym a.desk) k
 
+  pub published_holds : (told : Result Reply Fault) → IsPublished asker c.label r x y told → IsHeld x c → IsHeld y c
+  published_holds (Ok told) a k = subst (λ (z : Desk). IsHeld z c) (sym a.desk) (held_by x a.added c.label c.txn k)
+  published_holds (Err g) a k = subst (λ (z : Desk). IsHeld z c) (sym a.desk) k
+
   pub published_is_still : (told : Result Reply Fault) → IsPublished asker c.label r x y told → IsStill c c x y told
   published_is_still (Ok told) a = λ u. absurd (a.bounded u)
   published_is_still (Err g) a = tt
+
+-- a public change leaves a session without a transaction
+module _ (p : Public) (s : Session) where
+  made_stays : (c : Change) (o : Option Fault) → (publish_it s c o).session ≡ s
+  made_stays c None = refl
+  made_stays c (Some f) = refl
+
+  bound_stays : (found : Result Bound Fault) → (publish_bound p s found).session ≡ s
+  bound_stays (Err f) = refl
+  bound_stays (Ok (bound.Change c)) = made_stays c (refusal p c)
+  bound_stays (Ok (bound.SetLabel label)) = refl
+  bound_stays (Ok (bound.Select q)) = refl
+  bound_stays (Ok (bound.Insert table rows given)) = refl
+  bound_stays (Ok (bound.Update table assignments cond given)) = refl
+  bound_stays (Ok (bound.Delete table cond)) = refl
+  bound_stays (Ok bound.Other) = refl
+
+  publish_stays : (found : Result Bound Fault) → (publish p s found).session ≡ s
+  publish_stays found = by (in_txn s.txn) (is_empty s.label) where
+    by : (t e : Bool) → (cond t (refuses s fault.InTransaction) (cond e (publish_bound p s found) (refuses s fault.LabelNotEmpty))).session ≡ s
+    by true e = refl
+    by false true = bound_stays found
+    by false false = refl
+
+none_left : (t : Option Open) → txn_at t ≡ None → t ≡ None
+none_left None e = refl
+none_left (Some x) e = cc
+
+pub publish_holds : (x y : Desk) (c e : Client) (asker : ℕ) (r : Request) (told : Result Reply Fault) → c.txn ≡ None → form_of r ≡ publishes
+    → IsAnswered (answered_by x c (Some asker) r) c e x y told → IsKept y.seen.public e → IsHeld y e
+publish_holds x y c e asker r (Ok told) n f a k =
+    let stays = ap (λ (o : Outcome). o.session) (by_form x c asker r publishes f) ∙ publish_stays (seen_by x.seen c.txn).public (session_at c) _ in
+    let none : txn_at e.txn ≡ None = ap (λ (s : Session). s.txn) (a.session ∙ stays) ∙ ap txn_at n in
+    (k, not_begun y.seen y.count e.txn (none_left e.txn none))
+publish_holds x y c e asker r (Err g) n f a k = (k, not_begun y.seen y.count e.txn (ap (λ (z : Client). z.txn) a.client ∙ n))
 
 -- what was said over what all see
 module _ (asker : ℕ) (r : Request) (x : Desk) (c e : Client) where

@@ -24,7 +24,7 @@ module _ (d : Desk) (st : State) (w : IsOf d st) where
   seen_same (Some x) o = ap (λ (z : Seen). record { public = z.public; rows = after z.rows x.own }) (sym o.1)
 
   -- the store stands for the log
-  stands : StandsFor (record { rows = d.seen.rows; next = None; commits = d.commits }) (stamped_from 0 st.log) (oldest d)
+  stands : StandsFor (record { rows = d.seen.rows; commits = d.commits }) (stamped_from 0 st.log) (oldest d)
   stands = record {
     rows = ap (λ (z : Seen). z.rows) w.seen ∙ ap (content_from []) (sym (writes_stamped 0 st.log));
     commits = w.commits;
@@ -35,7 +35,7 @@ module _ (d : Desk) (st : State) (w : IsOf d st) where
       → verdict_fault (judged st.log s (record { begin = x.begin; own = x.own })) ≡ fault_of d l (Some x)
   judged_same l x s e le =
       let tags : all_tags st.log ≡ tags_of d.seen.public = ap (λ (z : Seen). tags_of z.public) (sym w.seen) in
-      let over = judges_a_log (tags_of d.seen.public) (record { rows = d.seen.rows; next = None; commits = d.commits }) st.log (oldest d) x.begin x.own l stands le in
+      let over = judges_a_log (tags_of d.seen.public) (record { rows = d.seen.rows; commits = d.commits }) st.log (oldest d) x.begin x.own l stands le in
       ap verdict_fault ((λ i. judged_with (tags i) (e i)) ∙ sym over) where
         judged_with : List MadeTag → List ℕ → Verdict
         judged_with tags label = verdict tags (content_of st.log) (written_of (drop x.begin st.log)) x.own label

@@ -21,7 +21,7 @@ use Rattle.ifdb_snapshot.proofs.PublicStates.{all_push, made_more, tags_grow}
 use Rattle.ifdb_snapshot.proofs.Sound.{sound_changed, sound_written, write_changed}
 use Rattle.ifdb_db.specs.Client.{Open, Client}
 use Rattle.ifdb_db.specs.Desk.{Desk, oldest, settled, with_entry, moved}
-use Rattle.ifdb_db.specs.Kept.{IsSound, Outgrows, IsLabelKept, IsKept, AreKept, are_ordered, keeps_parents}
+use Rattle.ifdb_db.specs.Kept.{IsSound, Outgrows, Began, IsBegun, IsLabelKept, IsKept, IsHeld, AreHeld, are_ordered, keeps_parents}
 use Rattle.ifdb_db.proofs.BeginLaws.{trimmed_later, trimmed_all, ordered_more}
 
 -- ---- public states that grow
@@ -52,12 +52,33 @@ pub label_kept_by : (d : Desk) (e : Option Entry) (l : List ℕ) (t : Option Ope
 label_kept_by d e l None k = made_more (length d.seen.public.tags) (length (with_entry d e).seen.public.tags) l (tags_by d e) k
 label_kept_by d e l (Some x) k = (k.0, outgrows_by x.base.public d.seen d e k.1)
 
--- a client is kept as the desk moves
-pub kept_moved : (d : Desk) (s : Session) (o : Outcome) (c : Client) → IsKept d.seen.public c → IsKept (moved s o d).seen.public c
-kept_moved d s o c k = label_kept_by d o.added c.label c.txn k
+-- a desk that moves goes on to hold a client
+begun_by : (d : Desk) (e : Option Entry) (t : Option Open) → IsBegun d.seen d.count t → IsBegun (with_entry d e).seen (with_entry d e).count t
+begun_by d e None b = tt
+begun_by d None (Some x) b = b
+begun_by d (Some (changes c)) (Some x) b = let le = b.within in record { within = omega (arith, le); rows = λ same. absurd (omega (arith, le, same)) }
+begun_by d (Some (commits ws)) (Some x) b = let le = b.within in record { within = omega (arith, le); rows = λ same. absurd (omega (arith, le, same)) }
 
-pub all_kept_moved : (d e : Desk) (s : Session) (o : Outcome) (clients : List Client) → e ≡ moved s o d → AreKept d.seen.public clients → AreKept e.seen.public clients
-all_kept_moved d e s o clients m k = λ i x lt. subst (λ (z : Desk). IsKept z.seen.public (slice_index_or clients i x)) (sym m) (kept_moved d s o (slice_index_or clients i x) (k i x lt))
+pub held_by : (d : Desk) (e : Option Entry) (l : List ℕ) (t : Option Open) → IsLabelKept d.seen.public l t × IsBegun d.seen d.count t
+    → IsLabelKept (with_entry d e).seen.public l t × IsBegun (with_entry d e).seen (with_entry d e).count t
+held_by d e l t k = (label_kept_by d e l t k.0, begun_by d e t k.1)
+
+pub all_held_moved : (d e : Desk) (s : Session) (o : Outcome) (clients : List Client) → e ≡ moved s o d → AreHeld d clients → AreHeld e clients
+all_held_moved d e s o clients m k = λ i x lt.
+    let c = slice_index_or clients i x in
+    subst (λ (z : Desk). IsHeld z c) (sym m) (held_by d o.added c.label c.txn (k i x lt))
+
+-- no transaction is open
+pub not_begun : (now : Seen) (n : ℕ) (t : Option Open) → t ≡ None → IsBegun now n t
+not_begun now n t e = subst (IsBegun now n) (sym e) tt
+
+-- the transaction goes on, over what it began with
+pub held_on : (now : Seen) (n : ℕ) (l m : List ℕ) (x y : Open) → y.begin ≡ x.begin → y.base ≡ x.base → AreMade (length y.base.public.tags) m
+    → IsLabelKept now.public l (Some x) × IsBegun now n (Some x) → IsLabelKept now.public m (Some y) × IsBegun now n (Some y)
+held_on now n l m x y b e made k = (
+  (made, subst (λ (z : Seen). Outgrows z.public now.public) (sym e) k.0.1),
+  subst (λ (z : Seen). Began y.begin z now n) (sym e) (subst (λ i. Began i x.base now n) (sym b) k.1),
+)
 
 -- a label of a transaction is one of now
 pub label_of_now : (p : Public) (l : List ℕ) (x : Open) → IsLabelKept p l (Some x) → AreMade (length p.tags) l
@@ -74,16 +95,30 @@ made_now p c k = kept_over p c.label c.txn k
 pub kept_outside : (p : Public) (c : Client) → c.txn ≡ None → AreMade (length p.tags) c.label → IsKept p c
 kept_outside p c n m = subst (λ (t : Option Open). IsLabelKept p c.label t) (sym n) m
 
-pub ended_kept : (x y : Desk) (c : Client) (l : List ℕ) (t : Option Open) (begins : List ℕ) → IsKept x.seen.public c → y ≡ settled (record x { begins = begins }) → l ≡ c.label → t ≡ None → IsLabelKept y.seen.public l t
+pub made_held : (d : Desk) (c : Client) → IsHeld d c → AreMade (length d.seen.public.tags) c.label
+made_held d c k = made_now d.seen.public c k.0
+
+pub held_outside : (d : Desk) (c : Client) → c.txn ≡ None → AreMade (length d.seen.public.tags) c.label → IsHeld d c
+held_outside d c n m = (kept_outside d.seen.public c n m, not_begun d.seen d.count c.txn n)
+
+ended_kept : (x y : Desk) (c : Client) (l : List ℕ) (t : Option Open) (begins : List ℕ) → IsKept x.seen.public c → y ≡ settled (record x { begins = begins }) → l ≡ c.label → t ≡ None → IsLabelKept y.seen.public l t
 ended_kept x y c l t begins k m e n =
     subst (λ (z : Desk). IsLabelKept z.seen.public l t) (sym m)
     (subst (λ (o : Option Open). IsLabelKept x.seen.public l o) (sym n) (subst (AreMade (length x.seen.public.tags)) (sym e) (made_now x.seen.public c k)))
 
-pub installed_kept : (x y : Desk) (c : Client) (l : List ℕ) (t : Option Open) (ws : List Write) (begins : List ℕ) → IsKept x.seen.public c
+installed_kept : (x y : Desk) (c : Client) (l : List ℕ) (t : Option Open) (ws : List Write) (begins : List ℕ) → IsKept x.seen.public c
     → y ≡ settled (record (with_entry x (Some (commits ws))) { begins = begins }) → l ≡ c.label → t ≡ None → IsLabelKept y.seen.public l t
 installed_kept x y c l t ws begins k m e n =
     subst (λ (z : Desk). IsLabelKept z.seen.public l t) (sym m)
     (subst (λ (o : Option Open). IsLabelKept x.seen.public l o) (sym n) (subst (AreMade (length x.seen.public.tags)) (sym e) (made_now x.seen.public c k)))
+
+pub ended_held : (x y : Desk) (c : Client) (l : List ℕ) (t : Option Open) (begins : List ℕ) → IsHeld x c → y ≡ settled (record x { begins = begins }) → l ≡ c.label → t ≡ None
+    → IsLabelKept y.seen.public l t × IsBegun y.seen y.count t
+ended_held x y c l t begins k m e n = (ended_kept x y c l t begins k.0 m e n, not_begun y.seen y.count t n)
+
+pub installed_held : (x y : Desk) (c : Client) (l : List ℕ) (t : Option Open) (ws : List Write) (begins : List ℕ) → IsHeld x c
+    → y ≡ settled (record (with_entry x (Some (commits ws))) { begins = begins }) → l ≡ c.label → t ≡ None → IsLabelKept y.seen.public l t × IsBegun y.seen y.count t
+installed_held x y c l t ws begins k m e n = (installed_kept x y c l t ws begins k.0 m e n, not_begun y.seen y.count t n)
 
 -- ---- commits of made tags
 

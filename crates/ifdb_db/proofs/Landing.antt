@@ -45,7 +45,7 @@ module _ (d : Desk) (k : IsSound d) (rows : List Row) (cs : List Commit) (n : �
   -- a commit, by which these transactions are left
   pub landed : (ws : List Write) (bs began : List ℕ) (s : Kept) (r0 : List Row) (c0 : List Commit) → bs ≡ began → are_ordered began (d.count + 1) ≡ true
       → are_fit d.seen.public ws ≡ true → are_fitting ws ≡ true → keeps_parents d.seen.rows ws ≡ true
-      → r0 ≡ d.seen.rows → c0 ≡ d.commits → s ≡ record { rows = after r0 ws; next = None; commits = c0 ++ record { stamp = d.count + 1; writes = ws } ∷ [] }
+      → r0 ≡ d.seen.rows → c0 ≡ d.commits → s ≡ record { rows = after r0 ws; commits = c0 ++ record { stamp = d.count + 1; writes = ws } ∷ [] }
       → rows ≡ s.rows → n ≡ oldest_of bs (d.count + 1) → cs ≡ trimmed n s.commits
       → IsSound (record { seen = record d.seen { rows = rows }; commits = cs; count = d.count + 1; begins = bs })
   landed ws bs began s r0 c0 e o f g p r c i h m t =

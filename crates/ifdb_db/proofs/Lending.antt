@@ -16,12 +16,12 @@ use Rattle.ifdb_model.specs.Step.{Form, greets, publishes, relabels, shows_label
 use Rattle.ifdb_model.specs.Run.{State, session_of, with_outcome, asks, next}
 use Rattle.ifdb_db.specs.Client.{Open, Client, Standing, at_label, client_of, session_at, txn_at}
 use Rattle.ifdb_db.specs.Inside.{is_end, Inside, IsReplied, IsLeft, IsDenied}
-use Rattle.ifdb_db.specs.Kept.{IsLabelKept, IsKept, Outgrows}
+use Rattle.ifdb_db.specs.Kept.{IsBegun, IsLabelKept, IsHeld}
 use Rattle.ifdb_db.specs.Lent.{IsLabelInside, IsLent, GoesOn, Answers, EndsTransaction, with_client, MayComeBack}
 use Rattle.ifdb_db.specs.Reading.{read_line}
 use Rattle.ifdb_db.specs.Room.{Hall, times, begin_of, begins_of, IsOver, StandsFor, IsSoundRoom, no_client, client_in}
 use Rattle.ifdb_db.proofs.DeskLaws.{times_set}
-use Rattle.ifdb_db.proofs.Keeping.{all_set}
+use Rattle.ifdb_db.proofs.Keeping.{all_set, held_on}
 use Rattle.ifdb_db.proofs.RoomLaws.{IsThere, at_open, same_session, as_many, index_map, set_map, set_itself, over_at}
 
 -- ---- transactions that go on
@@ -123,18 +123,21 @@ unread_so line c f k (inr e) = (
 
 -- ---- a client comes back
 
-pub kept_back : (h : Hall) (n : ℕ) (c : Client) → IsSoundRoom h → MayComeBack h n c → IsKept h.desk.seen.public c
-kept_back h n c sound m = by (client_in h n).txn c.txn m.goes_on m.lent.label kept where
-  kept : IsKept h.desk.seen.public (client_in h n)
-  kept = let t = at_open h n m.is_open in subst (IsKept h.desk.seen.public) (sym t.at) (sound.clients (n - 1) no_client t.there)
+pub held_back : (h : Hall) (n : ℕ) (c : Client) → IsSoundRoom h → MayComeBack h n c → IsHeld h.desk c
+held_back h n c sound m = by (client_in h n).txn c.txn m.goes_on m.lent.label held where
+  now : Seen
+  now = h.desk.seen
 
-  by : (t u : Option Open) → GoesOn t u → IsLabelInside c.label u → IsLabelKept h.desk.seen.public (client_in h n).label t → IsLabelKept h.desk.seen.public c.label u
+  held : IsHeld h.desk (client_in h n)
+  held = let t = at_open h n m.is_open in subst (IsHeld h.desk) (sym t.at) (sound.clients (n - 1) no_client t.there)
+
+  by : (t u : Option Open) → GoesOn t u → IsLabelInside c.label u → IsLabelKept now.public (client_in h n).label t × IsBegun now h.desk.count t → IsLabelKept now.public c.label u × IsBegun now h.desk.count u
   by None u g l k = absurd g
   by (Some x) None g l k = absurd g
-  by (Some x) (Some y) g l k = (l, subst (λ (z : Seen). Outgrows z.public h.desk.seen.public) (sym g.1) k.1)
+  by (Some x) (Some y) g l k = held_on now h.desk.count (client_in h n).label c.label x y g.0 g.1 l k
 
-pub kept_there : (h : Hall) (n : ℕ) → IsSoundRoom h → (client_in h n).is_open ≡ true → IsKept h.desk.seen.public (client_in h n)
-kept_there h n sound o = let t = at_open h n o in subst (IsKept h.desk.seen.public) (sym t.at) (sound.clients (n - 1) no_client t.there)
+pub held_there : (h : Hall) (n : ℕ) → IsSoundRoom h → (client_in h n).is_open ≡ true → IsHeld h.desk (client_in h n)
+held_there h n sound o = let t = at_open h n o in subst (IsHeld h.desk) (sym t.at) (sound.clients (n - 1) no_client t.there)
 
 -- it stands in its place then
 pub put_there : (h : Hall) (n : ℕ) (c : Client) → (client_in h n).is_open ≡ true → client_in (with_client h n c) n ≡ c

@@ -9,6 +9,7 @@ use Rattle.ifdb_row.specs.Writes.{are_rising, are_fitting}
 use Rattle.ifdb_store.specs.Kept.{is_later}
 use Rattle.ifdb_store.specs.Later.{are_commits_made}
 use Rattle.ifdb_catalog.specs.Public.{Public}
+use Rattle.ifdb_model.specs.Session.{Seen}
 use Rattle.ifdb_snapshot.specs.Sound.{is_sound}
 use Rattle.ifdb_snapshot.specs.Writing.{is_fit, are_fit}
 use Rattle.ifdb_db.specs.Client.{Open, Client}
@@ -55,6 +56,19 @@ IsLabelKept p label (Some x) = AreMade (length x.base.public.tags) label × Outg
 abbrev pub IsKept : Public → Client → Type 0
 IsKept p c = IsLabelKept p c.label c.txn
 
--- and with those of all clients
-abbrev pub AreKept : Public → List Client → Type 0
-AreKept p clients = All (IsKept p) clients
+-- the log has no fewer entries than at a BEGIN, and where it has no more, the rows are those of then
+pub record Began (begin : ℕ) (then now : Seen) (count : ℕ) : Type 0 where
+  pub within : begin ≤ count
+  pub rows : begin ≡ count → then.rows ≡ now.rows
+
+-- that is so of the transaction that is open, if one is
+abbrev pub IsBegun : Seen → ℕ → Option Open → Type 0
+IsBegun now count None = Unit {0}
+IsBegun now count (Some x) = Began x.begin x.base now count
+
+-- a desk holds a client, and all of some
+abbrev pub IsHeld : Desk → Client → Type 0
+IsHeld d c = IsKept d.seen.public c × IsBegun d.seen d.count c.txn
+
+abbrev pub AreHeld : Desk → List Client → Type 0
+AreHeld d clients = All (IsHeld d) clients

@@ -9,7 +9,7 @@ use Rattle.ifdb_model.specs.Run.{State}
 use Rattle.ifdb_db.specs.Answer.{answered}
 use Rattle.ifdb_db.specs.Client.{Open, Client, session_at}
 use Rattle.ifdb_db.specs.Desk.{Desk, oldest}
-use Rattle.ifdb_db.specs.Kept.{AreKept, IsSound}
+use Rattle.ifdb_db.specs.Kept.{AreHeld, IsSound}
 use Rattle.ifdb_db.specs.Reading.{read_line}
 
 -- what all see outside transactions, and the clients by number from 1
@@ -75,4 +75,4 @@ outcome_in h n line =
 -- what is true of every room
 pub record IsSoundRoom (h : Hall) : Type 0 where
   pub desk : IsSound h.desk
-  pub clients : AreKept h.desk.seen.public h.clients
+  pub clients : AreHeld h.desk h.clients

@@ -3,7 +3,7 @@ ghost use Rattle.std.specs.Prelude.{◌≡◌, ◌≤◌, ◌^◌, [], None, IfO
 ghost use Rattle.ifdb_catalog.specs.Public.{opening as first_public, tag_names, tags_of};
 ghost use Rattle.ifdb_db.specs.Answer.{answered, IsAnswered, IsStill};
 ghost use Rattle.ifdb_db.specs.Desk.{settled};
-ghost use Rattle.ifdb_db.specs.Kept.{IsKept, IsSound};
+ghost use Rattle.ifdb_db.specs.Kept.{IsHeld, IsSound};
 ghost use Rattle.ifdb_db.specs.Looks.{client_of_sight};
 ghost use Rattle.ifdb_db.specs.Reading.{read_line};
 
@@ -87,10 +87,10 @@ impl Db {
     /// Answers a line of an open session. An error is a refusal or want of memory, and changes nothing.
     pub fn ask(&mut self, session: &mut Session, line: ReadLine<'_>) -> Result<Reply, Fault>
         requires open { IsTrue session.old.is_open }
-        requires kept { IsKept self.old.seen.public session.old }
+        requires kept { IsHeld self.old session.old }
         ensures answered { IsAnswered (answered self.old session.old (read_line line.entry))
             session.old session.new self.old self.new result }
-        ensures kept { IsKept self.new.seen.public session.new }
+        ensures kept { IsHeld self.new session.new }
         ensures still { IsStill session.old session.new self.old self.new result }
     {
         let request = line.into_request()?;
@@ -100,7 +100,7 @@ impl Db {
     /// What a session outside a transaction sees, if it said HELLO; `None` too where there is no memory.
     pub(crate) fn sight(&self, session: &Session) -> Option<Sight>
         requires open { IsTrue session.now.is_open }
-        requires kept { IsKept self.now.seen.public session.now }
+        requires kept { IsHeld self.now session.now }
         ensures client { IfSome result (λ sight. session.now ≡ client_of_sight session.now.ceiling sight) }
         ensures seen { IfSome result (λ sight. sight.seen ≡ self.now.seen) }
     {

@@ -34,7 +34,7 @@ pub struct Room {
 }
 
 impl Model for Room {
-    ghost use Rattle.ifdb_db.specs.Kept.{AreKept};
+    ghost use Rattle.ifdb_db.specs.Kept.{AreHeld};
     ghost use Rattle.ifdb_db.specs.Room.{Hall};
 
     ghost Value = { Hall };
@@ -47,7 +47,7 @@ impl Model for Room {
 
     ghost view = { λ r. record { desk = r.db; clients = r.sessions.items } };
 
-    ghost invariant = { λ r. AreKept r.db.seen.public r.sessions.items };
+    ghost invariant = { λ r. AreHeld r.db r.sessions.items };
 }
 
 impl Room {

@@ -1,6 +1,7 @@
 // Open transactions.
-ghost use Rattle.std.specs.Prelude.{◌≡◌, [], IfOk, IfSome, IsTrue, OnErr, OnOk};
+ghost use Rattle.std.specs.Prelude.{◌≡◌, ◌<◌, ◌+◌, ◌^◌, [], IfErr, IfOk, IfSome, IsTrue, OnErr, OnOk};
 ghost use Rattle.ifdb_row.specs.Writes.{are_fitting, merged};
+ghost use Rattle.ifdb_store.specs.Kept.{committed};
 ghost use Rattle.ifdb_snapshot.specs.Sound.{is_sound};
 ghost use Rattle.ifdb_snapshot.specs.Writing.{are_fit};
 ghost use Rattle.ifdb_db.specs.Inside.{seen_of};
@@ -10,7 +11,7 @@ mod ask;
 use crate::OutOfMemory;
 use ifdb_row::Writes;
 use ifdb_snapshot::{SharedState, Snapshot};
-use ifdb_store::Content;
+use ifdb_store::{Content, Store};
 use std::alloc::Global;
 use std::marker::Model;
 
@@ -131,11 +132,67 @@ impl Txn {
         Ok(())
     }
 
-    /// The transaction's own writes, once it is over.
-    pub(crate) fn into_own(self) -> Writes
-        ensures { result ≡ self.own }
+    /// Makes the transaction's writes in a store, as the commit behind so many entries of the log. Where no entry was added since
+    /// the BEGIN, the rows that the transaction sees become the store's. `Err` is want of memory, and gives it back.
+    pub(crate) fn commit(self, store: &mut Store, count: u64) -> Result<(), Txn>
+        requires few { count + 1 < 2 ^ 64 }
+        requires newest { self.begin ≡ count → self.base.rows ≡ store.old.rows }
+        ensures done { OnOk result (store.new
+            ≡ committed store.old (record { stamp = count + 1; writes = self.own })) }
+        ensures back { IfErr result (λ back. back ≡ self) }
+        ensures err { OnErr result (store.new ≡ store.old) }
     {
-        let Txn { own, .. } = self;
-        own
+        if self.begin == count {
+            return self.install(store, count + 1);
+        }
+        let Txn {
+            alloc,
+            begin,
+            public,
+            base,
+            rows,
+            own,
+        } = self;
+        match store.commit(count + 1, own) {
+            Ok(()) => Ok(()),
+            Err(own) => Err(Txn {
+                alloc,
+                begin,
+                public,
+                base,
+                rows,
+                own,
+            }),
+        }
+    }
+
+    /// Puts the rows that the transaction sees in place of a store's, which are still those of the BEGIN, as a commit of its writes.
+    /// `Err` is want of memory, and gives it back.
+    fn install(self, store: &mut Store, stamp: u64) -> Result<(), Txn>
+        requires newest { self.base.rows ≡ store.old.rows }
+        ensures done { OnOk result (store.new
+            ≡ committed store.old (record { stamp = stamp; writes = self.own })) }
+        ensures back { IfErr result (λ back. back ≡ self) }
+        ensures err { OnErr result (store.new ≡ store.old) }
+    {
+        let Txn {
+            alloc,
+            begin,
+            public,
+            base,
+            rows,
+            own,
+        } = self;
+        match store.install(stamp, own, rows) {
+            Ok(()) => Ok(()),
+            Err((own, rows)) => Err(Txn {
+                alloc,
+                begin,
+                public,
+                base,
+                rows,
+                own,
+            }),
+        }
     }
 }

@@ -2,7 +2,7 @@
 ghost use Rattle.std.specs.Prelude.{◌≡◌, Some, IsTrue};
 ghost use Rattle.ifdb_snapshot.specs.Narrow.{is_narrow};
 ghost use Rattle.ifdb_db.specs.Answer.{answered_by, IsAnswered, IsStill};
-ghost use Rattle.ifdb_db.specs.Kept.{IsKept};
+ghost use Rattle.ifdb_db.specs.Kept.{IsHeld};
 
 use super::Db;
 use crate::session::Session;
@@ -16,11 +16,11 @@ impl Db {
     pub(super) fn answer(&mut self, session: &mut Session, request: Request) -> Result<Reply, Fault>
         requires narrow { IsTrue (is_narrow request) }
         requires open { IsTrue session.old.is_open }
-        requires kept { IsKept self.old.seen.public session.old }
+        requires kept { IsHeld self.old session.old }
         ensures answered { IsAnswered
             (answered_by self.old session.old session.old.principal request)
             session.old session.new self.old self.new result }
-        ensures kept { IsKept self.new.seen.public session.new }
+        ensures kept { IsHeld self.new session.new }
         ensures still { IsStill session.old session.new self.old self.new result }
     {
         match session.principal {
@@ -43,10 +43,10 @@ impl Db {
         requires narrow { IsTrue (is_narrow request) }
         requires open { IsTrue session.old.is_open }
         requires asker { session.old.principal ≡ Some asker }
-        requires kept { IsKept self.old.seen.public session.old }
+        requires kept { IsHeld self.old session.old }
         ensures answered { IsAnswered (answered_by self.old session.old (Some asker) request)
             session.old session.new self.old self.new result }
-        ensures kept { IsKept self.new.seen.public session.new }
+        ensures kept { IsHeld self.new session.new }
         ensures still { IsStill session.old session.new self.old self.new result }
     {
         self.is_sound();

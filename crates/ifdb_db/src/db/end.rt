@@ -5,7 +5,7 @@ ghost use Rattle.ifdb_model.specs.Step.{begin, bye, rollback};
 ghost use Rattle.ifdb_db.specs.Answer.{begun_at, commits_by, fault_at, fault_of, IsAnswered, IsStill};
 ghost use Rattle.ifdb_db.specs.Client.{left_client, session_at, txn_at};
 ghost use Rattle.ifdb_db.specs.Desk.{begins_after, moved, settled, with_entry, without};
-ghost use Rattle.ifdb_db.specs.Kept.{IsKept, IsLabelKept, keeps_parents, Outgrows};
+ghost use Rattle.ifdb_db.specs.Kept.{Began, IsHeld, IsLabelKept, keeps_parents, Outgrows};
 
 use super::Db;
 use crate::OutOfMemory;
@@ -20,10 +20,10 @@ impl Db {
     /// BEGIN of a session without a transaction. It takes room to note where the transaction began.
     pub(super) fn begin(&mut self, session: &mut Session) -> Result<Reply, Fault>
         requires outside { session.old.txn ≡ None }
-        requires kept { IsKept self.old.seen.public session.old }
+        requires kept { IsHeld self.old session.old }
         ensures answered { IsAnswered (begin self.old.count (session_at session.old))
             session.old session.new self.old self.new result }
-        ensures kept { IsKept self.new.seen.public session.new }
+        ensures kept { IsHeld self.new session.new }
         ensures still { IsStill session.old session.new self.old self.new result }
     {
         let txn = self.begun()?;
@@ -47,10 +47,10 @@ impl Db {
 
     /// COMMIT: first the verdict, then the memory, then the writes.
     pub(super) fn commit(&mut self, session: &mut Session) -> Result<Reply, Fault>
-        requires kept { IsKept self.old.seen.public session.old }
+        requires kept { IsHeld self.old session.old }
         ensures answered { IsAnswered (commits_by self.old session.old)
             session.old session.new self.old self.new result }
-        ensures kept { IsKept self.new.seen.public session.new }
+        ensures kept { IsHeld self.new session.new }
         ensures still { IsStill session.old session.new self.old self.new result }
         ensures memory_after_verdict { OnErr result (fault_at self.old session.old ≡ None) }
     {
@@ -90,6 +90,7 @@ impl Db {
     /// Makes the writes of a transaction that may commit, which is over then. `Err` is want of memory, and gives it back.
     fn install(&mut self, txn: Txn) -> Result<(), Txn>
         requires kept { Outgrows txn.base.public self.old.seen.public }
+        requires begun { Began txn.begin txn.base self.old.seen self.old.count }
         requires rooted { IsTrue (keeps_parents self.old.seen.rows txn.own) }
         ensures done { OnOk result
             (self.new ≡ settled (record (with_entry self.old (Some (commits txn.own))) {
@@ -98,23 +99,28 @@ impl Db {
         ensures back { IfErr result (λ back. back ≡ txn) }
         ensures err { OnErr result (self.new ≡ self.old) }
     {
-        if self.count == u64::MAX || self.store.reserve(txn.own()).is_err() {
+        if self.count == u64::MAX {
             return Err(txn);
         }
+        // That they fit is known of its own writes.
+        let _ = txn.own();
+        let begin = txn.begin();
         let before = oldest_of(&self.begins, self.count);
-        take_away(&mut self.begins, txn.begin());
+        if let Err(txn) = txn.commit(&mut self.store, self.count) {
+            return Err(txn);
+        }
+        take_away(&mut self.begins, begin);
         self.count += 1;
-        self.store.install(self.count, txn.into_own());
         settle(&mut self.store, before, oldest_of(&self.begins, self.count));
         Ok(())
     }
 
     /// ROLLBACK.
     pub(super) fn roll_back(&mut self, session: &mut Session) -> Result<Reply, Fault>
-        requires kept { IsKept self.old.seen.public session.old }
+        requires kept { IsHeld self.old session.old }
         ensures answered { IsAnswered (rollback (session_at session.old))
             session.old session.new self.old self.new result }
-        ensures kept { IsKept self.new.seen.public session.new }
+        ensures kept { IsHeld self.new session.new }
         ensures still { IsStill session.old session.new self.old self.new result }
     {
         let Some(txn) = session.txn.take() else {
@@ -126,11 +132,11 @@ impl Db {
 
     /// BYE, and a session that leaves without it: its transaction, if one is open, is over.
     pub fn leave(&mut self, session: &mut Session)
-        requires kept { IsKept self.old.seen.public session.old }
+        requires kept { IsHeld self.old session.old }
         ensures session { session.new ≡ left_client session.old }
         ensures desk { self.new
             ≡ moved (session_at session.old) (bye (session_at session.old)) self.old }
-        ensures kept { IsKept self.new.seen.public session.new }
+        ensures kept { IsHeld self.new session.new }
     {
         self.give_up(session);
         session.is_open = false;
@@ -138,12 +144,12 @@ impl Db {
 
     /// Ends a transaction, if one is open, and leaves its writes.
     fn give_up(&mut self, session: &mut Session)
-        requires kept { IsKept self.old.seen.public session.old }
+        requires kept { IsHeld self.old session.old }
         ensures session { session.new ≡ record session.old { txn = None } }
         ensures desk { self.new ≡ settled (record self.old {
           begins = begins_after (txn_at session.old.txn) None self.old.begins;
         }) }
-        ensures kept { IsKept self.new.seen.public session.new }
+        ensures kept { IsHeld self.new session.new }
     {
         self.is_settled();
         let Some(txn) = session.txn.take() else {

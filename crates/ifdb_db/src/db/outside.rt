@@ -3,7 +3,7 @@ ghost use Rattle.std.specs.Prelude.{◌≡◌, None, Some, IsTrue};
 ghost use Rattle.ifdb_snapshot.specs.Narrow.{is_narrow};
 ghost use Rattle.ifdb_db.specs.Answer.{answered_by, IsAnswered, IsStill};
 ghost use Rattle.ifdb_db.specs.Client.{seen_by, session_at};
-ghost use Rattle.ifdb_db.specs.Kept.{IsKept};
+ghost use Rattle.ifdb_db.specs.Kept.{IsHeld};
 ghost use Rattle.ifdb_model.specs.Step.{bye, form_of, hello, looks, relabels, show_label};
 
 use super::Db;
@@ -21,10 +21,10 @@ impl Db {
         session: &mut Session,
         request: &Request,
     ) -> Result<Reply, Fault>
-        requires kept { IsKept self.old.seen.public session.old }
+        requires kept { IsHeld self.old session.old }
         ensures answered { IsAnswered (answered_by self.old session.old None request.now)
             session.old session.new self.old self.new result }
-        ensures kept { IsKept self.new.seen.public session.new }
+        ensures kept { IsHeld self.new session.new }
         ensures still { IsStill session.old session.new self.old self.new result }
     {
         match request {
@@ -37,11 +37,11 @@ impl Db {
     /// HELLO of a session that didn't say it yet, which takes the principal's clearance as its ceiling.
     #[tactic(auto, using(crate::proofs::Answering::greets_so, crate::proofs::Answering::not_greeted, crate::proofs::Answering::not_welcomed))]
     fn greet(&mut self, session: &mut Session, name: &Name, key: &Word) -> Result<Reply, Fault>
-        requires kept { IsKept self.old.seen.public session.old }
+        requires kept { IsHeld self.old session.old }
         ensures answered { IsAnswered
             (hello self.old.seen.public (session_at session.old) name.now key.now)
             session.old session.new self.old self.new result }
-        ensures kept { IsKept self.new.seen.public session.new }
+        ensures kept { IsHeld self.new session.new }
         ensures still { IsStill session.old session.new self.old self.new result }
     {
         self.is_settled();
@@ -54,7 +54,7 @@ impl Db {
     }
 
     /// Answers a session without a transaction that said HELLO.
-    #[tactic(auto, using(crate::proofs::Answering::hello_twice))]
+    #[tactic(auto, using(crate::proofs::Answering::hello_twice, crate::proofs::Answering::publish_holds))]
     pub(super) fn answer_outside(
         &mut self,
         session: &mut Session,
@@ -65,10 +65,10 @@ impl Db {
         requires open { IsTrue session.old.is_open }
         requires asker { session.old.principal ≡ Some asker }
         requires outside { session.old.txn ≡ None }
-        requires kept { IsKept self.old.seen.public session.old }
+        requires kept { IsHeld self.old session.old }
         ensures answered { IsAnswered (answered_by self.old session.old (Some asker) request)
             session.old session.new self.old self.new result }
-        ensures kept { IsKept self.new.seen.public session.new }
+        ensures kept { IsHeld self.new session.new }
         ensures still { IsStill session.old session.new self.old self.new result }
     {
         match &request {
@@ -93,7 +93,7 @@ impl Db {
     }
 
     /// SET LABEL outside a transaction.
-    #[tactic(auto, using(crate::proofs::Answering::said_so, crate::proofs::Answering::said_is_still, crate::proofs::Keeping::made_now, crate::proofs::Keeping::kept_outside))]
+    #[tactic(auto, using(crate::proofs::Answering::said_so, crate::proofs::Answering::said_is_still, crate::proofs::Keeping::made_held, crate::proofs::Keeping::held_outside))]
     fn set_label(
         &mut self,
         session: &mut Session,
@@ -105,10 +105,10 @@ impl Db {
         requires open { IsTrue session.old.is_open }
         requires asker { session.old.principal ≡ Some asker }
         requires outside { session.old.txn ≡ None }
-        requires kept { IsKept self.old.seen.public session.old }
+        requires kept { IsHeld self.old session.old }
         ensures answered { IsAnswered (answered_by self.old session.old (Some asker) request)
             session.old session.new self.old self.new result }
-        ensures kept { IsKept self.new.seen.public session.new }
+        ensures kept { IsHeld self.new session.new }
         ensures still { IsStill session.old session.new self.old self.new result }
     {
         self.is_sound();
@@ -125,11 +125,11 @@ impl Db {
     #[tactic(auto, using(crate::proofs::Answering::label_told))]
     fn show_label(&mut self, session: &mut Session) -> Result<Reply, Fault>
         requires outside { session.old.txn ≡ None }
-        requires kept { IsKept self.old.seen.public session.old }
+        requires kept { IsHeld self.old session.old }
         ensures answered { IsAnswered
             (show_label (seen_by self.old.seen session.old.txn).public (session_at session.old))
             session.old session.new self.old self.new result }
-        ensures kept { IsKept self.new.seen.public session.new }
+        ensures kept { IsHeld self.new session.new }
         ensures still { IsStill session.old session.new self.old self.new result }
     {
         self.is_settled();
@@ -138,7 +138,7 @@ impl Db {
     }
 
     /// SELECT outside a transaction.
-    #[tactic(auto, using(crate::proofs::Answering::alike_so, crate::proofs::Answering::alike_is_still, crate::proofs::Keeping::made_now, crate::proofs::Keeping::kept_outside))]
+    #[tactic(auto, using(crate::proofs::Answering::alike_so, crate::proofs::Answering::alike_is_still, crate::proofs::Keeping::made_held, crate::proofs::Keeping::held_outside))]
     fn select(
         &mut self,
         session: &mut Session,
@@ -150,10 +150,10 @@ impl Db {
         requires open { IsTrue session.old.is_open }
         requires asker { session.old.principal ≡ Some asker }
         requires outside { session.old.txn ≡ None }
-        requires kept { IsKept self.old.seen.public session.old }
+        requires kept { IsHeld self.old session.old }
         ensures answered { IsAnswered (answered_by self.old session.old (Some asker) request)
             session.old session.new self.old self.new result }
-        ensures kept { IsKept self.new.seen.public session.new }
+        ensures kept { IsHeld self.new session.new }
         ensures still { IsStill session.old session.new self.old self.new result }
     {
         self.is_sound();
@@ -163,10 +163,10 @@ impl Db {
     /// BYE.
     #[tactic(auto, using(crate::proofs::Answering::says_bye))]
     pub(super) fn say_bye(&mut self, session: &mut Session) -> Result<Reply, Fault>
-        requires kept { IsKept self.old.seen.public session.old }
+        requires kept { IsHeld self.old session.old }
         ensures answered { IsAnswered (bye (session_at session.old))
             session.old session.new self.old self.new result }
-        ensures kept { IsKept self.new.seen.public session.new }
+        ensures kept { IsHeld self.new session.new }
         ensures still { IsStill session.old session.new self.old self.new result }
     {
         self.leave(session);

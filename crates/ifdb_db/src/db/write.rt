@@ -7,7 +7,7 @@ ghost use Rattle.ifdb_snapshot.specs.Narrow.{is_narrow};
 ghost use Rattle.ifdb_snapshot.specs.Writing.{are_fit};
 ghost use Rattle.ifdb_db.specs.Answer.{answered_by, IsAnswered, IsStill};
 ghost use Rattle.ifdb_db.specs.Desk.{settled, with_entry};
-ghost use Rattle.ifdb_db.specs.Kept.{IsKept, keeps_parents};
+ghost use Rattle.ifdb_db.specs.Kept.{IsHeld, keeps_parents};
 ghost use Rattle.ifdb_db.specs.Outside.{IsPublished, unless_orphaned, Writes as FindsWrites};
 ghost use Rattle.ifdb_model.specs.Writes.{is_delete};
 
@@ -26,7 +26,7 @@ use ifdb_wire::{Fault, Reply};
 
 impl Db {
     /// INSERT, UPDATE and DELETE outside a transaction.
-    #[tactic(auto, using(crate::proofs::Answering::published_answers, crate::proofs::Answering::published_keeps, crate::proofs::Answering::published_is_still, crate::proofs::Keeping::made_now))]
+    #[tactic(auto, using(crate::proofs::Answering::published_answers, crate::proofs::Answering::published_holds, crate::proofs::Answering::published_is_still, crate::proofs::Keeping::made_held))]
     pub(super) fn change_rows(
         &mut self,
         session: &mut Session,
@@ -38,10 +38,10 @@ impl Db {
         requires open { IsTrue session.old.is_open }
         requires asker { session.old.principal ≡ Some asker }
         requires outside { session.old.txn ≡ None }
-        requires kept { IsKept self.old.seen.public session.old }
+        requires kept { IsHeld self.old session.old }
         ensures answered { IsAnswered (answered_by self.old session.old (Some asker) request)
             session.old session.new self.old self.new result }
-        ensures kept { IsKept self.new.seen.public session.new }
+        ensures kept { IsHeld self.new session.new }
         ensures still { IsStill session.old session.new self.old self.new result }
     {
         self.change_rows_at(asker, &session.label, request)

@@ -2,7 +2,7 @@
 ghost use Rattle.std.specs.Prelude.{◌≡◌, None, IfErr, IfOk, IfSome, IsTrue, OnErr, OnOk};
 ghost use Rattle.ifdb_wire.specs.Text.{memory_text, reply_text};
 ghost use Rattle.ifdb_model.specs.Run.{asks, leaves};
-ghost use Rattle.ifdb_db.specs.Kept.{IsKept};
+ghost use Rattle.ifdb_db.specs.Kept.{IsHeld};
 ghost use Rattle.ifdb_db.specs.Lent.{IsLent, MayComeBack, with_client};
 ghost use Rattle.ifdb_db.specs.Looks.{IsLookOf, IsSightOf};
 ghost use Rattle.ifdb_db.specs.Room.{client_in};
@@ -97,7 +97,7 @@ impl Room {
     /// Puts a session in the place of an open one, which is given.
     fn put(&mut self, n: u64, session: Session) -> Session
         requires open { IsTrue (client_in self.old n).is_open }
-        requires kept { IsKept self.old.desk.seen.public session }
+        requires kept { IsHeld self.old.desk session }
         ensures put { self.new ≡ with_client self.old n session }
         ensures before { result ≡ client_in self.old n }
     {

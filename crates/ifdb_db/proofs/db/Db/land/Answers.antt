@@ -21,7 +21,6 @@ invariant_of-self-2 c =
     let parents = subst (λ (x : Desk). keeps_parents x.seen.rows c.args.writes ≡ true) (sym c.self.view_is) c.requires.rooted in
     let done : c.commit.new.self ≡ record {
       rows = after c.self.inside.store.rows c.args.writes;
-      next = None;
       commits = c.self.inside.store.commits ++ record { stamp = c.self.inside.count + 1; writes = c.args.writes } ∷ [];
     } = search rules in
     landed d c.self.invariant c.settle.new.store.rows c.settle.new.store.commits c.oldest_of.result c.args.writes d.begins d.begins c.commit.new.self _ _

@@ -3,20 +3,20 @@ use Rattle.std.specs.Prelude.{slice_set}
 use Rattle.std.proofs.lemmas.Grind.{common_steps}
 use Rattle.ifdb_db.specs.Answer.{answered}
 use Rattle.ifdb_db.specs.Client.{session_at}
-use Rattle.ifdb_db.specs.Kept.{IsKept}
+use Rattle.ifdb_db.specs.Kept.{IsHeld}
 use Rattle.ifdb_db.specs.Reading.{read_line}
 use Rattle.ifdb_db.specs.Room.{Hall, client_in}
 use Rattle.ifdb_db.specs.RoomSteps.{IsAsked}
-use Rattle.ifdb_db.proofs.Keeping.{all_kept_moved, all_set}
+use Rattle.ifdb_db.proofs.Keeping.{all_held_moved, all_set}
 use Rattle.ifdb_db.proofs.RoomLaws.{asked_open, at_open}
 use Rattle.ifdb_db.proofs.room.Room.answer_open.Goals as goal
 
 pub invariant_of-self-2 : goal.invariant_of-self-2
 invariant_of-self-2 c =
     let client = c.index_mut.result.now in
-    let others = all_kept_moved c.self.inside.db c.ask.new.self (session_at client) (answered c.self.inside.db client (read_line c.args.line)) c.self.inside.sessions.items
+    let others = all_held_moved c.self.inside.db c.ask.new.self (session_at client) (answered c.self.inside.db client (read_line c.args.line)) c.self.inside.sessions.items
     c.in_ok-reply.ensures.answered.desk c.self.invariant in
-    all_set (IsKept c.ask.new.self.seen.public) c.self.inside.sessions.items (c.args.n - 1) c.ask.new.session c.ask.ensures.kept others
+    all_set (IsHeld c.ask.new.self) c.self.inside.sessions.items (c.args.n - 1) c.ask.new.session c.ask.ensures.kept others
 
 pub returns : goal.returns
 returns c =
