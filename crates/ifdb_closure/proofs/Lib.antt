@@ -19,5 +19,7 @@ pub mod RanLaws
 pub mod Named
 pub mod Made
 pub mod FormParts
+pub mod Spelled
+pub mod Joined
 pub mod Spared
 pub mod ScriptBounds
