@@ -22,4 +22,6 @@ pub mod FormParts
 pub mod Spelled
 pub mod Joined
 pub mod Spared
+pub mod Framed
+pub mod ToldBack
 pub mod ScriptBounds
