@@ -4,7 +4,7 @@ use Rattle.std.specs.Prelude.{◌≡◌, ◌≢◌, ℕ, List, codes, Some, None
 use Rattle.ifdb_io.specs.Causes.{Rose}
 use Rattle.ifdb_io.specs.declared.outside.Source as source
 use Rattle.ifdb_io.specs.declared.outside.Sink as sink
-use Rattle.ifdb_closure.specs.Ran.{RanWhole, RanFront, RanPast, RanCut, KeepsLevels}
+use Rattle.ifdb_closure.specs.Ran.{RanWhole, RanFront, RanPast, RanCut, IsToldByBytes, IsFramedRun, KeepsLevels}
 use Rattle.ifdb_words.specs.Limit.{limit_in}
 use Rattle.ifdb.specs.declared.top.Status.TheVariants as status
 use Rattle.ifdb.specs.declared.more.MoreStatus.{MoreStatus}
@@ -33,6 +33,10 @@ module _ {I O : Type 0} (inputs : source.Ghosts I) (outputs : sink.Ghosts O) whe
   -- the run of a script with closures, with this limit
   pub record RunsClosures (limit : ℕ) (input input' : I) (output output' : O) (end : MoreStatus) : Type 0 where
     pub done : end ≡ Base status.Done → RanWhole limit (inputs.left input) (inputs.left input') (outputs.written output) (outputs.written output')
+    pub told_by_bytes : end ≡ Base status.Done
+        → IsToldByBytes limit (inputs.left input) (inputs.left input') (outputs.written output) (outputs.written output')
+    pub framed : end ≡ Base status.Done
+        → IsFramedRun limit (inputs.left input) (inputs.left input') (outputs.written output) (outputs.written output')
     pub two_worlds : end ≡ Base status.Done
         → KeepsLevels limit (inputs.left input) (inputs.left input') (outputs.written output) (outputs.written output')
     pub read : end ≡ Base status.ReadFault → Rose (inputs.faults input) (inputs.faults input')

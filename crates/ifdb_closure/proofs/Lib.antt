@@ -19,5 +19,9 @@ pub mod RanLaws
 pub mod Named
 pub mod Made
 pub mod FormParts
+pub mod Spelled
+pub mod Joined
 pub mod Spared
+pub mod Framed
+pub mod ToldBack
 pub mod ScriptBounds

@@ -1,19 +1,24 @@
 -- What is so of every run that came to its end.
 use Rattle.std.proofs.Common.{◌≡◌, ℕ, Bool, true, false, List, [], ◌∷◌, ◌++◌, refl, sym, ap, ◌∙◌, cond, ◌&&◌, Option}
 use Rattle.std.specs.Prelude.{not}
+use Rattle.std.specs.List.{list_all}
 use Rattle.std.proofs.lemmas.Bool.{false≢true}
 use Rattle.std.proofs.Math.Seq.{take-append_seam, drop-append_seam}
 use Rattle.ifdb_model.specs.Run.{Step, Told}
 use Rattle.ifdb_model.specs.Script.{steps_of}
 use Rattle.ifdb_model.specs.Output.{reads_memory, texts}
 use Rattle.ifdb_laws.specs.Scripts.{none_reads_memory}
+use Rattle.ifdb_laws.specs.StepLaws.{MemoryIsNeverTold}
+use Rattle.ifdb_framing.specs.Framing.{is_framed}
 use Rattle.ifdb_closure.specs.Closures.{World, start, turn, after_turn, next_world, closure_replies}
 use Rattle.ifdb_closure.specs.Lacking.{Memory, enough, lacks, lacks_at, turn_with, told_with}
 use Rattle.ifdb_closure.specs.Levels.{closure_asked, closure_heard}
 use Rattle.ifdb_closure.specs.Speaking.{speech}
 use Rattle.ifdb_closure.specs.Standing.{IsToldAt}
-use Rattle.ifdb_closure.specs.Ran.{AreTold, RanWhole, closure_picked, KeepsLevels}
+use Rattle.ifdb_closure.specs.Ran.{AreTold, RanWhole, closure_picked, IsFramedRun, IsToldByBytes, KeepsLevels}
 use Rattle.ifdb_closure.proofs.Bounds.{memory_serves}
+use Rattle.ifdb_closure.proofs.Framed.{script_framed}
+use Rattle.ifdb_closure.proofs.ToldBack.{bytes_tell}
 use Rattle.ifdb_closure.proofs.ReadingBack.{lines_read_back}
 use Rattle.ifdb_closure.proofs.Worlds.{closures_two_worlds}
 
@@ -64,3 +69,14 @@ keeps_levels limit l0 l1 w0 w1 ran = (
       ap (λ told. texts (closure_picked level start steps told)) all ∙ ap texts (picks level start steps)
       ∙ closures_two_worlds speech lines_read_back level steps (steps_of other) agree.first agree.second agree.same,
 )
+
+-- what was told is framed
+ran_framed : (limit : ℕ) (l0 l1 w0 w1 : Option (List ℕ)) → (ran : RanWhole limit l0 l1 w0 w1) → list_all is_framed ran.told ≡ true
+ran_framed limit l0 l1 w0 w1 ran = ap (list_all is_framed) ran.played.all ∙ script_framed ran.input ran.played.memory
+
+pub is_framed_run : (limit : ℕ) (l0 l1 w0 w1 : Option (List ℕ)) → RanWhole limit l0 l1 w0 w1 → IsFramedRun limit l0 l1 w0 w1
+is_framed_run limit l0 l1 w0 w1 ran = (ran, ran_framed limit l0 l1 w0 w1 ran)
+
+pub told_by_bytes : MemoryIsNeverTold → (limit : ℕ) (l0 l1 w0 w1 : Option (List ℕ)) → RanWhole limit l0 l1 w0 w1 → IsToldByBytes limit l0 l1 w0 w1
+told_by_bytes never limit l0 l1 w0 w1 ran =
+    (ran, λ memory same. bytes_tell never ran.input memory ran.played.memory (same ∙ ap texts ran.played.all) ∙ sym ran.played.all)

@@ -1,15 +1,17 @@
 -- decides: closures
 -- What a run of a script with closures did: what it read, what it was told, and what it wrote of that.
 use Rattle.std.specs.Prelude.{◌≡◌, ℕ, ◌<◌, ◌≤◌, true, List, [], ◌∷◌, ◌++◌, length, take, drop, Option, if◌then◌else◌}
+use Rattle.std.specs.List.{list_all}
 use Rattle.std.specs.Io.KnownBytes.{Appends, Consumes, IsAtEnd}
 use Rattle.ifdb_io.specs.Lines.{IsLine}
 use Rattle.ifdb_model.specs.Run.{Step, asks, Told}
 use Rattle.ifdb_model.specs.Script.{steps_of}
 use Rattle.ifdb_model.specs.Output.{texts, text_of}
 use Rattle.ifdb_laws.specs.Scripts.{none_reads_memory}
+use Rattle.ifdb_framing.specs.Framing.{is_framed}
 use Rattle.ifdb_script.specs.Run.{AreWholeLines}
 use Rattle.ifdb_closure.specs.Closures.{World, start, turn, after_turn, next_world}
-use Rattle.ifdb_closure.specs.Lacking.{Memory, turn_with, told_with}
+use Rattle.ifdb_closure.specs.Lacking.{Memory, turn_with, told_with, closure_output}
 use Rattle.ifdb_closure.specs.Levels.{closure_asked, closure_low, closure_heard, closure_quiet}
 use Rattle.ifdb_closure.specs.Speaking.{speech}
 use Rattle.ifdb_closure.specs.Standing.{IsToldAt}
@@ -85,6 +87,20 @@ pub record RanCut (limit : ℕ) (left_old left_new written_old written_new : Opt
   pub played : IsToldFirst input (told ++ last ∷ [])
   pub short : n < length (text_of last)
   pub wrote : Appends written_old written_new (texts told ++ take n (text_of last))
+
+-- ---- what the bytes say
+
+-- The input was run whole, and the bytes alone say what was told: where memory is refused at other steps and yet the same bytes are
+-- written, the same is told. So the list of the replies that read error 20 is a function of what was read and written.
+abbrev pub IsToldByBytes : ℕ → Option (List ℕ) → Option (List ℕ) → Option (List ℕ) → Option (List ℕ) → Type 0
+IsToldByBytes limit left_old left_new written_old written_new =
+    (ran : RanWhole limit left_old left_new written_old written_new)
+    × ((memory : List Memory) → closure_output speech ran.input memory ≡ texts ran.told → told_with speech start memory (steps_of ran.input) ≡ ran.told)
+
+-- The input was run whole, and no line of a reply holds a newline: nobody's text or name forges a line of the protocol.
+abbrev pub IsFramedRun : ℕ → Option (List ℕ) → Option (List ℕ) → Option (List ℕ) → Option (List ℕ) → Type 0
+IsFramedRun limit left_old left_new written_old written_new =
+    (ran : RanWhole limit left_old left_new written_old written_new) × (list_all is_framed ran.told ≡ true)
 
 -- ---- two worlds
 

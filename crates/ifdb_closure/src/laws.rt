@@ -1,5 +1,6 @@
 // Laws of scripts with closures: each function is a law, and its contract says it.
 ghost use Rattle.ifdb_closure.specs.Bounds.{CallsAreTheOwners, CallsLeaveSessions, CallsStayWithin, ReadsHellosBack, RefusedCallsCommitNothing};
+ghost use Rattle.ifdb_closure.specs.Grammar.{CallsAreRead, CreatesAreRead, StatementsAreJoined};
 ghost use Rattle.ifdb_closure.specs.Lacking.{MemoryServes};
 ghost use Rattle.ifdb_closure.specs.Laws.{ClosuresAlone, ClosuresTwoWorlds, IdleSessionsAreNotSeen, OthersAreNotSeen, ReadClosuresTwoWorlds, ReadsBack};
 ghost use Rattle.ifdb_closure.specs.Ran.{MemoryIsRefusedAlone};
@@ -12,6 +13,14 @@ use ifdb_laws::memory_is_never_told;
 pub fn idle_sessions()
     ensures others { OthersAreNotSeen }
     ensures idle { IdleSessionsAreNotSeen }
+{}
+
+/// A line is CALL, or CREATE CLOSURE, exactly where the grammar has it so; and the statements of a line, with a semicolon between
+/// each two, are the line behind AS, but for one more semicolon and the blanks behind it.
+pub fn forms_are_read()
+    ensures calls { CallsAreRead }
+    ensures creates { CreatesAreRead }
+    ensures statements { StatementsAreJoined }
 {}
 
 /// Scripts with closures that agree below a level, neither of which crosses it, are heard alike there.

@@ -13,7 +13,7 @@ mod stage;
 mod statements;
 
 pub use laws::{
-    call_bounds, idle_sessions, lines_are_read_back, memory_is_refused_alone, memory_serves,
-    script_calls_are_bound, two_worlds,
+    call_bounds, forms_are_read, idle_sessions, lines_are_read_back, memory_is_refused_alone,
+    memory_serves, script_calls_are_bound, two_worlds,
 };
 pub use script::{ClosureEnd, closure_script};

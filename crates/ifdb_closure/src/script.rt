@@ -2,11 +2,12 @@
 ghost use Rattle.std.specs.Prelude.{◌≡◌, ◌≢◌, ◌≤◌, ◌^◌, [], false};
 ghost use Rattle.ifdb_io.specs.Causes.{Rose};
 ghost use Rattle.ifdb_closure.specs.Closures.{start};
-ghost use Rattle.ifdb_closure.specs.Ran.{KeepsLevels, RanCut, RanFront, RanPast, RanWhole};
+ghost use Rattle.ifdb_closure.specs.Ran.{IsFramedRun, IsToldByBytes, KeepsLevels, RanCut, RanFront, RanPast, RanWhole};
 ghost use Rattle.ifdb_closure.specs.Standing.{IsFor};
 
 use crate::stage::Stage;
 use ifdb_io::{Failed, Line, LineFault, LineReader, Sink, Source, write_all};
+use ifdb_laws::memory_is_never_told;
 use ifdb_wire::Out;
 use std::alloc::Global;
 
@@ -42,6 +43,12 @@ pub fn closure_script<R: Source, W: Sink>(
     ensures done { result ≡ ClosureEnd.Done
         → RanWhole limit (R.left input.old) (R.left input.new) (W.written output.old)
         (W.written output.new) }
+    ensures told_by_bytes { result ≡ ClosureEnd.Done
+        → IsToldByBytes limit (R.left input.old) (R.left input.new) (W.written output.old)
+        (W.written output.new) }
+    ensures framed { result ≡ ClosureEnd.Done
+        → IsFramedRun limit (R.left input.old) (R.left input.new) (W.written output.old)
+        (W.written output.new) }
     ensures worlds { result ≡ ClosureEnd.Done
         → KeepsLevels limit (R.left input.old) (R.left input.new) (W.written output.old)
         (W.written output.new) }
@@ -65,6 +72,7 @@ pub fn closure_script<R: Source, W: Sink>(
     ensures input_later { R.faults input.old ≤ R.faults input.new }
     ensures output_later { W.faults output.old ≤ W.faults output.new }
 {
+    memory_is_never_told();
     let Ok(mut reader) = LineReader::new(alloc, limit) else {
         return ClosureEnd::OutOfMemory;
     };

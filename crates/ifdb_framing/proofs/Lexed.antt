@@ -33,7 +33,7 @@ use Rattle.ifdb_framing.proofs.Grammar.{line_passes}
 range_line : (line : List ℕ) (start end : ℕ) → is_line line ≡ true → is_line (slice_range line start end) ≡ true
 range_line line start end h = all_take is_no_newline (end - start) (drop start line) (all_drop is_no_newline start line h)
 
-return_line : (line : List ℕ) → is_line line ≡ true → is_line (without_return line) ≡ true
+pub return_line : (line : List ℕ) → is_line line ≡ true → is_line (without_return line) ≡ true
 return_line line h =
     pick is_line (eqb (slice_index line (length line - 1)) 13) (take (length line - 1) line) line (all_take is_no_newline (length line - 1) line h) h
 

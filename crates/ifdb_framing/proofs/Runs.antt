@@ -38,14 +38,18 @@ pub record IsClean (st : State) : Type 0 where
 abbrev pub ReadsClean : Reader → Type 0
 ReadsClean read = (line : List ℕ) → is_line line ≡ true → reads_clean (read line) ≡ true
 
-module _ (read : Reader) (reads : ReadsClean read) where
+pub opening_clean : IsClean opening
+opening_clean = record { log = refl; sessions = All-nil Clean }
+
+-- a line of a session, where what it is read as is clean
+module _ (read : Reader) where
   owned : (st : State) → IsClean st → (n : ℕ) → Clean (session_of st n)
   owned st v n = session_has Clean st v.sessions refl n
 
-  asked : (st : State) → IsClean st → (n : ℕ) (line : List ℕ) → is_line line ≡ true → Keeps (ask read st.log (session_of st n) line)
-  asked st v n line h = ask_keeps (session_of st n) (owned st v n) st.log v.log read line (reads line h)
+  asked : (st : State) → IsClean st → (n : ℕ) (line : List ℕ) → reads_clean (read line) ≡ true → Keeps (ask read st.log (session_of st n) line)
+  asked st v n line h = ask_keeps (session_of st n) (owned st v n) st.log v.log read line h
 
-  asked_clean : (st : State) → IsClean st → (n : ℕ) (line : List ℕ) → is_line line ≡ true → IsClean (with_outcome st n (ask read st.log (session_of st n) line))
+  asked_clean : (st : State) → IsClean st → (n : ℕ) (line : List ℕ) → reads_clean (read line) ≡ true → IsClean (with_outcome st n (ask read st.log (session_of st n) line))
   asked_clean st v n line h =
       let o = ask read st.log (session_of st n) line in
       let k = asked st v n line h in
@@ -58,22 +62,32 @@ module _ (read : Reader) (reads : ReadsClean read) where
   either true st u h k = h
   either false st u h k = k
 
-  next_clean : (st : State) (x : Step) → IsClean st → is_of_line x ≡ true → IsClean (next read st x)
-  next_clean st opens v h = record { log = v.log; sessions = All-push Clean st.sessions new_session v.sessions refl }
-  next_clean st (asks n line) v h = either (session_of st n).is_open (with_outcome st n (ask read st.log (session_of st n) line)) st (asked_clean st v n line h) v
-  next_clean st (refused n) v h = v
-  next_clean st long v h = v
-  next_clean st stray v h = v
-  next_clean st (leaves_room n) v h = either (session_of st n).is_open (with_session st n (closed (session_of st n))) st
+  pub open_clean : (st : State) → IsClean st → IsClean (next read st opens)
+  open_clean st v = record { log = v.log; sessions = All-push Clean st.sessions new_session v.sessions refl }
+
+  pub asked_on : (st : State) → IsClean st → (n : ℕ) (line : List ℕ) → reads_clean (read line) ≡ true → IsClean (next read st (asks n line))
+  asked_on st v n line h = either (session_of st n).is_open (with_outcome st n (ask read st.log (session_of st n) line)) st (asked_clean st v n line h) v
+
+  pub leave_clean : (st : State) (n : ℕ) → IsClean st → IsClean (next read st (leaves_room n))
+  leave_clean st n v = either (session_of st n).is_open (with_session st n (closed (session_of st n))) st
       (record { log = v.log; sessions = All-set Clean st.sessions (n - 1) (closed (session_of st n)) refl v.sessions }) v
 
-  outcome_framed : (st : State) → IsClean st → (n : ℕ) (line : List ℕ) → is_line line ≡ true → is_framed_reply (outcome_of read st n line).reply ≡ true
+  pub outcome_framed : (st : State) → IsClean st → (n : ℕ) (line : List ℕ) → reads_clean (read line) ≡ true → is_framed_reply (outcome_of read st n line).reply ≡ true
   outcome_framed st v n line h =
       pick (λ (o : Outcome). is_framed_reply o.reply) (session_of st n).is_open (ask read st.log (session_of st n) line) (refuses (session_of st n) fault.NoSession) (asked st v n line h).reply (refused_framed fault.NoSession)
 
+module _ (read : Reader) (reads : ReadsClean read) where
+  next_clean : (st : State) (x : Step) → IsClean st → is_of_line x ≡ true → IsClean (next read st x)
+  next_clean st opens v h = open_clean read st v
+  next_clean st (asks n line) v h = asked_on read st v n line (reads line h)
+  next_clean st (refused n) v h = v
+  next_clean st long v h = v
+  next_clean st stray v h = v
+  next_clean st (leaves_room n) v h = leave_clean read st n v
+
   told_framed : (st : State) (x : Step) → IsClean st → is_of_line x ≡ true → list_all is_framed (told read st x) ≡ true
   told_framed st opens v h = refl
-  told_framed st (asks n line) v h = both_of (is_framed_reply (outcome_of read st n line).reply) true (outcome_framed st v n line h) refl
+  told_framed st (asks n line) v h = both_of (is_framed_reply (outcome_of read st n line).reply) true (outcome_framed read st v n line (reads line h)) refl
   told_framed st (refused n) v h = both_of (is_framed_reply (reply.Refused fault.OutOfMemory)) true (refused_framed fault.OutOfMemory) refl
   told_framed st long v h = both_of (is_framed_reply (reply.Refused fault.TooLong)) true (refused_framed fault.TooLong) refl
   told_framed st stray v h = both_of (is_framed_reply (reply.Refused (fault.Syntax 0))) true (refused_framed (fault.Syntax 0)) refl
@@ -86,7 +100,7 @@ module _ (read : Reader) (reads : ReadsClean read) where
       all_append is_framed (told read st x) (replies read (next read st x) steps) (told_framed st x v parts.0) (replies_framed steps (next read st x) (next_clean st x v parts.0) parts.1)
 
   pub run_framed : (steps : List Step) → list_all is_of_line steps ≡ true → list_all is_framed (replies read opening steps) ≡ true
-  run_framed steps h = replies_framed steps opening (record { log = refl; sessions = All-nil Clean }) h
+  run_framed steps h = replies_framed steps opening opening_clean h
 
 -- ---- scripts
 
@@ -137,7 +151,7 @@ step_is_of_line (script.asks n request) h = both_of (is_line request) true h ref
 step_is_of_line script.strays h = refl
 step_is_of_line script.overlong h = refl
 
-steps_are_of_lines : (bytes : List ℕ) → list_all is_of_line (steps_of bytes) ≡ true
+pub steps_are_of_lines : (bytes : List ℕ) → list_all is_of_line (steps_of bytes) ≡ true
 steps_are_of_lines bytes = all_flat_map is_line is_of_line line_steps (lines_of bytes) (λ line h. step_is_of_line (script_line line) (script_is_line line h)) (lines_are_lines bytes)
 
 -- refused steps have no line
