@@ -35,7 +35,7 @@ holds_all rs turns turn written image le is =
       length all,
       most,
       subst (λ l. ReadsAs l image)
-      (append_assoc rs (joined (entries_of turns)) turn.entries ∙ ap (λ l. rs ++ l) (sym (entries_more turns turn)) ∙ ap (λ ts. rs ++ joined (entries_of ts)) (sym same)) is,
+          (append_assoc rs (joined (entries_of turns)) turn.entries ∙ ap (λ l. rs ++ l) (sym (entries_more turns turn)) ∙ ap (λ ts. rs ++ joined (entries_of ts)) (sym same)) is,
       subst (λ ts. written ≤ length (replies_of ts)) (sym same) (let size = replies_more turns turn in omega (arith, size, le)),
     )
 

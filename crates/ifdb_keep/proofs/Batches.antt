@@ -64,8 +64,11 @@ begun_last rs all more image (inl without) =
     inr (length all, subst (λ l. ReadsAs (front_of rs ++ l) image) (sym (take-append-le (length all) all more le ∙ take_all (length all) all le)) without)
 begun_last rs all more image (inr with_it) =
     let le : length (all ++ more) ≤ length (all ++ more) = omega arith in
-    inr (length (all ++ more), subst (λ l. ReadsAs l image)
-    (append_assoc (front_of rs) all more ∙ ap (λ l. front_of rs ++ l) (sym (take_all (length (all ++ more)) (all ++ more) le))) with_it)
+    inr (
+      length (all ++ more),
+      subst (λ l. ReadsAs l image)
+          (append_assoc (front_of rs) all more ∙ ap (λ l. front_of rs ++ l) (sym (take_all (length (all ++ more)) (all ++ more) le))) with_it,
+    )
 
 -- a journal that was read goes on by some batches
 pub journaled_on : (rs : List Record) (batches : List (List Record)) (first t u : Option Clock) (at next : ℕ) → Journaled rs [] first t → Holds t (front_of rs) at → AddsEach batches t at u next
