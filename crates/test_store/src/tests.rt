@@ -1,6 +1,4 @@
 //! Contents of many rows, against what was written.
-ghost use Rattle.std.specs.Prelude.{◌≤◌, ◌<◌};
-
 use self::walk::{value_at, walk};
 use self::writes::{one, range, thinned};
 use ifdb_row::{OutOfMemory, Writes};
@@ -64,11 +62,11 @@ fn ten_thousand_commits(rt: HostRuntime) -> Result<(), Fail> {
 }
 
 /// Writes 10,000 rows, each in a commit of its own.
-fn scatter(alloc: Global, store: &mut Store, shift: i64) -> Result<(), OutOfMemory>
-    requires { (0 ≤ shift) × (shift < 2) }
-{
-    for i in 0..10_000 {
-        commit(store, one(alloc, i * 7919 % 10_000, (i + shift) % 3)?)?;
+fn scatter(alloc: Global, store: &mut Store, shift: u8) -> Result<(), OutOfMemory> {
+    for i in 0..10_000_u16 {
+        let key = u32::from(i) * 7919 % 10_000;
+        let value = (u32::from(i) + u32::from(shift)) % 3;
+        commit(store, one(alloc, i64::from(key), i64::from(value))?)?;
     }
     Ok(())
 }
