@@ -1,14 +1,19 @@
 #!/usr/bin/env python3
 """The edits that must fail and that stand aside: those that the gate doesn't try, since the prover refused them over the text as it is.
 
-    tools/edits.py             tells which crates' edits have to be tried again, and why
+    tools/edits.py             tells which crates' edits have to be tried again or wait for it, and why
     tools/edits.py NAME..      tries all edits of these crates, and notes the crates of which all were refused
-    tools/edits.py --all       tries those of all crates that have to be tried again
+    tools/edits.py --all       tries those of all these crates
 
 An edit stands aside under a name that ends in edit.md. What refuses it is a contract, and what a contract says is said by the definitions
 and the contracts below as well. So tools/refused.txt notes for a crate the sum of its own text; the commit over which all of its edits
-were refused; and the kit. tools/check.py fails where the crate's text is another, where an edit is, where a definition or a contract that
-stood below it then is changed or gone, or where the kit is another. What came since and nothing of the crate cites hides no edit.
+were refused; and the kit. tools/check.py fails where the crate's text, an edit or the kit is another, and where a definition that stood
+below it then and decides what the program is promised to do (tools/deciding.py) is changed or gone. Where another definition or a contract
+below is, the edits wait for a try, and tools/check.py says so: a weak one shows in the proofs up to the clauses of the program, unless
+nothing of the program stands on it. What came since and nothing of the crate cites hides no edit.
+
+A crate of which not all edits were tried over its present text stands in tools/refused.txt with the word `waits:` and the reason, and
+tools/check.py tells of it at each run: a debt, which the next change of the crate pays first.
 
 An edit counts as refused where the prover says that the edited crate isn't proved. Where it gave up at a limit of its own, or where only a
 proof misses a name that the edit took away, no contract refused anything, and the crate isn't noted.
@@ -34,6 +39,8 @@ from contextlib import contextmanager
 from pathlib import Path
 from typing import NamedTuple, Optional
 
+import deciding
+
 TOP = Path(__file__).resolve().parent.parent
 REFUSED = TOP / "tools" / "refused.txt"
 ASIDE = ".md"
@@ -56,6 +63,7 @@ OPERAND = "◌"
 # How a definition begins, and a field of one.
 DEFINITION = re.compile(r"\s*((abbrev|unfoldable|pub|record|data|infix\w*) |[^\s:(){}]+ +: )")
 FIELD = re.compile(r"\s+pub (?!record|data)\S+ +:")
+WAITS = "waits: "
 WRONG_WORDS, FAILED = 64, 1
 
 
@@ -170,6 +178,22 @@ class Tree:
         """Those of all crates that a crate stands on, each behind the name of its crate."""
         return Counter({f"{name}: {item}": count for name in self.below(crate) for item, count in self.promises(name).items()})
 
+    @functools.cache
+    def decided(self) -> dict[str, set[str]]:
+        """Of each crate the definitions that decide what the program is promised, each with what it cites."""
+        walk = deciding.Definitions(self.crates)
+        found: dict[str, set[str]] = {}
+        for file, name in walk.deciding():
+            lines, named = walk.parsed(file)
+            place = file.relative_to(self.crates)
+            cited = sorted(f"{other.relative_to(self.crates)}: {it}" for other, it in walk.cited_by(lines.get(name, []), file, named))
+            found.setdefault(place.parts[0], set()).add("\n".join([f"{place}: {name}", *lines.get(name, []), *cited]))
+        return found
+
+    def decided_below(self, crate: str) -> set[str]:
+        """Those of all crates that a crate stands on."""
+        return {item for name in self.below(crate) for item in self.decided().get(name, ())}
+
     def text(self, crate: str) -> str:
         """The sum of a crate's own text, but for comments and edits."""
         own = self.files(crate, "src", "specs", "proofs")
@@ -195,16 +219,26 @@ class Note(NamedTuple):
     kit: str
 
 
-def noted() -> dict[str, Note]:
+def lines_noted() -> dict[str, str]:
+    """What tools/refused.txt says of each crate."""
     lines = REFUSED.read_text().splitlines() if REFUSED.exists() else []
-    return {name: Note(*said.split(" ", 2)) for name, said in (line.split(" ", 1) for line in lines if line)}
+    return dict(line.split(" ", 1) for line in lines if line)
+
+
+def noted() -> dict[str, Note]:
+    return {name: Note(*said.split(" ", 2)) for name, said in lines_noted().items() if not said.startswith(WAITS)}
+
+
+def owed() -> dict[str, str]:
+    """The crates whose edits are told to wait, each with the reason."""
+    return {name: said.removeprefix(WAITS) for name, said in lines_noted().items() if said.startswith(WAITS)}
 
 
 def write_note(crate: str, note: Note) -> None:
     with open(__file__) as lock:  # (crates may be tried side by side)
         fcntl.flock(lock, fcntl.LOCK_EX)
-        notes = noted() | {crate: note}
-        REFUSED.write_text("".join(f"{name} {' '.join(note)}\n" for name, note in sorted(notes.items())))
+        notes = lines_noted() | {crate: " ".join(note)}
+        REFUSED.write_text("".join(f"{name} {said}\n" for name, said in sorted(notes.items())))
 
 
 def kit() -> Optional[str]:
@@ -251,22 +285,35 @@ def changed_since(tree: Tree, before: Optional[Tree], crate: str) -> Optional[st
     others = [name for name, said in tree.changes(crate).items() if before.changes(crate).get(name) != said]
     if others:
         return f"has no such edit: {', '.join(others)}"
-    gone = sorted(before.promises_below(crate) - tree.promises_below(crate))
-    return f"had below it: {gone[0].splitlines()[0]}" + (f" (and {len(gone) - 1} more)" if gone[1:] else "") if gone else None
+    return gone_of(before.decided_below(crate) - tree.decided_below(crate))
+
+
+def waits_since(tree: Tree, before: Tree, crate: str) -> Optional[str]:
+    """What else below a crate isn't as at a commit, if anything."""
+    return gone_of(before.promises_below(crate) - tree.promises_below(crate))
+
+
+def gone_of(gone: Iterable[str]) -> Optional[str]:
+    """How it is told that there were these below a crate; None where there are none."""
+    first, *others = [*sorted(gone), ""]
+    return f"had below it: {first.splitlines()[0]}" + (f" (and {len(others) - 1} more)" if others[1:] else "") if first else None
 
 
 def in_history(commit: str) -> bool:
     return git("merge-base", "--is-ancestor", commit, "HEAD") is not None
 
 
-def wrong_notes() -> dict[str, str]:
-    """The crates whose edits have to be tried again, each with the reason."""
+def judged_notes() -> tuple[dict[str, str], dict[str, str]]:
+    """The crates whose edits have to be tried again, and those whose edits wait for it, each with the reason."""
     tree, notes, our_kit = Tree(TOP), noted(), kit()
     crates = tree.with_aside()
     wrong = {crate: "no edit of it stands aside" for crate in notes.keys() - set(crates)}
+    waiting = owed()
     by_commit: dict[str, list[str]] = {}
     for crate in crates:
         note = notes.get(crate)
+        if crate in waiting:
+            continue
         if note is None:
             wrong[crate] = "its edits weren't all refused yet"
         elif note.sum != tree.text(crate):
@@ -276,12 +323,16 @@ def wrong_notes() -> dict[str, str]:
         else:
             by_commit.setdefault(note.commit, []).append(crate)
     for commit, of_it in by_commit.items() if is_whole_repository() else ():
-        with tree_of(commit) as before:
+        with tree_of(commit) as tree_then:
+            before = tree_then if in_history(commit) else None
             for crate in of_it:
-                change = changed_since(tree, before if in_history(commit) else None, crate)
+                change = changed_since(tree, before, crate)
+                waits = None if change or before is None else waits_since(tree, before, crate)
                 if change:
                     wrong[crate] = f"the commit {commit} {change}"
-    return wrong
+                elif waits:
+                    waiting[crate] = f"the commit {commit} {waits}"
+    return wrong, waiting
 
 
 # ---- Tries
@@ -346,13 +397,14 @@ def note_all(crate: str) -> bool:
 
 
 def main(words: list[str]) -> int:
-    tree, wrong = Tree(TOP), wrong_notes()
+    tree = Tree(TOP)
+    wrong, waiting = judged_notes()
     if not words:
-        for crate, why in sorted(wrong.items()):
-            print(f"{crate}: {why}")
-        print(f"edits: those of {len(wrong)} of {len(tree.with_aside())} crates have to be tried again")
+        for crate, why in sorted((wrong | waiting).items()):
+            print(f"{crate}{' waits' if crate in waiting else ''}: {why}")
+        print(f"edits: of {len(tree.with_aside())} crates those of {len(wrong)} have to be tried again, and those of {len(waiting)} wait")
         return FAILED if wrong else 0
-    crates = sorted(set(wrong) & set(tree.with_aside())) if words == ["--all"] else words
+    crates = sorted(set(wrong | waiting) & set(tree.with_aside())) if words == ["--all"] else words
     unknown = [crate for crate in crates if not tree.edits(crate)]
     if unknown:
         print(f"no edits: {' '.join(unknown)}\n{__doc__}", file=sys.stderr)
