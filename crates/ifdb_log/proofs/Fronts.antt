@@ -1,12 +1,12 @@
 -- A front goes on standing, and what ties the images.
-use Rattle.std.proofs.Common.{◌≡◌, ℕ, ◌+◌, ◌-◌, ◌≤◌, ◌<◌, ◌&&◌, ◌||◌, inl, inr, true, false, List, [], ◌∷◌, ◌++◌, length, take, drop, get_or, refl, sym, ap, subst, ◌∙◌, arith, append_assoc, length-append, length-drop}
+use Rattle.std.proofs.Common.{◌≡◌, ℕ, ◌+◌, ◌-◌, ◌≤◌, ◌<◌, ◌&&◌, ◌||◌, inl, inr, true, false, List, [], ◌∷◌, ◌++◌, length, take, drop, refl, sym, ap, subst, ◌∙◌, arith, append_assoc, length-append, length-drop}
 use Rattle.std.specs.Prelude.{Option, Some, None, map, nat_le, nat_lt}
 use Rattle.std.specs.List.{AllByRecursion}
 use Rattle.std.proofs.lemmas.List.{length-take, length-map, map-append, take-take, take-append-le, drop-append-le, take-append-drop, take_at, drop_at, drop-drop, drop-take, get_or-take, ext_get_or, append_cancel_right}
 use Rattle.std.proofs.lemmas.Bool.Decides.{nat_tests}
-use Rattle.ifdb_disk.specs.Images.{Range, Shown, IsImage, is_loose, settled, overwritten, written, synced}
-use Rattle.ifdb_disk.specs.Clock.{Clock, Leaves, MayHaveWritten, Now, Since, goes}
-use Rattle.ifdb_log.specs.Behind.{AreBehind, BehindImages, BehindLeaves, Fronted, HasBehind, HasFront, IsBoth, Stands, behind, front_of, moments, range_behind, shown_behind, since}
+use Rattle.ifdb_disk.specs.Images.{Range, Shown, IsImage, is_loose, overwritten, written, synced}
+use Rattle.ifdb_disk.specs.Clock.{Clock, Leaves, MayHaveWritten, Now, goes}
+use Rattle.ifdb_log.specs.Behind.{AreBehind, BehindImages, BehindLeaves, Fronted, HasBehind, IsBoth, Stands, behind, front_of, moments, range_behind, shown_behind, since}
 use Rattle.ifdb_log.specs.Fronted.{image_behind}
 
 -- ---- it goes on standing

@@ -1,19 +1,18 @@
 -- How a disk gets its title, and what a journal sees in one.
-use Rattle.std.proofs.Common.{◌≡◌, ◌≢◌, ◌⊎◌, inl, inr, ℕ, zero, suc, ◌+◌, ◌-◌, ◌≤◌, ◌<◌, max, ◌&&◌, Bool, true, false, List, [], ◌∷◌, ◌++◌, length, take, drop, get_or, refl, sym, ap, subst, ◌∙◌, arith, append_assoc, length-append, length-drop}
+use Rattle.std.proofs.Common.{◌≡◌, ◌≢◌, inl, inr, ℕ, ◌+◌, ◌-◌, ◌≤◌, ◌<◌, ◌&&◌, Bool, true, false, List, [], ◌∷◌, ◌++◌, length, take, drop, get_or, refl, sym, ap, subst, ◌∙◌, arith, length-append, length-drop}
 use Rattle.std.specs.Prelude.{Option, Some, None, ◌==◌, nat_le, nat_lt, if◌then◌else◌}
-use Rattle.std.proofs.lemmas.List.{take-append-drop, take-append-le, take-take, drop-take, take_at, drop_at, take_all, drop_all, append-nil, length-take}
-use Rattle.std.proofs.lemmas.Bool.{cases_eq, cases_lt}
+use Rattle.std.proofs.lemmas.List.{take-append-drop, take-append-le, take-take, drop-take, take_at, drop_at, take_all, drop_all, length-take}
+use Rattle.std.proofs.lemmas.Bool.{cases_eq}
 use Rattle.std.proofs.lemmas.Bool.Decides.{nat_tests}
 use borrow.Rule.Slice.PartMut.{put_mid, post_of}
-use Rattle.ifdb_disk.specs.Images.{Shown, IsImage, Reads, settled, overwritten, synced, written}
+use Rattle.ifdb_disk.specs.Images.{Shown, IsImage, Reads, overwritten, synced, written}
 use Rattle.ifdb_disk.specs.Clock.{Clock, Leaves, Now, Stored, Torn, goes}
 use Rattle.ifdb_disk.proofs.Moments.{since_here, leaves_weaker, leaves_on}
 use Rattle.ifdb_disk.proofs.Store.{settled_only}
-use Rattle.ifdb_journal.specs.Kinds.{is_fine}
-use Rattle.ifdb_journal.specs.Records.{break, damage, is_whole, record_at, records, scan, session_at, size_at}
+use Rattle.ifdb_journal.specs.Records.{break, damage, is_whole, record_at, records, scan, size_at}
 use Rattle.ifdb_journal.specs.declared.record.Record.{Record}
 use Rattle.ifdb_log.specs.Behind.{HasFront}
-use Rattle.ifdb_log.specs.Title.{BeginsAs, Entitles, IsLog, IsNew, IsNewOrTitle, IsOldOrMade, IsOther, IsSettled, IsShut, JournalIsOther, TitleIsDamage, title, title_rest}
+use Rattle.ifdb_log.specs.Title.{Entitles, IsLog, IsNew, IsNewOrTitle, IsOldOrMade, IsOther, IsSettled, IsShut, JournalIsOther, TitleIsDamage, title, title_rest}
 
 -- ---- what a journal sees
 

@@ -1,5 +1,5 @@
 -- What a disk shows behind its first bytes, and what it is that these stand.
-use Rattle.std.specs.Prelude.{◌≡◌, ℕ, ◌+◌, ◌-◌, ◌≤◌, Bool, true, List, [], ◌∷◌, ◌++◌, length, take, drop, map, Option, Some, None, ⊤}
+use Rattle.std.specs.Prelude.{◌≡◌, ℕ, ◌-◌, ◌≤◌, Bool, true, List, [], ◌∷◌, ◌++◌, length, take, drop, map, Option, Some, None, ⊤}
 use Rattle.std.specs.List.{AllByRecursion}
 use Rattle.ifdb_disk.specs.Images.{Range, Shown, IsImage, settled}
 use Rattle.ifdb_disk.specs.Clock.{Clock, Leaves, Now}

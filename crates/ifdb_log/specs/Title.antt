@@ -1,7 +1,7 @@
 -- The title that the file of a log begins with, and which files are new, or logs.
-use Rattle.std.specs.Prelude.{◌≡◌, ◌≢◌, ◌⊎◌, ℕ, ◌≤◌, List, [], ◌∷◌, ◌++◌, length, Option, Some, None}
+use Rattle.std.specs.Prelude.{◌≡◌, ◌≢◌, ◌⊎◌, ℕ, ◌≤◌, List, [], ◌∷◌, ◌++◌, length, Option, Some}
 use Rattle.ifdb_disk.specs.Images.{IsImage, settled}
-use Rattle.ifdb_disk.specs.Clock.{Clock, Leaves, Now}
+use Rattle.ifdb_disk.specs.Clock.{Clock, Now}
 use Rattle.ifdb_journal.specs.declared.record.Record.{Record}
 use Rattle.ifdb_journal.specs.Records.{damage, records}
 use Rattle.ifdb_log.specs.declared.title.Heading.{Heading}

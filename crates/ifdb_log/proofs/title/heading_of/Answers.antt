@@ -10,5 +10,5 @@ returns-then-eq c = λ bytes is sized.
     let rest = c.in-Some.rest.now in
     let begins : c.args.front.now ≡ first ∷ rest = search rules in
     let others : rest ≡ title_rest = first_of (search rules, grind (arith, common_steps)) in
-    let nonzero : first ≢ 0 = c.if-first-ne0.true in
+    let nonzero : first ≢ 0 = first_of (search rules, grind (arith, common_steps)) in
     front_title bytes c.args.front.now c.args.size is sized first nonzero (begins ∙ ap (λ l. first ∷ l) others)

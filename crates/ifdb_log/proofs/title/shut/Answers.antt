@@ -1,5 +1,4 @@
-use Rattle.std.proofs.Common.{◌≡◌, ◌≤◌, List, ℕ, length, subst, arith}
-use Rattle.ifdb_disk.specs.Images.{Shown}
+use Rattle.std.proofs.Common.{◌≡◌, ◌≤◌, length, subst, arith}
 use Rattle.ifdb_disk.specs.Clock.{Leaves}
 use Rattle.ifdb_log.specs.Title.{IsNew, IsNewOrTitle, IsSettled}
 use Rattle.ifdb_log.proofs.Titles.{settled_with, short_torn, torn_leaves}

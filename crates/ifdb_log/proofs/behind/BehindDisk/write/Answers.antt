@@ -1,5 +1,4 @@
 use Rattle.std.proofs.Common.{◌≡◌, ◌+◌, ◌≤◌, length, sym, subst, ap, ◌∙◌, arith}
-use Rattle.std.specs.Prelude.{Result, Ok, Err, OnOk, OnErr}
 use Rattle.ifdb_disk.specs.Images.{written}
 use Rattle.ifdb_disk.specs.Clock.{MayHaveWritten, goes}
 use Rattle.ifdb_log.specs.Behind.{Fronted, behind}

@@ -1,0 +1,38 @@
+// What lies behind a title, as a disk of its own.
+ghost use Rattle.std.specs.Prelude.{◌≡◌, Some};
+ghost use Rattle.ifdb_disk.specs.Memory.{clock_of};
+ghost use Rattle.ifdb_log.specs.Behind.{HasFront};
+
+use super::title::{TITLE, disk_of};
+use ifdb_disk::{Disk, MemoryDisk};
+use ifdb_journal::{Journal, RecordKind};
+use ifdb_log::{Behind, Origin, TITLE_SIZE, entitle};
+use std::alloc::Global;
+use std::marker::Brand;
+use std::process::Abort;
+use std::test::Fail;
+
+// Adds a record to the journal that lies behind a title.
+fn add_behind<B: Origin>(alloc: Global, disk: MemoryDisk, line: &[u8]) -> Result<MemoryDisk, Fail>
+    requires begun { B.begun ≡ Some (clock_of disk) }
+    requires front { HasFront 16 (Some (clock_of disk)) }
+{
+    let mut behind: Behind<B, MemoryDisk> = Behind::new(disk, TITLE_SIZE);
+    let mut journal = Journal::start(alloc, &mut behind)?;
+    while journal.next(alloc, &mut behind)?.is_some() {}
+    if RecordKind::Ask.allows(0, line) {
+        journal.append(&mut behind, RecordKind::Ask, 0, line)?;
+    }
+    Ok(behind.into_disk())
+}
+
+#[test]
+fn a_journal_lies_behind_it(rt: HostRuntime) -> Result<(), Fail> {
+    let mut disk = disk_of(rt.alloc(), b"")?;
+    entitle(&mut disk)?;
+    let disk = add_behind::<Brand>(rt.alloc(), disk, b"some line")?;
+    let mut bytes = TITLE.to_vec(rt.alloc())?;
+    bytes.extend_from_slice(b"\x01\x02\0\0\0\0\0\0\0\0\0\0\0\x09some line\0")?;
+    assert_eq!(rt; disk.bytes(), bytes.as_slice());
+    Ok(())
+}
