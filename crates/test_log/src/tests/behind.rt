@@ -1,16 +1,28 @@
 // What lies behind a title, as a disk of its own.
-ghost use Rattle.std.specs.Prelude.{◌≡◌, Some};
+ghost use Rattle.std.specs.Prelude.{◌≡◌, IfOk, Some};
 ghost use Rattle.ifdb_disk.specs.Memory.{clock_of};
+ghost use Rattle.ifdb_journal.specs.Reading.{IsReady};
 ghost use Rattle.ifdb_log.specs.Behind.{HasFront};
 
 use super::title::{TITLE, disk_of};
 use ifdb_disk::{Disk, MemoryDisk};
-use ifdb_journal::{Journal, RecordKind};
+use ifdb_journal::{Journal, JournalFault, RecordKind};
 use ifdb_log::{Behind, Origin, TITLE_SIZE, entitle};
 use std::alloc::Global;
 use std::marker::Brand;
 use std::process::Abort;
 use std::test::Fail;
+
+// Begins the journal of a disk that has none.
+pub(super) fn begin<D: Disk>(alloc: Global, disk: &mut D) -> Result<Journal, JournalFault>
+    ensures { IfOk result (λ journal. IsReady (D.tells disk.new) journal.at) }
+{
+    let mut journal = Journal::start(alloc, disk)?;
+    let Some(_) = journal.next(alloc, disk)? else {
+        return Ok(journal);
+    };
+    Err(JournalFault::Disk)
+}
 
 // Adds a record to the journal that lies behind a title.
 fn add_behind<B: Origin>(alloc: Global, disk: MemoryDisk, line: &[u8]) -> Result<MemoryDisk, Fail>
@@ -18,8 +30,7 @@ fn add_behind<B: Origin>(alloc: Global, disk: MemoryDisk, line: &[u8]) -> Result
     requires front { HasFront 16 (Some (clock_of disk)) }
 {
     let mut behind: Behind<B, MemoryDisk> = Behind::new(disk, TITLE_SIZE);
-    let mut journal = Journal::start(alloc, &mut behind)?;
-    while journal.next(alloc, &mut behind)?.is_some() {}
+    let mut journal = begin(alloc, &mut behind)?;
     if RecordKind::Ask.allows(0, line) {
         journal.append(&mut behind, RecordKind::Ask, 0, line)?;
     }

@@ -1,4 +1,5 @@
 // The title of new disks, of logs and of other files.
+use super::behind::begin;
 use ifdb_disk::MemoryDisk;
 use ifdb_io::OutOfMemory;
 use ifdb_journal::{Journal, JournalFault, RecordKind};
@@ -90,8 +91,7 @@ fn each_byte_of_the_title_counts(rt: HostRuntime) -> Result<(), Fail> {
 #[test]
 fn journals_are_refused(rt: HostRuntime) -> Result<(), Fail> {
     let mut disk = disk_of(rt.alloc(), b"")?;
-    let mut journal = Journal::start(rt.alloc(), &mut disk)?;
-    while journal.next(rt.alloc(), &mut disk)?.is_some() {}
+    let mut journal = begin(rt.alloc(), &mut disk)?;
     journal.append(&mut disk, RecordKind::Open, 0, b"")?;
     is_refused(&rt, rt.alloc(), disk.bytes())
 }
