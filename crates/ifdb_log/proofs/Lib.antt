@@ -1,0 +1,3 @@
+pub mod Fronts
+mod Results
+pub mod Titles

@@ -1,0 +1,4 @@
+pub mod Behind
+pub mod Fronted
+pub mod Causes
+pub mod Title

@@ -1,0 +1,3 @@
+// What no clause says: that the calls succeed, worked rows, and a crash at each call.
+mod behind;
+mod title;
