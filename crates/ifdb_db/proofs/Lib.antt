@@ -5,6 +5,9 @@ mod DeskLaws
 mod Inside
 mod Keeping
 mod Landing
+mod FoundRows
+mod Redoing
+mod Restoring
 pub mod Lending
 pub mod Looking
 mod Narrow

@@ -11,6 +11,7 @@ mod answer;
 mod end;
 mod outside;
 mod publish;
+mod redo;
 mod write;
 
 use crate::OutOfMemory;
@@ -22,6 +23,7 @@ use ifdb_snapshot::{SharedState, Snapshot};
 use ifdb_store::Store;
 use ifdb_value::Name;
 use ifdb_wire::{Fault, Reply};
+pub use redo::RedoFault;
 use std::alloc::Global;
 use std::marker::Model;
 

@@ -3,6 +3,7 @@
 
 mod begins;
 mod db;
+mod fitting;
 mod lent;
 mod look;
 mod looks;
@@ -12,6 +13,7 @@ mod session;
 mod told;
 mod txn;
 
+pub use db::RedoFault;
 pub use look::Look;
 pub use reading::ReadLine;
 pub use room::Room;

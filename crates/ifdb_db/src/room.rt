@@ -12,6 +12,7 @@ ghost use Rattle.ifdb_db.specs.Room.{StandsFor, IsSoundRoom, client_in, was_open
 ghost use Rattle.ifdb_db.specs.RoomSteps.{GoesBy, IsAskedIn, IsLeftBy, IsReplyText, IsReplyTo};
 
 mod lending;
+mod redo;
 
 use crate::OutOfMemory;
 use crate::db::Db;
@@ -53,7 +54,8 @@ impl Model for Room {
 impl Room {
     /// The opening: the public state before the first change, no rows, and no sessions.
     pub fn opening(alloc: Global) -> Result<Room, OutOfMemory>
-        ensures { IfOk result (λ room. StandsFor room opening) }
+        ensures opening { IfOk result (λ room. StandsFor room opening) }
+        ensures nobody { IfOk result (λ room. length room.clients ≡ 0) }
     {
         Ok(Room {
             alloc,

@@ -67,7 +67,7 @@ write_adds p rows asker s (Ok b) c e = by (writes_of p asker rows s.label b) e w
   by (Err f) k = absurd cc
   by (Ok w) k = land_adds s s.txn rows (is_delete b) w c k
 
-publishes_alone : (n : ℕ) (x : Seen) (o : Option Fault) (s : Session) (asker : ℕ) (r : Request) (f : Form) (c : Change)
+pub publishes_alone : (n : ℕ) (x : Seen) (o : Option Fault) (s : Session) (asker : ℕ) (r : Request) (f : Form) (c : Change)
     → (answered_as n x o s asker r f).added ≡ Some (changes c) → (f ≡ publishes) × ((publish x.public s (bound_request x.public asker r)).added ≡ Some (changes c))
 publishes_alone n x o s asker r (greets name key) c e = absurd cc
 publishes_alone n x o s asker r publishes c e = (refl, e)
@@ -119,7 +119,7 @@ bound_is p s (Ok (bound.Update table assignments cond given)) c t e = absurd cc
 bound_is p s (Ok (bound.Delete table cond)) c t e = absurd cc
 bound_is p s (Ok bound.Other) c t e = absurd cc
 
-publish_is : (p : Public) (s : Session) (o : Result Bound Fault) (c : Change) → (publish p s o).added ≡ Some (changes c) → IsPublished p s o c
+pub publish_is : (p : Public) (s : Session) (o : Result Bound Fault) (c : Change) → (publish p s o).added ≡ Some (changes c) → IsPublished p s o c
 publish_is p s o c e = by s.txn refl e where
   inner : s.txn ≡ None → (b : Bool) → (cond b (publish_bound p s o) (refuses s fault.LabelNotEmpty)).added ≡ Some (changes c) → IsPublished p s o c
   inner t true k = bound_is p s o c t k

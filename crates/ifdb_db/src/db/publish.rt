@@ -89,7 +89,7 @@ impl Db {
     }
 
     /// Makes a change that is bound.
-    fn apply(&mut self, change: Change) -> Result<(), Fault>
+    pub(super) fn apply(&mut self, change: Change) -> Result<(), Fault>
         requires fits { IsTrue (change_fits self.old.seen.public change) }
         requires new { IsTrue (is_new self.old.seen.public change) }
         requires narrow { IsTrue (is_narrow_change change) }

@@ -88,7 +88,7 @@ impl Db {
     }
 
     /// Makes writes, which are one commit.
-    fn land(&mut self, writes: Writes) -> Result<(), OutOfMemory>
+    pub(super) fn land(&mut self, writes: Writes) -> Result<(), OutOfMemory>
         requires fit { IsTrue (are_fit self.old.seen.public writes) }
         requires rooted { IsTrue (keeps_parents self.old.seen.rows writes) }
         ensures done { OnOk result
