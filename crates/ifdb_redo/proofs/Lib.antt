@@ -1,9 +1,9 @@
 pub mod Texts
 pub mod Loop
-pub mod Rises
+pub mod RisingTags
 pub mod Again
 pub mod Putting
-pub mod Rising
+pub mod RisingWrites
 pub mod Division
 mod Table
 pub mod Changed

@@ -1,5 +1,5 @@
 use Rattle.std.proofs.Common.{◌∙◌, sym}
-use Rattle.ifdb_redo.proofs.Rising.{goes_on, stops, ends}
+use Rattle.ifdb_redo.proofs.RisingWrites.{goes_on, stops, ends}
 use Rattle.ifdb_redo.proofs.reading.slots_rise.Goals as goal
 
 pub loop-i-preserved : goal.loop-i-preserved

@@ -1,5 +1,5 @@
 use Rattle.std.proofs.Common.{◌∙◌, sym}
-use Rattle.ifdb_redo.proofs.Rises.{goes_on, stops, ends}
+use Rattle.ifdb_redo.proofs.RisingTags.{goes_on, stops, ends}
 use Rattle.ifdb_redo.proofs.reading.tags_rise.Goals as goal
 
 pub loop-i-preserved : goal.loop-i-preserved

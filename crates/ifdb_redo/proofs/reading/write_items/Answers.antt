@@ -1,7 +1,7 @@
 use Rattle.std.proofs.lemmas.Result.{err_from_is_err_and}
 use Rattle.ifdb_redo.specs.Reading.{items_at, write_at}
 use Rattle.ifdb_redo.proofs.Loop.{goes_on, ends, is_done}
-use Rattle.ifdb_redo.proofs.Rising.{fits_more}
+use Rattle.ifdb_redo.proofs.RisingWrites.{fits_more}
 use Rattle.ifdb_redo.proofs.reading.write_items.Goals as goal
 
 pub returns-in_err-write-clause-read : goal.returns-in_err-write-clause-read
