@@ -11,6 +11,7 @@ mod Restoring
 pub mod Lending
 pub mod Looking
 mod Narrow
+mod Noting
 mod Publishing
 pub mod RoomLaws
 mod Saying

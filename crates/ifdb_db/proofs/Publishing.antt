@@ -11,8 +11,10 @@ use Rattle.ifdb_catalog.specs.Public.{Public}
 use Rattle.ifdb_catalog.specs.Binding.{bound}
 use Rattle.ifdb_catalog.specs.Laws.{BoundIsNew}
 use Rattle.ifdb_model.specs.Session.{Session}
-use Rattle.ifdb_model.specs.Step.{refuses, is_empty, form_of, publishes, publish, publish_bound, publish_it}
+use Rattle.ifdb_model.specs.Step.{Outcome, refuses, is_empty, form_of, publishes, publish, publish_bound, publish_it}
+use Rattle.ifdb_restore.specs.Redone.{recorded}
 use Rattle.ifdb_db.specs.Desk.{Desk, with_entry, settled}
+use Rattle.ifdb_db.specs.Noting.{Noted, noted, IsNotedAt}
 use Rattle.ifdb_db.specs.Client.{standing}
 use Rattle.ifdb_db.specs.Inside.{session_of}
 use Rattle.ifdb_db.specs.Outside.{outside, IsAdded, IsNotAdded}
@@ -79,6 +81,10 @@ module _ (x y : Desk) (asker : ℕ) (l : List ℕ) (r : Request) (f : form_of r 
         desk = k;
         bounded = λ u. u;
       }
+
+      pub published_noted : (line : List ℕ) (n m : Noted) → refusal_of x.seen.public found ≡ None → m ≡ noted n (recorded (Some asker) line (entry_of found)) → IsNotedAt asker l r line x n m (Ok reply.Done)
+      published_noted line n m none k = λ c. k ∙ sym (ap (λ (o : Outcome). noted n (recorded (Some asker) line o.added))
+          (unlabelled c ∙ ap (publish_bound x.seen.public (there c)) i ∙ added_by x.seen.public (there c) found none))
 
       pub refused : (g : Fault) → (g ≡ fault.OutOfMemory) ⊎ (refusal_of x.seen.public found ≡ Some g) → y ≡ x → IsNotAdded asker l r x y g
       refused g h k = record { cause = by h; desk = k } where

@@ -5,6 +5,7 @@ ghost use Rattle.ifdb_db.specs.Answer.{answered, IsAnswered, IsStill};
 ghost use Rattle.ifdb_db.specs.Desk.{settled};
 ghost use Rattle.ifdb_db.specs.Kept.{IsHeld, IsSound};
 ghost use Rattle.ifdb_db.specs.Looks.{client_of_sight};
+ghost use Rattle.ifdb_db.specs.Noting.{IsNoted};
 ghost use Rattle.ifdb_db.specs.Reading.{read_line};
 
 mod answer;
@@ -16,6 +17,7 @@ mod write;
 
 use crate::OutOfMemory;
 use crate::look::Sight;
+use crate::note::Note;
 use crate::reading::ReadLine;
 use crate::session::Session;
 use ifdb_label::{Tag, Tags};
@@ -86,17 +88,26 @@ impl Db {
         })
     }
 
-    /// Answers a line of an open session. An error is a refusal or want of memory, and changes nothing.
-    pub fn ask(&mut self, session: &mut Session, line: ReadLine<'_>) -> Result<Reply, Fault>
+    /// Answers a line of an open session, and notes what it adds to the log. An error is a refusal or want of memory, and
+    /// changes nothing.
+    pub fn ask(
+        &mut self,
+        session: &mut Session,
+        line: ReadLine<'_>,
+        note: &mut Note,
+    ) -> Result<Reply, Fault>
         requires open { IsTrue session.old.is_open }
         requires kept { IsHeld self.old session.old }
         ensures answered { IsAnswered (answered self.old session.old (read_line line.entry))
             session.old session.new self.old self.new result }
         ensures kept { IsHeld self.new session.new }
         ensures still { IsStill session.old session.new self.old self.new result }
+        ensures noted { IsNoted (answered self.old session.old (read_line line.entry))
+            session.old.principal line.entry note.old note.new result }
     {
+        let text = line.text();
         let request = line.into_request()?;
-        self.answer(session, request)
+        self.answer(session, request, text, note)
     }
 
     /// What a session outside a transaction sees, if it said HELLO; `None` too where there is no memory.

@@ -7,6 +7,7 @@ mod fitting;
 mod lent;
 mod look;
 mod looks;
+mod note;
 mod reading;
 mod room;
 mod session;
@@ -15,6 +16,7 @@ mod txn;
 
 pub use db::RedoFault;
 pub use look::Look;
+pub use note::Note;
 pub use reading::ReadLine;
 pub use room::Room;
 pub use session::Session;

@@ -58,6 +58,13 @@ impl<'a> ReadLine<'a> {
         }
     }
 
+    /// The line.
+    pub(crate) fn text(&self) -> &'a [u8]
+        ensures { result.now ≡ self.now }
+    {
+        self.text
+    }
+
     /// The same line as one that is a SELECT; any other is given back.
     pub(crate) fn into_select(self) -> Result<SelectLine<'a>, Self>
         ensures select { IfOk result (λ line. line ≡ self.entry) }

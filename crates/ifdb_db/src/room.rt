@@ -8,7 +8,8 @@ ghost use Rattle.ifdb_label.specs.Label.{flows};
 ghost use Rattle.ifdb_catalog.specs.Public.{tag_names, tags_of};
 ghost use Rattle.ifdb_model.specs.Run.{asks, leaves, opening, opens};
 ghost use Rattle.ifdb_db.specs.Client.{new_client};
-ghost use Rattle.ifdb_db.specs.Room.{StandsFor, IsSoundRoom, client_in, was_opened};
+ghost use Rattle.ifdb_db.specs.Noting.{IsNoted, IsNotedIn};
+ghost use Rattle.ifdb_db.specs.Room.{StandsFor, IsSoundRoom, client_in, outcome_in, was_opened};
 ghost use Rattle.ifdb_db.specs.RoomSteps.{GoesBy, IsAskedIn, IsLeftBy, IsReplyText, IsReplyTo};
 
 mod lending;
@@ -16,6 +17,7 @@ mod redo;
 
 use crate::OutOfMemory;
 use crate::db::Db;
+use crate::note::Note;
 use crate::reading::ReadLine;
 use crate::session::Session;
 use ifdb_label::{Label, Tag, Tags};
@@ -135,10 +137,38 @@ impl Room {
         ensures still { IfOk result (λ r. IsUnbounded r → self.new ≡ self.old) }
         ensures err { OnErr result (self.new ≡ self.old) }
     {
+        let mut note = self.note(None);
+        self.reply_noted(n, line, &mut note)
+    }
+
+    /// A note for a line that the room is asked, which wants a record of at most `limit` bytes, or none.
+    pub fn note(&self, limit: Option<usize>) -> Note
+        ensures { result ≡ record { limit = limit; held = None } }
+    {
+        Note::new(self.alloc, limit)
+    }
+
+    /// The same, and what the line adds to the log is noted, if a record is wanted, and nothing else. `OutOfMemory`, which changes
+    /// nothing, too where the record is longer than the note's limit.
+    pub fn reply_noted(
+        &mut self,
+        n: u64,
+        line: ReadLine<'_>,
+        note: &mut Note,
+    ) -> Result<Reply, OutOfMemory>
+        ensures asked { OnOk result (GoesBy self.old self.new (asks n line.entry)) }
+        ensures told { IfOk result (IsReplyTo self.old n line.entry) }
+        ensures still { IfOk result (λ r. IsUnbounded r → self.new ≡ self.old) }
+        ensures noted { OnOk result (IsNotedIn self.old n line.entry note.old note.new) }
+        ensures limit { note.new.limit ≡ note.old.limit }
+        ensures err { OnErr result (self.new ≡ self.old) }
+    {
+        note.clear();
         self.is_sound();
-        match self.answer(n, line) {
+        match self.answer(n, line, note) {
             Ok(reply) => Ok(reply),
             Err(fault) => {
+                note.clear();
                 let reply = refusal_of(fault)?;
                 Ok(reply)
             }
@@ -268,22 +298,31 @@ impl Room {
     }
 
     /// What a line of a session comes to. An error changes nothing, and want of memory is one.
-    fn answer(&mut self, n: u64, line: ReadLine<'_>) -> Result<Reply, Fault>
-        ensures { IsAskedIn n line.entry self.old self.new result }
+    fn answer(&mut self, n: u64, line: ReadLine<'_>, note: &mut Note) -> Result<Reply, Fault>
+        ensures asked { IsAskedIn n line.entry self.old self.new result }
+        ensures noted { IsNoted (outcome_in self.old n line.entry)
+            (client_in self.old n).principal line.entry note.old note.new result }
     {
         if !self.is_open(n) {
             drop(line);
             return Err(Fault::NoSession);
         }
-        self.answer_open(n, line)
+        self.answer_open(n, line, note)
     }
 
     /// What a line of an open session comes to.
-    fn answer_open(&mut self, n: u64, line: ReadLine<'_>) -> Result<Reply, Fault>
+    fn answer_open(
+        &mut self,
+        n: u64,
+        line: ReadLine<'_>,
+        note: &mut Note,
+    ) -> Result<Reply, Fault>
         requires { IsTrue (client_in self.old n).is_open }
-        ensures { IsAskedIn n line.entry self.old self.new result }
+        ensures asked { IsAskedIn n line.entry self.old self.new result }
+        ensures noted { IsNoted (outcome_in self.old n line.entry)
+            (client_in self.old n).principal line.entry note.old note.new result }
     {
-        let reply = self.db.ask(&mut self.sessions[(n - 1) as usize], line)?;
+        let reply = self.db.ask(&mut self.sessions[(n - 1) as usize], line, note)?;
         Ok(reply)
     }
 }

@@ -4,6 +4,7 @@
 
 ghost use Rattle.ifdb_restore.specs.Same.{SameLogsAnswerAlike};
 ghost use Rattle.ifdb_restore.specs.Compacted.{CompactedRestore};
+ghost use Rattle.ifdb_restore.specs.Fronts.{FrontsRestore};
 ghost use Rattle.ifdb_restore.specs.Parents.{ParentsAreSpared};
 ghost use Rattle.ifdb_restore.specs.Passing.{RunsAreRestored, RunsPass};
 ghost use Rattle.ifdb_restore.specs.Redone.{ChangesAreRedone, RecordsRestore};
@@ -27,6 +28,11 @@ pub fn changes_are_redone()
 /// The records of a run restore its log, where its commits pass the test for what may be installed.
 pub fn records_restore()
     ensures { RecordsRestore }
+{}
+
+/// A front of some records restores as long a front of the log that all of them restore.
+pub fn fronts_restore()
+    ensures { FrontsRestore }
 {}
 
 /// What a COMMIT asks of written rows and of children is just that each row's parents stand after the writes.

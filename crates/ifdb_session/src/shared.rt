@@ -216,7 +216,8 @@ fn tell(
     let Some(session) = lent.take() else {
         return tell_there(room, n, line, out);
     };
-    match room.resume(n, session, line, out) {
+    let mut note = room.note(None);
+    match room.resume(n, session, line, &mut note, out) {
         Ok(reply) => Ok(reply),
         Err(session) => {
             *lent = Some(session);

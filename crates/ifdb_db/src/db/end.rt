@@ -1,15 +1,18 @@
 // How transactions begin and end.
-ghost use Rattle.std.specs.Prelude.{◌≡◌, ◌++◌, ◌∷◌, [], None, Some, IfErr, IfOk, IsTrue, OnErr, OnOk};
+ghost use Rattle.std.specs.Prelude.{◌≡◌, ◌++◌, ◌∷◌, [], ℕ, List, None, Option, Some, IfErr, IfOk, IsTrue, OnErr, OnOk};
+ghost use Rattle.ifdb_redo.specs.declared.record.RedoRecord.TheVariants as redo;
 ghost use Rattle.ifdb_model.specs.Log.{commits};
 ghost use Rattle.ifdb_model.specs.Step.{begin, bye, rollback};
 ghost use Rattle.ifdb_db.specs.Answer.{begun_at, commits_by, fault_at, fault_of, IsAnswered, IsStill};
 ghost use Rattle.ifdb_db.specs.Client.{left_client, session_at, txn_at};
 ghost use Rattle.ifdb_db.specs.Desk.{begins_after, moved, settled, with_entry, without};
 ghost use Rattle.ifdb_db.specs.Kept.{Began, IsHeld, IsLabelKept, keeps_parents, Outgrows};
+ghost use Rattle.ifdb_db.specs.Noting.{noted, IsNoted};
 
 use super::Db;
 use crate::OutOfMemory;
 use crate::begins::{oldest_of, settle, take_away};
+use crate::note::Note;
 use crate::session::Session;
 use crate::txn::Txn;
 use ifdb_commit::{Judged, verdict};
@@ -46,13 +49,20 @@ impl Db {
     }
 
     /// COMMIT: first the verdict, then the memory, then the writes.
-    pub(super) fn commit(&mut self, session: &mut Session) -> Result<Reply, Fault>
+    #[tactic(auto, using(crate::proofs::Noting::nothing_noted, crate::proofs::Noting::commit_noted))]
+    pub(super) fn commit(
+        &mut self,
+        session: &mut Session,
+        note: &mut Note,
+    ) -> Result<Reply, Fault>
         requires kept { IsHeld self.old session.old }
         ensures answered { IsAnswered (commits_by self.old session.old)
             session.old session.new self.old self.new result }
         ensures kept { IsHeld self.new session.new }
         ensures still { IsStill session.old session.new self.old self.new result }
         ensures memory_after_verdict { OnErr result (fault_at self.old session.old ≡ None) }
+        ensures noted { (asker : Option ℕ) (line : List ℕ)
+            → IsNoted (commits_by self.old session.old) asker line note.old note.new result }
     {
         let Some(txn) = session.txn.take() else {
             return Err(Fault::NoTransaction);
@@ -62,7 +72,7 @@ impl Db {
             drop(txn);
             return Ok(Reply::Refused(fault));
         }
-        if let Err(txn) = self.install(txn) {
+        if let Err(txn) = self.install(txn, note) {
             session.txn = Some(txn);
             return Err(Fault::OutOfMemory);
         }
@@ -88,7 +98,7 @@ impl Db {
     }
 
     /// Makes the writes of a transaction that may commit, which is over then. `Err` is want of memory, and gives it back.
-    fn install(&mut self, txn: Txn) -> Result<(), Txn>
+    fn install(&mut self, txn: Txn, note: &mut Note) -> Result<(), Txn>
         requires kept { Outgrows txn.base.public self.old.seen.public }
         requires begun { Began txn.begin txn.base self.old.seen self.old.count }
         requires rooted { IsTrue (keeps_parents self.old.seen.rows txn.own) }
@@ -98,12 +108,13 @@ impl Db {
             })) }
         ensures back { IfErr result (λ back. back ≡ txn) }
         ensures err { OnErr result (self.new ≡ self.old) }
+        ensures noted { OnOk result
+            (note.new ≡ noted note.old (redo.Commit txn.own ∷ [])) }
+        ensures limit { note.new.limit ≡ note.old.limit }
     {
-        if self.count == u64::MAX {
+        if self.count == u64::MAX || note.commit(txn.own()).is_err() {
             return Err(txn);
         }
-        // That they fit is known of its own writes.
-        let _ = txn.own();
         let begin = txn.begin();
         let before = oldest_of(&self.begins, self.count);
         if let Err(txn) = txn.commit(&mut self.store, self.count) {

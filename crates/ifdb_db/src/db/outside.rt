@@ -4,10 +4,12 @@ ghost use Rattle.ifdb_snapshot.specs.Narrow.{is_narrow};
 ghost use Rattle.ifdb_db.specs.Answer.{answered_by, IsAnswered, IsStill};
 ghost use Rattle.ifdb_db.specs.Client.{seen_by, session_at};
 ghost use Rattle.ifdb_db.specs.Kept.{IsHeld};
+ghost use Rattle.ifdb_db.specs.Noting.{IsNoted};
 ghost use Rattle.ifdb_model.specs.Step.{bye, form_of, hello, looks, relabels, show_label};
 
 use super::Db;
 use crate::looks::{select, set_label};
+use crate::note::Note;
 use crate::session::Session;
 use ifdb_syntax::Request;
 use ifdb_value::{Name, Principal, Word};
@@ -54,12 +56,14 @@ impl Db {
     }
 
     /// Answers a session without a transaction that said HELLO.
-    #[tactic(auto, using(crate::proofs::Answering::hello_twice, crate::proofs::Answering::publish_holds))]
+    #[tactic(auto, using(crate::proofs::Answering::hello_twice, crate::proofs::Answering::publish_holds, crate::proofs::Noting::quiet_noted))]
     pub(super) fn answer_outside(
         &mut self,
         session: &mut Session,
         asker: Principal,
         request: Request,
+        line: &[u8],
+        note: &mut Note,
     ) -> Result<Reply, Fault>
         requires narrow { IsTrue (is_narrow request) }
         requires open { IsTrue session.old.is_open }
@@ -70,23 +74,25 @@ impl Db {
             session.old session.new self.old self.new result }
         ensures kept { IsHeld self.new session.new }
         ensures still { IsStill session.old session.new self.old self.new result }
+        ensures noted { IsNoted (answered_by self.old session.old (Some asker) request)
+            (Some asker) line.now note.old note.new result }
     {
         match &request {
             Request::Hello { .. } => Err(Fault::HelloTwice),
-            Request::CreatePrincipal { .. } => self.publish(session, asker, request),
-            Request::CreateTag { .. } => self.publish(session, asker, request),
-            Request::CreateTable { .. } => self.publish(session, asker, request),
-            Request::CreateView { .. } => self.publish(session, asker, request),
-            Request::Grant { .. } => self.publish(session, asker, request),
-            Request::Revoke { .. } => self.publish(session, asker, request),
+            Request::CreatePrincipal { .. } => self.publish(session, asker, request, line, note),
+            Request::CreateTag { .. } => self.publish(session, asker, request, line, note),
+            Request::CreateTable { .. } => self.publish(session, asker, request, line, note),
+            Request::CreateView { .. } => self.publish(session, asker, request, line, note),
+            Request::Grant { .. } => self.publish(session, asker, request, line, note),
+            Request::Revoke { .. } => self.publish(session, asker, request, line, note),
             Request::SetLabel { .. } => self.set_label(session, asker, request),
             Request::ShowLabel => self.show_label(session),
             Request::Select(_) => self.select(session, asker, request),
-            Request::Insert { .. } => self.change_rows(session, asker, request),
-            Request::Update { .. } => self.change_rows(session, asker, request),
-            Request::Delete { .. } => self.change_rows(session, asker, request),
+            Request::Insert { .. } => self.change_rows(session, asker, request, note),
+            Request::Update { .. } => self.change_rows(session, asker, request, note),
+            Request::Delete { .. } => self.change_rows(session, asker, request, note),
             Request::Begin => self.begin(session),
-            Request::Commit => self.commit(session),
+            Request::Commit => self.commit(session, note),
             Request::Rollback => self.roll_back(session),
             Request::Bye => self.say_bye(session),
         }

@@ -5,15 +5,18 @@ ghost use Rattle.ifdb_catalog.specs.Public.{refusal};
 ghost use Rattle.ifdb_catalog.specs.Fits.{bound_fits, change_fits, is_new};
 ghost use Rattle.ifdb_model.specs.Log.{changes};
 ghost use Rattle.ifdb_model.specs.Step.{form_of, publishes};
+ghost use Rattle.ifdb_restore.specs.Redone.{recorded};
 ghost use Rattle.ifdb_snapshot.specs.Narrow.{is_narrow, is_narrow_bound, is_narrow_change};
 ghost use Rattle.ifdb_db.specs.Answer.{answered_by, IsAnswered, IsStill};
 ghost use Rattle.ifdb_db.specs.Desk.{settled, with_entry};
 ghost use Rattle.ifdb_db.specs.Kept.{IsKept};
+ghost use Rattle.ifdb_db.specs.Noting.{noted, IsNoted, IsNotedAt};
 ghost use Rattle.ifdb_db.specs.Outside.{IsPublished};
 ghost use Rattle.ifdb_db.specs.Publishing.{entry_of, is_new_bound, refusal_of};
 
 use super::Db;
 use crate::begins::{oldest_of, settle};
+use crate::note::Note;
 use crate::session::Session;
 use ifdb_bound::{Bound, Change};
 use ifdb_catalog::bound_changes_are_new;
@@ -24,12 +27,14 @@ use ifdb_wire::{Fault, Reply};
 
 impl Db {
     /// CREATE, GRANT and REVOKE outside a transaction.
-    #[tactic(auto, using(crate::proofs::Answering::published_answers, crate::proofs::Answering::published_keeps, crate::proofs::Answering::published_is_still, crate::proofs::Keeping::made_now))]
+    #[tactic(auto, using(crate::proofs::Answering::published_answers, crate::proofs::Answering::published_keeps, crate::proofs::Answering::published_is_still, crate::proofs::Keeping::made_now, crate::proofs::Noting::noted_at))]
     pub(super) fn publish(
         &mut self,
         session: &mut Session,
         asker: Principal,
         request: Request,
+        line: &[u8],
+        note: &mut Note,
     ) -> Result<Reply, Fault>
         requires form { form_of request ≡ publishes }
         requires narrow { IsTrue (is_narrow request) }
@@ -41,21 +46,27 @@ impl Db {
             session.old session.new self.old self.new result }
         ensures kept { IsKept self.new.seen.public session.new }
         ensures still { IsStill session.old session.new self.old self.new result }
+        ensures noted { IsNoted (answered_by self.old session.old (Some asker) request)
+            (Some asker) line.now note.old note.new result }
     {
-        self.publish_at(asker, &session.label, request)
+        self.publish_at(asker, &session.label, request, line, note)
     }
 
     /// Makes a change of the public state, at the empty label alone.
-    #[tactic(auto, using(crate::proofs::Publishing::bound_is_new, crate::proofs::Publishing::published, crate::proofs::Publishing::labelled, crate::proofs::Publishing::unbound, crate::proofs::Publishing::refused))]
+    #[tactic(auto, using(crate::proofs::Publishing::bound_is_new, crate::proofs::Publishing::published, crate::proofs::Publishing::labelled, crate::proofs::Publishing::unbound, crate::proofs::Publishing::refused, crate::proofs::Publishing::published_noted, crate::proofs::Noting::not_noted))]
     fn publish_at(
         &mut self,
         asker: Principal,
         label: &Label,
         request: Request,
+        line: &[u8],
+        note: &mut Note,
     ) -> Result<Reply, Fault>
         requires form { form_of request ≡ publishes }
         requires narrow { IsTrue (is_narrow request) }
-        ensures { IsPublished asker label.now request self.old self.new result }
+        ensures published { IsPublished asker label.now request self.old self.new result }
+        ensures noted { IsNotedAt asker label.now request line.now
+            self.old note.old note.new result }
     {
         if !label.tags().is_empty() {
             drop(request);
@@ -63,12 +74,18 @@ impl Db {
         }
         let found = self.seen().bind(asker, request)?;
         bound_changes_are_new();
-        self.make(found)?;
+        self.make(found, asker, line, note)?;
         Ok(Reply::Done)
     }
 
     /// Makes what is bound, if it is a change.
-    fn make(&mut self, found: Bound) -> Result<(), Fault>
+    fn make(
+        &mut self,
+        found: Bound,
+        asker: Principal,
+        line: &[u8],
+        note: &mut Note,
+    ) -> Result<(), Fault>
         requires fits { IsTrue (bound_fits self.old.seen.public found) }
         requires new { IsTrue (is_new_bound self.old.seen.public found) }
         requires narrow { IsTrue (is_narrow_bound found) }
@@ -77,9 +94,15 @@ impl Db {
         ensures refused { IfErr result (λ fault. (fault ≡ NoMemory)
             ⊎ (refusal_of self.old.seen.public found ≡ Some fault)) }
         ensures err { OnErr result (self.new ≡ self.old) }
+        ensures noted { OnOk result (note.new
+            ≡ noted note.old (recorded (Some asker) line.now (entry_of found))) }
+        ensures limit { note.new.limit ≡ note.old.limit }
     {
         match found {
-            Bound::Change(change) => self.apply(change),
+            Bound::Change(change) => {
+                note.change(asker, line)?;
+                self.apply(change)
+            }
             _ => {
                 drop(found);
                 self.is_settled();

@@ -1,5 +1,5 @@
 // INSERT, UPDATE and DELETE outside a transaction, each a commit of its own.
-ghost use Rattle.std.specs.Prelude.{◌≡◌, IfOk, IsTrue, None, OnErr, OnOk, Some, length};
+ghost use Rattle.std.specs.Prelude.{◌≡◌, ℕ, IfOk, IsTrue, List, None, OnErr, OnOk, Some, length};
 ghost use Rattle.ifdb_label.specs.Tags.{AreMade};
 ghost use Rattle.ifdb_model.specs.Log.{commits};
 ghost use Rattle.ifdb_model.specs.Step.{form_of, writes};
@@ -8,12 +8,14 @@ ghost use Rattle.ifdb_snapshot.specs.Writing.{are_fit};
 ghost use Rattle.ifdb_db.specs.Answer.{answered_by, IsAnswered, IsStill};
 ghost use Rattle.ifdb_db.specs.Desk.{settled, with_entry};
 ghost use Rattle.ifdb_db.specs.Kept.{IsHeld, keeps_parents};
+ghost use Rattle.ifdb_db.specs.Noting.{IsNoted, IsNotedAt};
 ghost use Rattle.ifdb_db.specs.Outside.{IsPublished, unless_orphaned, Writes as FindsWrites};
 ghost use Rattle.ifdb_model.specs.Writes.{is_delete};
 
 use super::Db;
 use crate::OutOfMemory;
 use crate::begins::{oldest_of, settle};
+use crate::note::Note;
 use crate::session::Session;
 use ifdb_bound::Bound;
 use ifdb_label::Label;
@@ -26,12 +28,13 @@ use ifdb_wire::{Fault, Reply};
 
 impl Db {
     /// INSERT, UPDATE and DELETE outside a transaction.
-    #[tactic(auto, using(crate::proofs::Answering::published_answers, crate::proofs::Answering::published_holds, crate::proofs::Answering::published_is_still, crate::proofs::Keeping::made_held))]
+    #[tactic(auto, using(crate::proofs::Answering::published_answers, crate::proofs::Answering::published_holds, crate::proofs::Answering::published_is_still, crate::proofs::Keeping::made_held, crate::proofs::Noting::noted_at))]
     pub(super) fn change_rows(
         &mut self,
         session: &mut Session,
         asker: Principal,
         request: Request,
+        note: &mut Note,
     ) -> Result<Reply, Fault>
         requires form { form_of request ≡ writes }
         requires narrow { IsTrue (is_narrow request) }
@@ -43,27 +46,35 @@ impl Db {
             session.old session.new self.old self.new result }
         ensures kept { IsHeld self.new session.new }
         ensures still { IsStill session.old session.new self.old self.new result }
+        ensures noted { (line : List ℕ)
+            → IsNoted (answered_by self.old session.old (Some asker) request)
+            (Some asker) line note.old note.new result }
     {
-        self.change_rows_at(asker, &session.label, request)
+        self.change_rows_at(asker, &session.label, request, note)
     }
 
     /// Makes what an INSERT, UPDATE or DELETE writes at a label, and says how many rows that counts. `StillReferenced` where a DELETE leaves
     /// a row without a parent.
-    #[tactic(auto, using(crate::proofs::Writing::landed, crate::proofs::Writing::not_landed))]
+    #[tactic(auto, using(crate::proofs::Writing::landed, crate::proofs::Writing::not_landed, crate::proofs::Noting::landed_noted, crate::proofs::Noting::not_noted))]
     fn change_rows_at(
         &mut self,
         asker: Principal,
         label: &Label,
         request: Request,
+        note: &mut Note,
     ) -> Result<Reply, Fault>
         requires form { form_of request ≡ writes }
         requires narrow { IsTrue (is_narrow request) }
         requires made { AreMade (length self.old.seen.public.tags) label.now }
-        ensures { IsPublished asker label.now request self.old self.new result }
+        ensures published { IsPublished asker label.now request self.old self.new result }
+        ensures noted { (line : List ℕ) → IsNotedAt asker label.now request line
+            self.old note.old note.new result }
     {
         let written = self.written(asker, label, request)?;
         let count = written.count();
-        self.land(written.into_writes())?;
+        let writes = written.into_writes();
+        note.commit(&writes)?;
+        self.land(writes)?;
         Ok(Reply::Count(count))
     }
 

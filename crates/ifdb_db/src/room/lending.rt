@@ -5,11 +5,13 @@ ghost use Rattle.ifdb_model.specs.Run.{asks, leaves};
 ghost use Rattle.ifdb_db.specs.Kept.{IsHeld};
 ghost use Rattle.ifdb_db.specs.Lent.{IsLent, MayComeBack, with_client};
 ghost use Rattle.ifdb_db.specs.Looks.{IsLookOf, IsSightOf};
+ghost use Rattle.ifdb_db.specs.Noting.{IsNotedIn};
 ghost use Rattle.ifdb_db.specs.Room.{client_in};
 ghost use Rattle.ifdb_db.specs.RoomSteps.{GoesBy, IsReplyTo};
 
 use super::{Room, say};
 use crate::look::{Look, Sight};
+use crate::note::Note;
 use crate::reading::ReadLine;
 use crate::session::Session;
 use ifdb_wire::{Fault, Out, Reply};
@@ -54,13 +56,14 @@ impl Room {
         self.db.sight(&self.sessions[(n - 1) as usize])
     }
 
-    /// Takes a lent session back, asks a line for it, and tells the reply on a connection. `Err` is want of memory, which
-    /// changes nothing and gives the session back.
+    /// Takes a lent session back, asks a line for it, notes what it adds to the log, and tells the reply on a connection. `Err`
+    /// is want of memory, or of room for the note: it changes nothing and gives the session back.
     pub fn resume(
         &mut self,
         n: u64,
         session: Session,
         line: ReadLine<'_>,
+        note: &mut Note,
         out: &mut Out,
     ) -> Result<Reply, Session>
         requires { MayComeBack self.old n session }
@@ -68,13 +71,16 @@ impl Room {
             (GoesBy (with_client self.old n session) self.new (asks n line.entry)) }
         ensures told { IfOk result (IsReplyTo (with_client self.old n session) n line.entry) }
         ensures text { IfOk result (λ r. out.new.text ≡ reply_text None r) }
+        ensures noted { OnOk result
+            (IsNotedIn (with_client self.old n session) n line.entry note.old note.new) }
+        ensures limit { note.new.limit ≡ note.old.limit }
         ensures err { OnErr result (self.new ≡ self.old) }
         ensures back { IfErr result (λ back. back ≡ session) }
         ensures memory { OnErr result (out.new.text ≡ memory_text None) }
     {
         self.is_sound();
         let begun = self.put(n, session);
-        let Ok(reply) = self.reply_read(n, line) else {
+        let Ok(reply) = self.reply_noted(n, line, note) else {
             say(out, None, &Reply::Refused(Fault::OutOfMemory));
             return Err(self.put(n, begun));
         };

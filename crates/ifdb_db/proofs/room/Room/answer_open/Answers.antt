@@ -18,8 +18,8 @@ invariant_of-self-2 c =
     c.in_ok-reply.ensures.answered.desk c.self.invariant in
     all_set (IsHeld c.ask.new.self) c.self.inside.sessions.items (c.args.n - 1) c.ask.new.session c.ask.ensures.kept others
 
-pub returns : goal.returns
-returns c =
+pub returns-clause-asked : goal.returns-clause-asked
+returns-clause-asked c =
     let h : Hall = record { desk = c.self.inside.db; clients = c.self.inside.sessions.items } in
     let g : Hall = record { desk = c.ask.new.self; clients = slice_set c.self.inside.sessions.items (c.args.n - 1) c.ask.new.session } in
     let is_open = subst (λ (z : Hall). (client_in z c.args.n).is_open ≡ true) (sym c.self.view_is) c.requires in

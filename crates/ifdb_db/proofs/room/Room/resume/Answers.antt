@@ -7,7 +7,7 @@ use Rattle.ifdb_db.proofs.room.Room.resume.Goals as goal
 pub returns-in_default-clause-err : goal.returns-in_default-clause-err
 returns-in_default-clause-err c =
     let h = c.args.self.now in
-    let same : c.reply_read.new.self ≡ c.put-begun.new.self = search rules in
+    let same : c.reply_noted.new.self ≡ c.put-begun.new.self = search rules in
     let room = same ∙ c.put-begun.ensures.put in
     c.put.ensures.put ∙ (λ i. with_client (room i) c.args.n (c.put-begun.ensures.before i))
     ∙ put_twice h c.args.n c.args.session (client_in h c.args.n) ∙ put_itself h c.args.n c.requires.is_open
@@ -15,7 +15,7 @@ returns-in_default-clause-err c =
 pub returns-then-not-say-clause-err : goal.returns-then-not-say-clause-err
 returns-then-not-say-clause-err c =
     let h = c.args.self.now in
-    let same : c.reply_read.new.self ≡ c.put-begun.new.self = c.in-Ok.ensures.still (search rules) in
+    let same : c.reply_noted.new.self ≡ c.put-begun.new.self = c.in-Ok.ensures.still (search rules) in
     let room = same ∙ c.put-begun.ensures.put in
     c.put-then-not-say.ensures.put ∙ (λ i. with_client (room i) c.args.n (c.put-begun.ensures.before i))
     ∙ put_twice h c.args.n c.args.session (client_in h c.args.n) ∙ put_itself h c.args.n c.requires.is_open
