@@ -1,4 +1,3 @@
--- decides: what a restart makes of a record
 -- Recorded entries that are made again.
 use Rattle.std.specs.Prelude.{◌≡◌, ℕ, Bool, ◌&&◌, List, [], ◌∷◌, Option, Some, None, if◌then◌else◌}
 use Rattle.ifdb_row.specs.declared.write.Write.{Write}

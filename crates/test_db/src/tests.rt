@@ -1,9 +1,9 @@
 //! A small history made again record by record, and records that don't fit.
 ghost use Rattle.std.specs.Prelude.{◌≡◌, length};
 
-use ifdb_db::{RedoFault, Room};
+use ifdb_db::{OutOfMemory, ReadLine, RedoFault, Room};
 use ifdb_redo::{checksum, read_record};
-use ifdb_wire::Out;
+use ifdb_wire::{Out, Reply};
 use std::alloc::Global;
 use std::process::Abort;
 use std::test::Fail;
@@ -98,6 +98,48 @@ fn redo(alloc: Global, room: &mut Room, body: &[u8]) -> Result<Result<(), RedoFa
     text.extend_from_slice(&checksum(body).to_be_bytes())?;
     let recorded = read_record(alloc, &text)?;
     Ok(room.redo(recorded))
+}
+
+#[test]
+fn what_is_noted_is_what_is_redone(rt: HostRuntime) -> Result<(), Fail> {
+    let alloc = rt.alloc();
+    let mut room = Room::opening(alloc)?;
+    room.open_next()?;
+    let mut records = RECORDS.iter();
+    for line in &HISTORY {
+        let mut note = room.note(Some(4096));
+        room.reply_noted(1, ReadLine::new(alloc, line.as_bytes()), &mut note)?;
+        if let Some(text) = note.into_text() {
+            let (body, sum) = text.items().split_at(text.len().saturating_sub(4));
+            assert_eq!(rt; Some(body), records.next().copied());
+            assert_eq!(rt; sum, checksum(body).to_be_bytes().as_slice());
+        }
+    }
+    assert_eq!(rt; records.next(), None);
+    Ok(())
+}
+
+#[test]
+fn a_record_over_the_limit_is_not_made(rt: HostRuntime) -> Result<(), Fail> {
+    let alloc = rt.alloc();
+    let mut room = Room::opening(alloc)?;
+    room.open_next()?;
+    ask(alloc, &mut room, HISTORY[0], None)?;
+    // A record of a line is as long as the line, and six bytes.
+    assert!(rt; ask(alloc, &mut room, "CREATE TAG t", Some(17)).is_err());
+    assert!(rt; matches!(ask(alloc, &mut room, "CREATE TAG t", Some(18))?, Reply::Done));
+    Ok(())
+}
+
+/// What a line of session 1 is told, with a note of so many bytes.
+fn ask(
+    alloc: Global,
+    room: &mut Room,
+    line: &str,
+    limit: Option<usize>,
+) -> Result<Reply, OutOfMemory> {
+    let mut note = room.note(limit);
+    room.reply_noted(1, ReadLine::new(alloc, line.as_bytes()), &mut note)
 }
 
 /// Records that don't fit behind that history.

@@ -1,0 +1,17 @@
+-- What a restart makes of a served database's records.
+use Rattle.std.specs.Prelude.{◌≡◌, ℕ, List, take, map, Some}
+use Rattle.ifdb_redo.specs.declared.record.RedoRecord.{RedoRecord}
+use Rattle.ifdb_redo.specs.Reading.{record_of}
+use Rattle.ifdb_model.specs.Run.{opening, Step, run}
+use Rattle.ifdb_restore.specs.Redone.{records}
+use Rattle.ifdb_db.specs.Reading.{read_line}
+use Rattle.ifdb_restart.specs.Restarted.{log_of}
+
+-- texts are read as these records
+abbrev pub AreTextsOf : List (List ℕ) → List RedoRecord → Type 0
+AreTextsOf texts rs = map record_of texts ≡ map Some rs
+
+-- the first texts of a run's records restore the first entries of its log, one each
+abbrev pub FirstTextsRestoreAFront : Type 0
+FirstTextsRestoreAFront = (steps : List Step) (texts : List (List ℕ)) (n : ℕ) → AreTextsOf texts (records read_line opening steps)
+    → log_of (take n texts) ≡ Some (take n (run read_line opening steps).log)

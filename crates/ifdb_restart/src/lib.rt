@@ -1,0 +1,9 @@
+//! A restart: the redo records of a log, made again in a room.
+#![tactic(auto)]
+
+mod laws;
+mod redo;
+
+pub use laws::first_texts_restore_a_front;
+pub use redo::redo_text;
+pub use std::alloc::AllocError as OutOfMemory;
