@@ -23,5 +23,6 @@ pub mod Spelled
 pub mod Joined
 pub mod Spared
 pub mod Framed
+mod SameTurns
 pub mod ToldBack
 pub mod ScriptBounds
