@@ -21,7 +21,6 @@ use Rattle.ifdb_model.specs.Run.{State, opening, session_of, Step, opens, asks, 
 use Rattle.ifdb_model.proofs.Runs.{run-append}
 use Rattle.ifdb_restore.specs.Redone.{idle, change_of, entry_if, ChangesAreRedone, recorded, records_at, records, Test, restored, restored_behind, longer, CommitsPass, RecordsRestore}
 use Rattle.ifdb_redo.specs.declared.record.RedoRecord.{RedoRecord}
-use Rattle.ifdb_redo.specs.declared.record.RedoRecord.TheVariants as redo
 
 -- ---- only a public change is added as one
 
