@@ -19,7 +19,7 @@ use Rattle.ifdb_db.specs.Desk.{Desk, with_entry, settled, moved, begins_after}
 use Rattle.ifdb_db.specs.Answer.{answered_by, fault_of, IsDone, IsUndone, IsAnswered, IsStill}
 use Rattle.ifdb_db.specs.Inside.{session_of, Says, Denies, IsSaid, IsSaidAlike, Inside, IsReplied, IsDenied}
 use Rattle.ifdb_db.specs.Outside.{outside, IsAdded, IsNotAdded, IsPublished}
-use Rattle.ifdb_db.specs.Kept.{IsSound, IsBegun, IsKept, IsHeld}
+use Rattle.ifdb_db.specs.Kept.{IsSound, IsKept, IsHeld}
 use Rattle.ifdb_db.proofs.BeginLaws.{is_settled}
 use Rattle.ifdb_db.proofs.Keeping.{held_by, label_kept_by, not_begun}
 use Rattle.ifdb_db.proofs.Saying.{said_under}

@@ -1,6 +1,6 @@
 -- What is recorded of a line, by what its request came to.
-use Rattle.std.proofs.Common.{◌≡◌, ℕ, Bool, true, false, cond, List, [], ◌∷◌, ◌∙◌, refl, sym, ap, subst, Option, Some, None, inl, inr}
-use Rattle.std.specs.Prelude.{◌⊎◌, Result, Ok, Err, nat_lt}
+use Rattle.std.proofs.Common.{◌≡◌, ℕ, Bool, true, false, cond, List, [], ◌∷◌, ◌∙◌, refl, sym, ap, subst, Option, Some, None}
+use Rattle.std.specs.Prelude.{Result, Ok, Err}
 use Rattle.ifdb_row.specs.declared.write.Write.{Write}
 use Rattle.ifdb_redo.specs.declared.record.RedoRecord.{RedoRecord}
 use Rattle.ifdb_redo.specs.declared.record.RedoRecord.TheVariants as redo
@@ -14,12 +14,12 @@ use Rattle.ifdb_bound.specs.declared.request.Bound.TheVariants as bound
 use Rattle.ifdb_catalog.specs.Public.{Public, principal_named, is_key}
 use Rattle.ifdb_model.specs.Log.{Entry, commits}
 use Rattle.ifdb_model.specs.Session.{Session, Seen, in_txn}
-use Rattle.ifdb_model.specs.Step.{Form, greets, publishes, relabels, shows_label, begins, ends, rolls_back, leaves_us, looks, writes, form_of, Outcome, tells, refuses, welcomed, greeted, hello, label_refusal, relabelled_as, set_label, begin, rollback, committed, answered_as, answered_new, ask}
+use Rattle.ifdb_model.specs.Step.{Form, greets, publishes, relabels, shows_label, begins, ends, rolls_back, leaves_us, looks, writes, form_of, Outcome, tells, refuses, welcomed, greeted, label_refusal, relabelled_as, set_label, answered_as, answered_new, ask}
 use Rattle.ifdb_model.specs.Run.{State, session_of, asks}
 use Rattle.ifdb_model.specs.Writes.{Written}
 use Rattle.ifdb_restore.specs.Redone.{recorded, records_at}
-use Rattle.ifdb_db.specs.Answer.{answered_by, fault_of}
-use Rattle.ifdb_db.specs.Client.{Open, Client, Standing, standing, client_of, session_at, txn_at, seen_by}
+use Rattle.ifdb_db.specs.Answer.{answered, answered_by, commits_by, fault_of}
+use Rattle.ifdb_db.specs.Client.{Open, Client, Standing, standing, client_of, session_at, seen_by}
 use Rattle.ifdb_db.specs.Desk.{Desk}
 use Rattle.ifdb_db.specs.Inside.{IsReplied}
 use Rattle.ifdb_db.specs.Noting.{Noted, blank, holding, noted, IsNoted, IsNotedAt, IsNotedIn}
@@ -135,7 +135,30 @@ pub noted_at : (x : Desk) (c : Client) (asker : ℕ) (r : Request) (line : List 
 noted_at x c asker r line n m told o p t h =
     subst (λ (e : Client). IsNoted (answered_by x e (Some asker) r) (Some asker) line n m told) (sym (client_is asker None c o p t)) (h c.ceiling)
 
+-- COMMIT, by its form
+pub ends_noted : (d : Desk) (c : Client) (asker : ℕ) (r : Request) (line : List ℕ) (n m : Noted) (told : Result Reply Fault) → form_of r ≡ ends
+    → IsNoted (commits_by d c) (Some asker) line n m told → IsNoted (answered_by d c (Some asker) r) (Some asker) line n m told
+ends_noted d c asker r line n m told e h =
+    subst (λ (f : Form). IsNoted (answered_as d.count (seen_by d.seen c.txn) (fault_of d c.label c.txn) (session_at c) asker r f) (Some asker) line n m told) (sym e) h
+
+-- the limit stays
+holding_limit : (o : Option ℕ) (n : Noted) (r : RedoRecord) → (holding o n r).limit ≡ n.limit
+holding_limit None n r = refl
+holding_limit (Some limit) n r = refl
+
+pub noted_limit : (n : Noted) (rs : List RedoRecord) → (noted n rs).limit ≡ n.limit
+noted_limit n [] = refl
+noted_limit n (r ∷ rs) = holding_limit n.limit n r
+
 -- ---- in a room
+
+-- an open client is asked
+pub asked_noted : (h : Hall) (n : ℕ) (line : List ℕ) (c : Client) (a b : Noted) (told : Result Reply Fault) → (client_in h n).is_open ≡ true → c ≡ client_in h n
+    → IsNoted (answered h.desk c (read_line line)) c.principal line a b told → IsNoted (outcome_in h n line) (client_in h n).principal line a b told
+asked_noted h n line c a b told o is k =
+    let same : outcome_in h n line ≡ answered h.desk (client_in h n) (read_line line) = rw o refl in
+    subst (λ (x : Outcome). IsNoted x (client_in h n).principal line a b told) (sym same)
+    (subst (λ (e : Client). IsNoted (answered h.desk e (read_line line)) e.principal line a b told) is k)
 
 module _ (h : Hall) (st : State) (w : StandsFor h st) (sound : IsSoundRoom h) (n : ℕ) (line : List ℕ) where
   -- the records of a line, by what the room holds

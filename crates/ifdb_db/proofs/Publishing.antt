@@ -1,5 +1,5 @@
 -- CREATE, GRANT and REVOKE outside a transaction, by what they are bound to.
-use Rattle.std.proofs.Common.{◌≡◌, ℕ, true, false, List, ◌∙◌, refl, ap, Option, Some, None, inl, inr}
+use Rattle.std.proofs.Common.{◌≡◌, ℕ, true, false, List, ◌∙◌, refl, sym, ap, Option, Some, None, inl, inr}
 use Rattle.std.specs.Prelude.{◌⊎◌, Ok, Err}
 use Rattle.ifdb_bound.specs.declared.request.Bound.{Bound}
 use Rattle.ifdb_bound.specs.declared.request.Bound.TheVariants as b

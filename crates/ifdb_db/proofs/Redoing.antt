@@ -1,12 +1,12 @@
 -- What a record comes to at a desk.
-use Rattle.std.proofs.Common.{◌≡◌, ◌≢◌, ◌⊎◌, inl, inr, ℕ, Ok, Err, Result, Bool, true, false, List, [], ◌∷◌, ◌++◌, refl, sym, ap, subst, ◌∙◌, arith, Some, None, Option}
-use Rattle.std.specs.Prelude.{find, not, ◌&&◌, IsSome, IsTrue}
+use Rattle.std.proofs.Common.{◌≡◌, ◌≢◌, ◌⊎◌, inl, inr, ℕ, Ok, Err, Result, Bool, true, false, List, [], ◌∷◌, refl, sym, ap, subst, ◌∙◌, arith, Some, None, Option}
+use Rattle.std.specs.Prelude.{find, not, IsSome}
 use Rattle.std.specs.List.{list_any}
 use Rattle.std.proofs.lemmas.Bool.Decides.{nat_tests}
 use Rattle.ifdb_row.specs.declared.row.Row.{Row}
 use Rattle.ifdb_row.specs.declared.write.Write.{Write}
 use Rattle.ifdb_row.specs.Writes.{are_fitting, are_rising}
-use Rattle.ifdb_row.specs.Content.{after, are_rooted, rising}
+use Rattle.ifdb_row.specs.Content.{after, rising}
 use Rattle.ifdb_row.specs.Verdict.{is_broken, breaks}
 use Rattle.ifdb_redo.specs.declared.record.RedoRecord.TheVariants as redo
 use Rattle.ifdb_bound.specs.declared.request.Bound.{Bound}
@@ -18,7 +18,7 @@ use Rattle.ifdb_wire.specs.declared.fault.Fault.TheVariants as fault
 use Rattle.ifdb_catalog.specs.Public.{Public, refusal}
 use Rattle.ifdb_catalog.specs.Binding.{bound}
 use Rattle.ifdb_model.specs.Log.{Entry, changes, commits}
-use Rattle.ifdb_model.specs.Step.{Outcome, Form, publishes, form_of, answered_as, publish, publish_it}
+use Rattle.ifdb_model.specs.Step.{Form, publishes, form_of, answered_as, publish, publish_it}
 use Rattle.ifdb_laws.specs.RowLaws.{rows_fit}
 use Rattle.ifdb_restore.specs.Parents.{spares}
 use Rattle.ifdb_restore.specs.Redone.{change_of, entry_if}

@@ -1,9 +1,8 @@
 -- A room goes along with the log that a restart restores.
-use Rattle.std.proofs.Common.{◌≡◌, ℕ, List, [], ◌∷◌, ◌++◌, length, map, refl, sym, ap, subst, ◌∙◌, arith, Option, Some, None, Result, Ok, Err}
+use Rattle.std.proofs.Common.{◌≡◌, List, [], ◌∷◌, ◌++◌, length, map, refl, sym, ap, subst, ◌∙◌, arith, Option, Some, None, Result, Ok, Err}
 use Rattle.std.specs.Prelude.{All, IsSome, OnOk, if◌then◌else◌}
 use Rattle.std.proofs.lemmas.Bool.{false≢true}
 use Rattle.std.proofs.lemmas.List.Elements.{All-nil}
-use Rattle.ifdb_row.specs.declared.write.Write.{Write}
 use Rattle.ifdb_redo.specs.declared.record.RedoRecord.{RedoRecord}
 use Rattle.ifdb_redo.specs.declared.record.RedoRecord.TheVariants as redo
 use Rattle.ifdb_wire.specs.declared.reply.Reply.TheVariants as reply

@@ -74,7 +74,7 @@ module _ (h : Hall) (st : State) (w : StandsFor h st) where
       let same : slice_index_or st.sessions (n - 1) no_session ≡ session_at (client_in h n) = ap (λ l. slice_index_or l (n - 1) no_session) (sym w.sessions) ∙ index_map h.clients (n - 1) ∙ ap session_at (sym t.at) in
       begins_above h.desk st (n - 1) (record { begin = x.begin; own = x.own }) w.desk sound lt (ap (λ (s : Session). s.txn) same ∙ ap txn_at e)
 
-  asked_same : IsSound h.desk → (n : ℕ) (line : List ℕ) → (client_in h n).is_open ≡ true → ask read_line st.log (session_of st n) line ≡ outcome_in h n line
+  pub asked_same : IsSound h.desk → (n : ℕ) (line : List ℕ) → (client_in h n).is_open ≡ true → ask read_line st.log (session_of st n) line ≡ outcome_in h n line
   asked_same sound n line o =
       let t = at_open h n o in
       ap (λ (s : Session). ask read_line st.log s line) (same_session n)

@@ -59,7 +59,7 @@ impl Note {
     }
 
     /// Holds the record of a public change, if a record is wanted. `OutOfMemory` too where its bytes are more than the limit.
-    pub(crate) fn change(&mut self, asker: Principal, line: &[u8]) -> Result<(), OutOfMemory>
+    pub(crate) fn hold_change(&mut self, asker: Principal, line: &[u8]) -> Result<(), OutOfMemory>
         ensures done { OnOk result (self.new ≡ noted self.old (redo.Change asker line.now ∷ [])) }
         ensures limit { self.new.limit ≡ self.old.limit }
     {
@@ -71,7 +71,7 @@ impl Note {
     }
 
     /// Holds the record of a commit, if a record is wanted. `OutOfMemory` too where its bytes are more than the limit.
-    pub(crate) fn commit(&mut self, writes: &Writes) -> Result<(), OutOfMemory>
+    pub(crate) fn hold_commit(&mut self, writes: &Writes) -> Result<(), OutOfMemory>
         ensures done { OnOk result (self.new ≡ noted self.old (redo.Commit writes.now ∷ [])) }
         ensures limit { self.new.limit ≡ self.old.limit }
     {

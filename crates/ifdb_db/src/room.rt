@@ -311,18 +311,15 @@ impl Room {
     }
 
     /// What a line of an open session comes to.
-    fn answer_open(
-        &mut self,
-        n: u64,
-        line: ReadLine<'_>,
-        note: &mut Note,
-    ) -> Result<Reply, Fault>
+    fn answer_open(&mut self, n: u64, line: ReadLine<'_>, note: &mut Note) -> Result<Reply, Fault>
         requires { IsTrue (client_in self.old n).is_open }
         ensures asked { IsAskedIn n line.entry self.old self.new result }
         ensures noted { IsNoted (outcome_in self.old n line.entry)
             (client_in self.old n).principal line.entry note.old note.new result }
     {
-        let reply = self.db.ask(&mut self.sessions[(n - 1) as usize], line, note)?;
+        let reply = self
+            .db
+            .ask(&mut self.sessions[(n - 1) as usize], line, note)?;
         Ok(reply)
     }
 }

@@ -50,11 +50,7 @@ impl Db {
 
     /// COMMIT: first the verdict, then the memory, then the writes.
     #[tactic(auto, using(crate::proofs::Noting::nothing_noted, crate::proofs::Noting::commit_noted))]
-    pub(super) fn commit(
-        &mut self,
-        session: &mut Session,
-        note: &mut Note,
-    ) -> Result<Reply, Fault>
+    pub(super) fn commit(&mut self, session: &mut Session, note: &mut Note) -> Result<Reply, Fault>
         requires kept { IsHeld self.old session.old }
         ensures answered { IsAnswered (commits_by self.old session.old)
             session.old session.new self.old self.new result }
@@ -112,7 +108,7 @@ impl Db {
             (note.new ≡ noted note.old (redo.Commit txn.own ∷ [])) }
         ensures limit { note.new.limit ≡ note.old.limit }
     {
-        if self.count == u64::MAX || note.commit(txn.own()).is_err() {
+        if self.count == u64::MAX || note.hold_commit(txn.own()).is_err() {
             return Err(txn);
         }
         let begin = txn.begin();

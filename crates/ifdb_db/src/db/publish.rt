@@ -27,7 +27,7 @@ use ifdb_wire::{Fault, Reply};
 
 impl Db {
     /// CREATE, GRANT and REVOKE outside a transaction.
-    #[tactic(auto, using(crate::proofs::Answering::published_answers, crate::proofs::Answering::published_keeps, crate::proofs::Answering::published_is_still, crate::proofs::Keeping::made_now, crate::proofs::Noting::noted_at))]
+    #[tactic(auto, using(crate::proofs::Answering::published_answers, crate::proofs::Answering::published_keeps, crate::proofs::Answering::published_is_still, crate::proofs::Keeping::made_now))]
     pub(super) fn publish(
         &mut self,
         session: &mut Session,
@@ -100,7 +100,7 @@ impl Db {
     {
         match found {
             Bound::Change(change) => {
-                note.change(asker, line)?;
+                note.hold_change(asker, line)?;
                 self.apply(change)
             }
             _ => {

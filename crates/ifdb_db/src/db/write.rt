@@ -28,7 +28,7 @@ use ifdb_wire::{Fault, Reply};
 
 impl Db {
     /// INSERT, UPDATE and DELETE outside a transaction.
-    #[tactic(auto, using(crate::proofs::Answering::published_answers, crate::proofs::Answering::published_holds, crate::proofs::Answering::published_is_still, crate::proofs::Keeping::made_held, crate::proofs::Noting::noted_at))]
+    #[tactic(auto, using(crate::proofs::Answering::published_answers, crate::proofs::Answering::published_holds, crate::proofs::Answering::published_is_still, crate::proofs::Keeping::made_held))]
     pub(super) fn change_rows(
         &mut self,
         session: &mut Session,
@@ -73,7 +73,7 @@ impl Db {
         let written = self.written(asker, label, request)?;
         let count = written.count();
         let writes = written.into_writes();
-        note.commit(&writes)?;
+        note.hold_commit(&writes)?;
         self.land(writes)?;
         Ok(Reply::Count(count))
     }

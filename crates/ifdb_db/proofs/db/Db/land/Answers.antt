@@ -1,4 +1,4 @@
-use Rattle.std.proofs.Common.{◌≡◌, ◌+◌, ◌++◌, ◌∷◌, [], None, rules, true, refl, ap, sym, subst, ◌∙◌}
+use Rattle.std.proofs.Common.{◌≡◌, ◌+◌, ◌++◌, ◌∷◌, [], rules, true, refl, ap, sym, subst, ◌∙◌}
 use Rattle.ifdb_row.specs.Content.{after}
 use Rattle.ifdb_row.specs.Writes.{are_fitting}
 use Rattle.ifdb_snapshot.specs.Writing.{are_fit}

@@ -1,9 +1,9 @@
-use Rattle.std.proofs.Common.{◌≡◌, sym, ap, subst, ◌∙◌}
+use Rattle.std.proofs.Common.{sym, ap, subst, ◌∙◌}
 use Rattle.std.specs.Prelude.{Ok}
 use Rattle.ifdb_model.specs.Step.{Outcome}
 use Rattle.ifdb_db.specs.Noting.{Noted, IsNoted}
 use Rattle.ifdb_db.specs.Room.{client_in, outcome_in}
-use Rattle.ifdb_db.proofs.Noting.{noted_in, refused_noted}
+use Rattle.ifdb_db.proofs.Noting.{noted_in, noted_limit, refused_noted}
 use Rattle.ifdb_db.proofs.RoomLaws.{follows, refused_so, stays, told_reply}
 use Rattle.ifdb_db.proofs.room.Room.reply_noted.Goals as goal
 
@@ -17,6 +17,9 @@ pub returns-in-Ok-clause-noted : goal.returns-in-Ok-clause-noted
 returns-in-Ok-clause-noted c =
     noted_in c.args.self.now c.args.n c.args.line c.args.note.now c.answer.new.note c.in-Ok.reply c.is_sound.ensures
     (subst (λ (n : Noted). IsNoted (outcome_in c.args.self.now c.args.n c.args.line) (client_in c.args.self.now c.args.n).principal c.args.line n c.answer.new.note (Ok c.in-Ok.reply)) c.clear.ensures c.in-Ok.ensures.noted)
+
+pub returns-in-Ok-clause-limit : goal.returns-in-Ok-clause-limit
+returns-in-Ok-clause-limit c = ap (λ (n : Noted). n.limit) c.in-Ok.ensures.noted ∙ noted_limit c.clear.new.self _ ∙ ap (λ (n : Noted). n.limit) c.clear.ensures
 
 pub returns-in_ok-reply-in-Err-clause-asked : goal.returns-in_ok-reply-in-Err-clause-asked
 returns-in_ok-reply-in-Err-clause-asked c = λ st w.
