@@ -72,6 +72,8 @@ impl Log {
         ensures damaged { (at : ℕ) → result ≡ Err (LogFault.Damaged at)
             → (texts : List (List ℕ)) → HasRead (D.tells disk.old) texts self.old.place
             → IsDamaged (D.tells disk.new) at }
+        ensures moves { result ≡ Ok true
+            → (self.old.place.at < self.new.place.at) × (self.old.place.at < 2 ^ 62) }
         ensures titled { result ≡ Err LogFault.NotALog → ⊥ }
         ensures still { D.tells disk.new ≡ D.tells disk.old }
         ensures cause { HasLogCause (D.faults disk.old) (D.faults disk.new) result }
@@ -110,6 +112,8 @@ fn read_text<D: Disk>(
     ensures damaged { (at : ℕ) → result ≡ Err (LogFault.Damaged at)
         → (texts : List (List ℕ)) → HasRead (D.tells disk.old) texts journal.old
         → IsDamaged (D.tells disk.new) at }
+    ensures moves { result ≡ Ok true
+        → (journal.old.at < journal.new.at) × (journal.old.at < 2 ^ 62) }
     ensures titled { result ≡ Err LogFault.NotALog → ⊥ }
     ensures still { D.tells disk.new ≡ D.tells disk.old }
     ensures cause { HasLogCause (D.faults disk.old) (D.faults disk.new) result }

@@ -1,4 +1,4 @@
-use Rattle.std.proofs.Common.{◌≡◌, ◌+◌, ◌<◌, ◌≤◌, ◌++◌, ◌∷◌, [], ℕ, List, Bool, length, ap, sym, subst, ◌∙◌}
+use Rattle.std.proofs.Common.{◌≡◌, ◌+◌, ◌<◌, ◌≤◌, ◌++◌, ◌∷◌, [], ℕ, List, Bool, length, ap, sym, subst, ◌∙◌, arith}
 use Rattle.std.specs.Prelude.{IfSome, None, Ok, Err, Option, Some}
 use Rattle.ifdb_journal.specs.declared.record.Record.{Record}
 use Rattle.ifdb_journal.specs.declared.record.JournalFault.{JournalFault}
@@ -52,6 +52,14 @@ returns-then-as_slice-lt-PIECE_SIZE-clause-text g c = λ is texts read.
     let short : length r.line < 65535 = subst (λ (l : List ℕ). length l < 65535) c.as_slice.ensures c.if-as_slice-lt-PIECE_SIZE.true in
     ends_with t u texts begun p q r c.add_piece.new.text.items reads piece short (c.pieces.invariant.read texts read)
 
+pub returns-then-as_slice-lt-PIECE_SIZE-clause-moves : goal.returns-then-as_slice-lt-PIECE_SIZE-clause-moves
+returns-then-as_slice-lt-PIECE_SIZE-clause-moves g c = λ is.
+    let p = c.pieces.journal in
+    let q = c.next.new.self in
+    let r : Record = c.in-Ok-Some.record in
+    let step : q.at ≡ p.at + (14 + length r.line) = subst (λ (o : Option Record). IfSome o (λ found. q.at ≡ p.at + (14 + length found.line))) c.in-Ok-Some.field-0-is c.in-Ok-Some.ensures.goes_on in
+    (omega (arith, step, c.pieces.invariant.moves), omega (arith, c.place-at.ensures.place, c.place-at.ensures.bound, c.pieces.invariant.moves))
+
 pub pieces-preserved : goal.pieces-preserved
 pieces-preserved g c =
     let t = g.D.Disk.tells c.pieces.disk in
@@ -63,8 +71,10 @@ pieces-preserved g c =
     let reads : Reads t p r u q = subst (λ (o : Option Record). IfSome o (λ found. (rs : List Record) → ReadTo t rs p → ReadTo u (rs ++ found ∷ []) q)) c.in-Ok-Some.field-0-is c.in-Ok-Some.ensures.some in
     let piece : with_piece begun r ≡ Some c.add_piece.new.text.items = c.in-Ok.ensures.piece (ap (λ (b : Bool). Ok b) c.if-not-is_piece.false) in
     let full : 65535 ≤ length r.line = subst (λ (l : List ℕ). 65535 ≤ length l) c.as_slice.ensures c.if-as_slice-lt-PIECE_SIZE.false in
+    let step : q.at ≡ p.at + (14 + length r.line) = subst (λ (o : Option Record). IfSome o (λ found. q.at ≡ p.at + (14 + length found.line))) c.in-Ok-Some.field-0-is c.in-Ok-Some.ensures.goes_on in
     record {
       read = λ texts read. goes_on_with t u texts begun p q r c.add_piece.new.text.items reads piece full (c.pieces.invariant.read texts read);
+      moves = omega (arith, step, c.pieces.invariant.moves);
       still = c.next.ensures.still ∙ c.pieces.invariant.still;
       calm = c.in-Ok-Some.ensures.cause ∙ c.pieces.invariant.calm;
     }
