@@ -3,3 +3,4 @@ pub mod Steps
 pub mod Writing
 pub mod Appends
 pub mod Worth
+pub mod TextRoom

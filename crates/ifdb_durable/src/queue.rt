@@ -1,11 +1,13 @@
 //! The records that wait to be appended.
-ghost use Rattle.std.specs.Prelude.{◌≡◌, ◌≤◌, ◌<◌, ◌+◌, ◌^◌, ◌++◌, ◌∷◌, [], length, IfOk, true};
+ghost use Rattle.std.specs.Prelude.{◌≡◌, ◌≤◌, ◌<◌, ◌+◌, ◌^◌, ◌++◌, ◌∷◌, [], ℕ, length, IfNone, IfOk, IfSome, true};
 ghost use Rattle.ifdb_journal.specs.Records.{IsLawful, bytes_of};
-ghost use Rattle.ifdb_durable.specs.Queues.{all_of};
+ghost use Rattle.ifdb_log.specs.Pieces.{pieces, size_of};
+ghost use Rattle.ifdb_durable.specs.Queues.{all_of, free_of};
 
 use crate::naming::Naming;
 use crate::view::MarkSeat;
 use ifdb_journal::{Batch, RecordKind};
+use ifdb_log::Pieces;
 use std::marker::{Model, PhantomData};
 
 /// The records that wait to be appended, behind those that were taken so far. It lies with what all turns are taken at, so
@@ -58,6 +60,36 @@ impl<B: Naming, D> Queue<B, D> {
     {
         self.batch.push(kind, session, line);
         self.count += 1;
+    }
+
+    /// How many bytes of records there is room for still, of which each takes 14 bytes and its line. Behind 2^64 - 1 records there is
+    /// none, and never more than records can be counted.
+    pub fn free(&self) -> usize
+        ensures { result ≡ free_of self.now }
+    {
+        let countable = (u64::MAX - self.count) as usize;
+        self.batch.free().min(countable)
+    }
+
+    /// The length of the longest text whose pieces there is room for. `None` where there is none for those of an empty one.
+    pub fn longest_text(&self) -> Option<usize>
+        ensures fits { IfSome result (λ most. (n : ℕ) → n ≤ most → size_of n ≤ free_of self.now) }
+        ensures most { IfSome result (λ most. free_of self.now < size_of (most + 1)) }
+        ensures none { IfNone result (free_of self.now < size_of 0) }
+    {
+        ifdb_log::longest_text(self.free())
+    }
+
+    /// Adds the pieces of a text behind the other records. Takes no memory.
+    pub fn push_text(&mut self, text: &[u8])
+        requires { size_of (length text.now) ≤ free_of self.old }
+        ensures { self.new ≡ record self.old {
+          waiting = self.old.waiting ++ pieces text.now;
+        } }
+    {
+        for piece in Pieces::of(text) {
+            self.push(RecordKind::Ask, piece.session, piece.line);
+        }
     }
 
     /// How many records came in all.

@@ -1,5 +1,5 @@
 // Records that are appended together.
-ghost use Rattle.std.specs.Prelude.{◌≡◌, ◌≤◌, ◌+◌, ◌++◌, ◌∷◌, [], length, nat_le, IfOk};
+ghost use Rattle.std.specs.Prelude.{◌≡◌, ◌≤◌, ◌+◌, ◌-◌, ◌++◌, ◌∷◌, [], length, nat_le, IfOk};
 ghost use Rattle.ifdb_journal.specs.Records.{IsLawful, Spells, bytes_of};
 
 use crate::RecordKind;
@@ -42,12 +42,19 @@ impl Batch {
         Ok(Batch { text, room })
     }
 
+    /// How many bytes of records there is room for still. A record takes 14 bytes and its line.
+    pub fn free(&self) -> usize
+        ensures { result ≡ self.now.room - bytes_of self.now.records }
+    {
+        self.room.saturating_sub(self.text.len() - 1)
+    }
+
     /// Whether there is room for a record with this line.
     pub fn fits(&self, line: &[u8]) -> bool
         ensures { result
             ≡ nat_le (bytes_of self.now.records + (14 + length line.now)) self.now.room }
     {
-        let free = self.room.saturating_sub(self.text.len() - 1);
+        let free = self.free();
         free >= 14 && line.len() <= free - 14
     }
 

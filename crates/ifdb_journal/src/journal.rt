@@ -1,5 +1,5 @@
 // A journal that is read to its end and then appended to.
-ghost use Rattle.std.specs.Prelude.{◌≡◌, Ok, Err, None, ℕ, IfSome, ◌≤◌, ◌<◌, ◌+◌, ◌^◌, ◌++◌, ◌∷◌, [], List, take, drop, IfOk, OnOk, OnErr};
+ghost use Rattle.std.specs.Prelude.{◌≡◌, Ok, Err, None, ℕ, IfSome, ◌≤◌, ◌<◌, ◌+◌, ◌^◌, ◌++◌, ◌∷◌, [], List, length, take, drop, IfOk, OnOk, OnErr};
 ghost use Rattle.ifdb_io.specs.Causes.{HasCause};
 ghost use Rattle.ifdb_journal.specs.Causes.{HasDiskCause};
 ghost use Rattle.ifdb_disk.specs.Clock.{Leaves, Now};
@@ -68,6 +68,14 @@ impl Journal {
         })
     }
 
+    /// The place of the next gate, below 2^62.
+    pub fn place(&self) -> u64
+        ensures place { result ≡ self.now.at }
+        ensures bound { result < 2 ^ 62 }
+    {
+        self.place
+    }
+
     /// The next record, or `None` at the end. Reads up to 64 KiB at a time, and then gives the
     /// records in them; takes memory for the record's line.
     ///
@@ -85,9 +93,12 @@ impl Journal {
         ensures end { result ≡ Ok None
             → (rs : List Record) → ReadTo (D.tells disk.old) rs self.old
             → Holds (D.tells disk.new) rs self.new.at × SpellsWhole (D.tells disk.new) rs }
+        ensures goes_on { IfOk result (λ r. IfSome r (λ found.
+            self.new.at ≡ self.old.at + (14 + length found.line))) }
         ensures damaged { (at : ℕ) → result ≡ Err (JournalFault.Damaged at)
             → (rs : List Record) → ReadTo (D.tells disk.old) rs self.old
             → BreaksAt (D.tells disk.new) at }
+        ensures there { (at : ℕ) → result ≡ Err (JournalFault.Damaged at) → at ≡ self.old.at }
         ensures memory { result ≡ Err JournalFault.OutOfMemory
             → (rs : List Record) → ReadTo (D.tells disk.old) rs self.old
             → ReadTo (D.tells disk.new) rs self.new }
