@@ -1,5 +1,5 @@
 // A log, read text by text.
-ghost use Rattle.std.specs.Prelude.{◌≡◌, ◌<◌, ◌^◌, ◌++◌, ◌∷◌, [], ℕ, List, Ok, Err, None, Some, true, false, IfOk, OnOk};
+ghost use Rattle.std.specs.Prelude.{◌≡◌, ◌<◌, ◌+◌, ◌^◌, ◌++◌, ◌∷◌, [], ℕ, List, Ok, Err, None, Some, true, false, IfOk, OnOk};
 ghost use Rattle.ifdb_disk.specs.Clock.{Leaves};
 ghost use Rattle.ifdb_journal.specs.Reading.{IsOldOrShort, SpellsSame};
 ghost use Rattle.ifdb_log.specs.Causes.{HasLogCause};
@@ -79,6 +79,13 @@ impl Log {
         ensures cause { HasLogCause (D.faults disk.old) (D.faults disk.new) result }
     {
         read_text(alloc, disk, &mut self.journal, &mut self.text)
+    }
+
+    /// The byte of the file where the next record stands, or is to stand.
+    pub fn place(&self) -> u64
+        ensures { result ≡ 16 + self.now.place.at }
+    {
+        TITLE_SIZE + self.journal.place()
     }
 
     /// The text that was read last.

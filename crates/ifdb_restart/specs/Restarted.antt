@@ -1,5 +1,8 @@
 -- The log that the texts of redo records restore.
-use Rattle.std.specs.Prelude.{◌≡◌, ℕ, List, [], ◌∷◌, Option, Some, None}
+use Rattle.std.specs.Prelude.{◌≡◌, ℕ, ◌+◌, List, [], ◌∷◌, ◌++◌, length, Option, Some, None, IsSome}
+use Rattle.ifdb_disk.specs.Clock.{Clock}
+use Rattle.ifdb_journal.specs.Reading.{Place}
+use Rattle.ifdb_log.specs.Reading.{HasRead, HoldsTexts}
 use Rattle.ifdb_redo.specs.declared.record.RedoRecord.{RedoRecord}
 use Rattle.ifdb_redo.specs.Reading.{record_of}
 use Rattle.ifdb_model.specs.Log.{Entry}
@@ -36,3 +39,28 @@ IsLonger h k text = (log : List Entry) → IsClosedOver h log → (more : List E
 -- whatever log a room stands for, a text restores none behind it
 abbrev pub IsUnfit : Hall → List ℕ → Type 0
 IsUnfit h text = (log : List Entry) → IsClosedOver h log → with_record (Some log) (record_of text) ≡ None
+
+-- some texts restore a log, and a room without sessions stands for it
+pub record IsRestored (texts : List (List ℕ)) (h : Hall) : Type 0 where
+  pub log : List Entry
+  pub is : log_of texts ≡ Some log
+  pub stands : IsClosedOver h log
+  pub nobody : length h.clients ≡ 0
+
+-- ---- disks
+
+-- a disk holds texts, all of them read, and a room stands for the log that they restore
+abbrev pub IsRestarted : Option Clock → ℕ → Hall → Type 0
+IsRestarted t at h = (texts : List (List ℕ)) × HoldsTexts t texts at × IsRestored texts h
+
+-- a text of a log begins at this byte of the file, which restores nothing behind the log that those before it restore
+pub record HasUnfitAt (t : Option Clock) (at : ℕ) : Type 0 where
+  pub before : List (List ℕ)
+  pub unfit : List ℕ
+  pub place : Place
+  pub next : Place
+  pub up_to : HasRead t before place
+  pub there : at ≡ 16 + place.at
+  pub read : HasRead t (before ++ unfit ∷ []) next
+  pub restores : IsSome (log_of before)
+  pub none : log_of (before ++ unfit ∷ []) ≡ None
