@@ -1,5 +1,5 @@
 -- Texts restore what the records restore that they are read as.
-use Rattle.std.proofs.Common.{◌≡◌, List, [], ◌∷◌, ◌∙◌, map, take, refl, sym, ap, Option, Some}
+use Rattle.std.proofs.Common.{◌≡◌, ℕ, List, [], ◌∷◌, ◌∙◌, map, take, refl, sym, ap, Option, Some}
 use Rattle.std.proofs.lemmas.List.{take-map}
 use Rattle.ifdb_redo.specs.declared.record.RedoRecord.{RedoRecord}
 use Rattle.ifdb_redo.specs.Reading.{record_of}

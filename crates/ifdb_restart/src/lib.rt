@@ -1,11 +1,11 @@
 //! A restart: the redo records of a log, made again in a room.
 #![tactic(auto)]
 
+mod going_on;
 mod laws;
 mod redo;
-mod restart;
 
+pub use going_on::{Restarted, restart};
 pub use laws::first_texts_restore_a_front;
 pub use redo::redo_text;
-pub use restart::{Restarted, restart};
 pub use std::alloc::AllocError as OutOfMemory;

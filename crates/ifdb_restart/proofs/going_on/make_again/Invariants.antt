@@ -1,6 +1,6 @@
 use Rattle.std.proofs.Common.{◌≡◌, ◌^◌, ◌-◌}
 use Rattle.ifdb_restart.proofs.Restarting.{IsSoFar}
-use Rattle.ifdb_restart.proofs.restart.make_again.Given as goal
+use Rattle.ifdb_restart.proofs.going_on.make_again.Given as goal
 
 abbrev pub invariant-texts : goal.invariant-texts
 invariant-texts g l = record {
