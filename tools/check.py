@@ -135,17 +135,25 @@ def wrong_deciding(text: str) -> list[str]:
     return [f"{file.relative_to(CRATES)} {why}" for file, why in sorted(wrong)]
 
 
-def wrong_places(edit: Path) -> list[str]:
-    """The lines that an edit replaces and that don't stand in its file exactly once."""
-    wrong, text = [], ""
-    for line in edit.read_text().split("\n"):
-        word, _, rest = line.partition(": ")
-        if word == "file":
-            file = edit.parent.parent / rest
-            text = file.read_text() if file.is_file() else ""
-        elif word == "old" and text.count(rest) != 1:
-            wrong.append(f"stands {text.count(rest)} times in its file: {rest.strip()}")
+def wrong_places(edit: Path, tree: edits.Tree) -> list[str]:
+    """The lines that an edit replaces and that don't stand in its file exactly once; and the function that it names, if it isn't there."""
+    wrong = []
+    for change in edits.changes_of(edit):
+        file = edit.parent.parent / change.file
+        count = file.read_text().count(change.old) if file.is_file() else 0
+        if count != 1:
+            wrong.append(f"stands {count} times in its file: {change.old.strip()}")
+    place = edits.refused_at(edit)
+    if place and not is_there(tree, edit.parts[-3], place):
+        wrong.append(f"no such function stands on it: {place.crate} {place.function}")
     return wrong
+
+
+def is_there(tree: edits.Tree, crate: str, place: edits.Place) -> bool:
+    """Whether a function is there, in a crate or in one that stands on it."""
+    *modules, name = place.function.split("::")
+    file = CRATES.joinpath(place.crate, "src", *modules).with_suffix(".rt")
+    return crate in [place.crate, *tree.below(place.crate)] and file.is_file() and f"fn {name}(" in file.read_text()
 
 
 def told(what: str, wrong: dict[Path, list[str]]) -> int:
@@ -177,7 +185,8 @@ def main(words: list[str]) -> int:
         pages[page] = wrong_examples(text, known) + wrong_links(page, text) + wrong_names(text, names)
         if page.name == "PROVED.md":
             pages[page] += wrong_counts(text) + wrong_deciding(text)
-    places = {edit: wrong_places(edit) for edit in sorted(CRATES.glob("*/must-fail/*.edit*"))}
+    tree = edits.Tree(TOP)
+    places = {edit: wrong_places(edit, tree) for edit in sorted(CRATES.glob("*/must-fail/*.edit*"))}
     wrong, waiting = edits.judged_notes()
     places[edits.REFUSED] = [f"tools/edits.py {crate}: {why}" for crate, why in sorted(wrong.items())]
     if waiting:

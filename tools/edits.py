@@ -15,6 +15,10 @@ nothing of the program stands on it. What came since and nothing of the crate ci
 A crate of which not all edits were tried over its present text stands in tools/refused.txt with the word `waits:` and the reason, and
 tools/check.py tells of it at each run: a debt, which the next change of the crate pays first.
 
+An edit of a definition may be refused in a crate above alone. Its file has a line `at: CRATE PATH`, the function whose contract is the law
+or the worked script that refuses it: the edited crate, if that is another, has to be proved with the edit, and the function then not. What
+such crates and those below them define and promise counts for the note as well.
+
 An edit counts as refused where the prover says that the edited crate isn't proved. Where it gave up at a limit of its own, or where only a
 proof misses a name that the edit took away, no contract refused anything, and the crate isn't noted.
 
@@ -45,6 +49,7 @@ TOP = Path(__file__).resolve().parent.parent
 REFUSED = TOP / "tools" / "refused.txt"
 ASIDE = ".md"
 SOURCES = (".rt", ".antt")
+PARTS, BUILT = ("src", "specs", "proofs"), "out/rlib"
 TOLD = re.compile(r"must-fail (?P<crate>\w+)/(?P<edit>\S+\.edit): (?P<said>.*)")
 IS_REFUSED = "refused, as it must be"
 # What rt says behind IS_REFUSED where no contract refused the edit.
@@ -64,6 +69,11 @@ OPERAND = "◌"
 DEFINITION = re.compile(r"\s*((abbrev|unfoldable|pub|record|data|infix\w*) |[^\s:(){}]+ +: )")
 FIELD = re.compile(r"\s+pub (?!record|data)\S+ +:")
 WAITS = "waits: "
+# What rt check ends with; what it says of an error, of one in what an edit changed, and of one that only tells of a name that is gone.
+PROVED, NOT_PROVED = 0, 1
+ERROR = re.compile(r"(note: )?\S+:\d+:\d+: error")
+UNREAD = re.compile(r"(\./)?(src|specs)/")
+NAME_GONE = re.compile(r"(note: )?(\./)?proofs/.*(has no field|is not in scope|has no `|was not admitted)")
 WRONG_WORDS, FAILED = 64, 1
 
 
@@ -136,6 +146,40 @@ def definitions(file: Path) -> list[str]:
     return resolved(file, ["\n".join(item) for item in items])
 
 
+class Place(NamedTuple):
+    """A function of a crate, by the path of its modules."""
+
+    crate: str
+    function: str
+
+
+def refused_at(edit: Path) -> Optional[Place]:
+    """The function whose contract is to refuse an edit; None where all of the edited crate is tried."""
+    said = re.search(r"^at: (\w+) ([\w:]+)$", edit.read_text(), re.M)
+    return Place(said[1], said[2]) if said else None
+
+
+class Change(NamedTuple):
+    """A text of a file of the edited crate, and what an edit puts in its place."""
+
+    file: str
+    old: str
+    new: str
+
+
+def changes_of(edit: Path) -> Iterator[Change]:
+    file = old = ""
+    for line in edit.read_text().split("\n"):
+        word, _, rest = line.partition(":")
+        text = rest.removeprefix(" ")
+        if word == "file":
+            file = text
+        elif word == "old":
+            old = text
+        elif word == "new":
+            yield Change(file, old, text)
+
+
 class Tree:
     """The crates of a checkout."""
 
@@ -161,6 +205,12 @@ class Tree:
             left += uses
         return sorted(found)
 
+    def judges(self, crate: str) -> list[str]:
+        """The crates whose definitions and contracts say whether the edits of a crate are refused, but for the crate itself: those below it,
+        and those that its edits name, with those below them."""
+        named = {place.crate for edit in self.edits(crate) if (place := refused_at(edit))}
+        return sorted({name for top in {crate, *named} for name in [top, *self.below(top)]} - {crate})
+
     def files(self, crate: str, *parts: str) -> list[Path]:
         top = self.crates / crate
         return sorted(file for part in parts for file in (top / part).rglob("*") if file.suffix in SOURCES)
@@ -173,10 +223,9 @@ class Tree:
         said += [item for file in self.files(crate, "specs") for item in definitions(file)]
         return Counter(said)
 
-    @functools.cache
-    def promises_below(self, crate: str) -> Counter[str]:
-        """Those of all crates that a crate stands on, each behind the name of its crate."""
-        return Counter({f"{name}: {item}": count for name in self.below(crate) for item, count in self.promises(name).items()})
+    def promises_of(self, crates: Iterable[str]) -> Counter[str]:
+        """Those of some crates, each behind the name of its crate."""
+        return Counter({f"{name}: {item}": count for name in crates for item, count in self.promises(name).items()})
 
     @functools.cache
     def decided(self) -> dict[str, set[str]]:
@@ -190,13 +239,13 @@ class Tree:
             found.setdefault(place.parts[0], set()).add("\n".join([f"{place}: {name}", *lines.get(name, []), *cited]))
         return found
 
-    def decided_below(self, crate: str) -> set[str]:
-        """Those of all crates that a crate stands on."""
-        return {item for name in self.below(crate) for item in self.decided().get(name, ())}
+    def decided_in(self, crates: Iterable[str]) -> set[str]:
+        """Those of some crates."""
+        return {item for name in crates for item in self.decided().get(name, ())}
 
     def text(self, crate: str) -> str:
         """The sum of a crate's own text, but for comments and edits."""
-        own = self.files(crate, "src", "specs", "proofs")
+        own = self.files(crate, *PARTS)
         return sum_of((str(file.relative_to(self.crates)), lines_of(file)) for file in own)
 
     def changes(self, crate: str) -> dict[str, str]:
@@ -277,7 +326,7 @@ def tree_of(commit: str, *, whole: bool = False) -> Iterator[Optional[Tree]]:
 
 
 def changed_since(tree: Tree, before: Optional[Tree], crate: str) -> Optional[str]:
-    """What of a crate and of those below it isn't as at a commit, if anything."""
+    """What of a crate and of those that judge its edits isn't as at a commit, if anything."""
     if before is None or not (before.crates / crate).is_dir():
         return "isn't in the history"
     if before.text(crate) != tree.text(crate):
@@ -285,18 +334,20 @@ def changed_since(tree: Tree, before: Optional[Tree], crate: str) -> Optional[st
     others = [name for name, said in tree.changes(crate).items() if before.changes(crate).get(name) != said]
     if others:
         return f"has no such edit: {', '.join(others)}"
-    return gone_of(before.decided_below(crate) - tree.decided_below(crate))
+    judges = tree.judges(crate)
+    return gone_of(before.decided_in(judges) - tree.decided_in(judges))
 
 
 def waits_since(tree: Tree, before: Tree, crate: str) -> Optional[str]:
-    """What else below a crate isn't as at a commit, if anything."""
-    return gone_of(before.promises_below(crate) - tree.promises_below(crate))
+    """What else of the crates that judge a crate's edits isn't as at a commit, if anything."""
+    judges = tree.judges(crate)
+    return gone_of(before.promises_of(judges) - tree.promises_of(judges))
 
 
 def gone_of(gone: Iterable[str]) -> Optional[str]:
-    """How it is told that there were these below a crate; None where there are none."""
+    """How it is told that these were otherwise; None where there are none."""
     first, *others = [*sorted(gone), ""]
-    return f"had below it: {first.splitlines()[0]}" + (f" (and {len(others) - 1} more)" if others[1:] else "") if first else None
+    return f"had otherwise: {first.splitlines()[0]}" + (f" (and {len(others) - 1} more)" if others[1:] else "") if first else None
 
 
 def in_history(commit: str) -> bool:
@@ -339,8 +390,8 @@ def judged_notes() -> tuple[dict[str, str], dict[str, str]]:
 
 
 @contextmanager
-def laid_out(crate: str) -> Iterator[Path]:
-    """A folder that rt takes for this checkout, but that all edits of a crate have the names of tried ones there."""
+def laid_out(crate: str, edits: Iterable[Path]) -> Iterator[Path]:
+    """A folder that rt takes for this checkout, but that these edits of a crate have the names of tried ones there, and are its only ones."""
     with tempfile.TemporaryDirectory(prefix="ifdb-edits-") as folder:
         top = Path(folder)
         for name in ("crates.txt", "HANDLES"):
@@ -352,22 +403,79 @@ def laid_out(crate: str) -> Iterator[Path]:
                 if (other.name, part.name) != (crate, "must-fail"):
                     (here / part.name).symlink_to(part)
         (top / "crates" / crate / "must-fail").mkdir()
-        for edit in Tree(TOP).edits(crate):
+        for edit in edits:
             shutil.copyfile(edit, top / "crates" / crate / "must-fail" / edit.name.removesuffix(ASIDE))
         yield top
 
 
-def told_of(crate: str) -> dict[str, str]:
-    """What rt says of each edit of a crate, by the edit's name."""
+def told_alone(crate: str, edits: Iterable[Path]) -> dict[str, str]:
+    """What rt says of edits of a crate over which all of it is tried, by the edit's name."""
     told = {}
     words = ["rt", "must-fail", crate]
-    with laid_out(crate) as top, subprocess.Popen(words, cwd=top, stdout=subprocess.PIPE, stderr=subprocess.STDOUT, text=True) as tried:
+    with laid_out(crate, edits) as top, subprocess.Popen(words, cwd=top, stdout=subprocess.PIPE, stderr=subprocess.STDOUT, text=True) as tried:
         assert tried.stdout
         for line in tried.stdout:
             print(line, end="", flush=True)
             found = TOLD.search(line)
             if found:
                 told[found["edit"]] = found["said"]
+    return told
+
+
+@contextmanager
+def copied_with(edit: Path) -> Iterator[Path]:
+    """A copy of the crates with an edit of one, and of what was built of those that don't stand on that one."""
+    tree, crate = Tree(TOP), edit.parts[-3]
+    with tempfile.TemporaryDirectory(prefix="ifdb-edits-") as folder:
+        top = Path(folder)
+        for name in ("crates.txt", "HANDLES"):
+            shutil.copyfile(TOP / name, top / name)
+        for name in tree.uses:
+            kept = PARTS if crate in [name, *tree.below(name)] else (*PARTS, BUILT)
+            for part in kept:
+                if (TOP / "crates" / name / part).is_dir():
+                    shutil.copytree(TOP / "crates" / name / part, top / "crates" / name / part)
+        for file, old, new in changes_of(edit):
+            edited = top / "crates" / crate / file
+            edited.write_text(edited.read_text().replace(old, new, 1))
+        yield top
+
+
+def checked(crate: Path, *words: str) -> tuple[int, list[str]]:
+    """What rt comes to when it checks a crate, and what it says of errors, or at its end."""
+    ran = subprocess.run(["rt", "check", *words], cwd=crate, stdout=subprocess.PIPE, stderr=subprocess.STDOUT, text=True)
+    said = ran.stdout.splitlines() or ["rt said nothing"]
+    return ran.returncode, [line for line in said if ERROR.match(line)] or said[-1:]
+
+
+def told_above(edit: Path, place: Place) -> str:
+    """What the proof of a function says of an edit, in rt's own words. Where it is of a crate above, the edited crate has to be proved."""
+    crate = edit.parts[-3]
+    with copied_with(edit) as top:
+        own, said = checked(top / "crates" / crate) if crate != place.crate else (PROVED, [])
+        if own != PROVED:
+            return f"BAD EDIT: {crate} isn't proved with it: {said[0][:160]}"
+        status, said = checked(top / "crates" / place.crate, "--only", place.function)
+    if status == PROVED:
+        return "NOT REFUSED: the function is still proved with this edit"
+    if status != NOT_PROVED:
+        return f"NOT TRIED: {said[0][:160]}"
+    if any(map(UNREAD.match, said)):
+        return f"BAD EDIT: the edited text can't be read: {said[0][:160]}"
+    told = [line for line in said if not NAME_GONE.match(line)]
+    return f"{IS_REFUSED}: {told[0][:160]}" if told else f"{IS_REFUSED} {BUT[1]} what the edit took away): {said[0][:160]}"
+
+
+def told_of(crate: str) -> dict[str, str]:
+    """What is said of each edit of a crate, by the edit's name."""
+    edits = {edit: refused_at(edit) for edit in Tree(TOP).edits(crate)}
+    alone = [edit for edit, place in edits.items() if place is None]
+    told = told_alone(crate, alone) if alone else {}
+    for edit, place in edits.items():
+        if place:
+            name = edit.name.removesuffix(ASIDE)
+            told[name] = told_above(edit, place)
+            print(f"must-fail {crate}/{name}: {told[name]} (at {place.crate} {place.function})", flush=True)
     return told
 
 
