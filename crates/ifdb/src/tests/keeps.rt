@@ -59,11 +59,11 @@ fn disk_of(alloc: Global, bytes: &[u8], fails: Option<u64>) -> Result<MemoryDisk
 fn keeps<R: Abort + AllocGlobal + Threads + Wait + Sync>(
     rt: &R,
     words: &str,
-    (bytes, fails): (&[u8], Option<u64>),
+    bytes: &[u8],
     refused: Option<u64>,
     (end, written): (MoreStatus, &[u8]),
 ) -> Result<bool, Fail> {
-    let disk = disk_of(rt.alloc(), bytes, fails)?;
+    let disk = disk_of(rt.alloc(), bytes, None)?;
     let ran = run_kept(rt, words, FIRST, disk, refused)?;
     assert_eq!(rt; ran.end, end, "{words}");
     assert_eq!(rt; ran.written.as_slice(), written, "{words}");
@@ -95,27 +95,43 @@ fn kept_and_read_back(rt: HostRuntime) -> Result<(), Fail> {
     Ok(())
 }
 
-// Words, the disk's bytes and which of its calls fails, which call of the shelf gives no disk, how it ends, what is written, and
-// whether the disk comes back: a record fails, the journal is damaged, there is no disk, and the script is too large.
-static STOPS: [(
-    &str,
-    (&[u8], Option<u64>),
-    Option<u64>,
-    MoreStatus,
-    &[u8],
-    bool,
-); 4] = [
+// Which call of the disk fails at the third record, which makes the table; what a crash then leaves of each byte that isn't
+// synced; and what the second script is told, and how many bytes the disk has: without that record, or with it.
+static CRASHES: [(u64, u8, &str, usize); 3] = [
+    (12, 255, "1 OPEN\n1 OK\n1 ERR 6 UnknownName\n", 117),
+    (13, 0, "1 OPEN\n1 OK\n1 ERR 6 UnknownName\n", 117),
+    (13, 255, "1 OPEN\n1 OK\n1 ROWS 0 1\n", 175),
+];
+
+// What a crash leaves of the disk behind a first script, at whose third record it fails.
+fn crashed<R: Abort + AllocGlobal + Threads + Wait + Sync>(
+    rt: &R,
+    fails: u64,
+    fill: u8,
+) -> Result<MemoryDisk, Fail> {
+    let disk = disk_of(rt.alloc(), b"", Some(fails))?;
+    let ran = run_kept(rt, "keep --file j", FIRST, disk, None)?;
+    assert_eq!(rt; ran.end, MoreStatus::DiskFault);
+    assert_eq!(rt; ran.written.as_slice(), b"1 OPEN\n1 OK\n".as_slice());
+    let disk = ran.back.ok_or(Failed)?;
+    Ok(disk.crash(fill))
+}
+
+#[test]
+fn a_crash_leaves_whole_records(rt: HostRuntime) -> Result<(), Fail> {
+    for (fails, fill, replies, length) in &CRASHES {
+        let disk = crashed(&rt, *fails, *fill)?;
+        goes_on(&rt, ("keep --file j", SECOND), disk, (replies, *length))?;
+    }
+    Ok(())
+}
+
+// Words, the disk's bytes, which call of the shelf gives no disk, how it ends, what is written, and whether the disk comes back:
+// the journal is damaged, there is no disk, and the script is too large.
+static STOPS: [(&str, &[u8], Option<u64>, MoreStatus, &[u8], bool); 3] = [
     (
         "keep --file j",
-        (b"", Some(12)),
-        None,
-        MoreStatus::DiskFault,
-        b"1 OPEN\n1 OK\n",
-        true,
-    ),
-    (
-        "keep --file j",
-        (b"\x01\x09\0", None),
+        b"\x01\x09\0",
         None,
         MoreStatus::Damaged(0),
         b"",
@@ -123,7 +139,7 @@ static STOPS: [(
     ),
     (
         "keep --file j",
-        (b"", None),
+        b"",
         Some(0),
         MoreStatus::DiskFault,
         b"",
@@ -131,7 +147,7 @@ static STOPS: [(
     ),
     (
         "keep --file j --limit 5",
-        (b"", None),
+        b"",
         None,
         MoreStatus::Base(Status::TooLarge),
         b"1 OPEN\n",
@@ -142,7 +158,7 @@ static STOPS: [(
 #[test]
 fn what_stops_it(rt: HostRuntime) -> Result<(), Fail> {
     for (words, disk, refused, end, written, back) in &STOPS {
-        let is_back = keeps(&rt, words, *disk, *refused, (*end, written))?;
+        let is_back = keeps(&rt, words, disk, *refused, (*end, written))?;
         assert_eq!(rt; is_back, *back, "{words}");
     }
     assert_eq!(rt; MoreStatus::DiskFault.exit_code(), 7);
@@ -163,7 +179,7 @@ fn malformed_words_of_keep(rt: HostRuntime) -> Result<(), Fail> {
         "keep --file j k",
     ] {
         let end = (MoreStatus::Base(Status::Usage), USAGE.as_bytes());
-        let is_back = keeps(&rt, words, (b"", None), None, end)?;
+        let is_back = keeps(&rt, words, b"", None, end)?;
         assert!(rt; !is_back, "{words}");
     }
     Ok(())
