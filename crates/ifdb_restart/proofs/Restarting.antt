@@ -1,5 +1,5 @@
 -- How a restart goes on, text by text.
-use Rattle.std.proofs.Common.{◌≡◌, ℕ, ◌+◌, List, [], ◌∷◌, ◌++◌, ◌∙◌, length, refl, sym, ap, subst, Option, Some, None}
+use Rattle.std.proofs.Common.{◌≡◌, ℕ, ◌+◌, List, [], ◌∷◌, ◌++◌, ◌∙◌, length, refl, sym, ap, subst, Option, Some}
 use Rattle.std.specs.Prelude.{IsSome}
 use Rattle.ifdb_disk.specs.Clock.{Clock}
 use Rattle.ifdb_journal.specs.Reading.{Place}
@@ -8,7 +8,7 @@ use Rattle.ifdb_redo.specs.Reading.{record_of}
 use Rattle.ifdb_model.specs.Log.{Entry}
 use Rattle.ifdb_model.specs.Run.{opening}
 use Rattle.ifdb_db.specs.Room.{Hall, StandsFor}
-use Rattle.ifdb_restart.specs.Restarted.{with_record, log_behind, log_of, IsClosedOver, IsLonger, IsUnfit, IsRestored, IsRestarted, HasUnfitAt}
+use Rattle.ifdb_restart.specs.Restarted.{with_record, log_behind, IsLonger, IsUnfit, IsRestored, IsRestarted, HasUnfitAt}
 
 -- one more text
 one_more : (log : Option (List Entry)) (texts : List (List ℕ)) (text : List ℕ) → log_behind log (texts ++ text ∷ []) ≡ with_record (log_behind log texts) (record_of text)

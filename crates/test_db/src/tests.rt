@@ -127,7 +127,12 @@ fn a_record_over_the_limit_is_not_made(rt: HostRuntime) -> Result<(), Fail> {
     ask(alloc, &mut room, HISTORY[0], None)?;
     // A record of a line is as long as the line, and six bytes.
     assert!(rt; ask(alloc, &mut room, "CREATE TAG t", Some(17)).is_err());
-    assert!(rt; matches!(ask(alloc, &mut room, "CREATE TAG t", Some(18))?, Reply::Done));
+    assert!(rt;
+        matches!(
+            ask(alloc, &mut room, "CREATE TAG t", Some(18))?,
+            Reply::Done
+        )
+    );
     Ok(())
 }
 

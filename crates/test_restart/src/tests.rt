@@ -52,11 +52,7 @@ fn ask_all(
     let mut told = String::new(alloc);
     for line in lines {
         let mut note = room.note(Some(1000));
-        let reply = room.reply_noted(
-            number,
-            ReadLine::new(alloc, line.as_bytes()),
-            &mut note,
-        )?;
+        let reply = room.reply_noted(number, ReadLine::new(alloc, line.as_bytes()), &mut note)?;
         out.speak_for(None);
         out.put(&reply);
         told.push_str(std::str::from_utf8(out.bytes())?)?;
@@ -103,10 +99,7 @@ fn is_damaged(rt: &impl Abort, alloc: Global, texts: &[&[u8]], at: u64) -> Resul
     for text in texts {
         add_text(&mut batch, text)?;
     }
-    let Restarted {
-        room,
-        mut journal,
-    } = restart(alloc, &mut disk)?;
+    let Restarted { room, mut journal } = restart(alloc, &mut disk)?;
     drop(room);
     journal.append_batch(&mut disk, &batch)?;
     let end = match restart(alloc, &mut disk) {
