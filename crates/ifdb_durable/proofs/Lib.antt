@@ -3,4 +3,5 @@ pub mod Steps
 pub mod Writing
 pub mod Appends
 pub mod Worth
+pub mod Away
 pub mod TextRoom

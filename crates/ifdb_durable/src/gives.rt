@@ -1,7 +1,7 @@
 //! What has a queue in it, and one append of all that waits there.
 ghost use Rattle.std.specs.Prelude.{◌≡◌, List};
 ghost use mathlib.Core.List.{IsPrefix};
-ghost use Rattle.ifdb_turn.specs.Passes.{history, shares, BelongsTo};
+ghost use Rattle.ifdb_turn.specs.Passes.{history, places, shares, BelongsTo, IsOrderly, NoForeignRoots};
 ghost use Rattle.ifdb_durable.specs.Writing.{told, disk_of, HasSeat, IsIdle};
 
 use crate::mark::Mark;
@@ -45,6 +45,9 @@ pub(crate) fn flush<R: Wait, B: Naming, D: Disk, O: Gives<B, D>>(
     ensures room { BelongsTo room.now pass.new }
     ensures sees { IsPrefix (history pass.old) (history pass.new) }
     ensures shares { shares pass.new ≡ shares pass.old }
+    ensures orderly { IsOrderly O.right pass.old → IsOrderly O.right pass.new }
+    ensures places { places pass.new ≡ places pass.old }
+    ensures away { NoForeignRoots O.root pass.old pass.new }
     ensures writer_shares { shares writer_pass.new ≡ shares writer_pass.old }
 {
     let mut turn = writer.enter(rt, writer_pass);

@@ -2,7 +2,7 @@
 ghost use Rattle.std.specs.Prelude.{◌≡◌, ◌≤◌, ◌<◌, ◌+◌, [], ◌∷◌, length, IfErr, IfOk, OnErr, OnOk, true, false};
 ghost use mathlib.Core.List.{IsPrefix};
 ghost use Rattle.ifdb_io.specs.Causes.{Rose};
-ghost use Rattle.ifdb_turn.specs.Passes.{history, shares, BelongsTo};
+ghost use Rattle.ifdb_turn.specs.Passes.{history, places, shares, BelongsTo, IsOrderly, NoForeignRoots};
 ghost use Rattle.ifdb_turn.specs.Views.{all_shares};
 ghost use Rattle.ifdb_durable.specs.declared.view.Flush.{Flush};
 ghost use Rattle.ifdb_durable.specs.declared.view.Told.{Told};
@@ -75,6 +75,9 @@ impl<B: Naming, D: Disk> GroupCommit<B, D> {
         ensures failed { OnErr result (member.new.receipt.has_failed ≡ true) }
         ensures more { Begins member.old.receipt member.new.receipt }
         ensures shares { shares pass.new ≡ shares pass.old }
+        ensures orderly { IsOrderly O.right pass.old → IsOrderly O.right pass.new }
+        ensures places { places pass.new ≡ places pass.old }
+        ensures away { NoForeignRoots O.root pass.old pass.new }
         ensures member_shares { shares_of member.new ≡ shares_of member.old }
     {
         for _ in rt.forever() {
@@ -112,6 +115,9 @@ impl<B: Naming, D: Disk> GroupCommit<B, D> {
         ensures sees { IsPrefix (history pass.old) (history pass.new) }
         ensures receipt { member.new.receipt ≡ member.old.receipt }
         ensures shares { shares pass.new ≡ shares pass.old }
+        ensures orderly { IsOrderly O.right pass.old → IsOrderly O.right pass.new }
+        ensures places { places pass.new ≡ places pass.old }
+        ensures away { NoForeignRoots O.root pass.old pass.new }
         ensures member_shares { shares_of member.new ≡ shares_of member.old }
     {
         let flushed = flush(rt, &self.mark, &self.writer, &mut member.pass, room, pass);

@@ -19,16 +19,16 @@ use Rattle.ifdb_history.specs.declared.entry.Entry.{Entry}
 use Rattle.ifdb_history.specs.History.{IsRight}
 use Rattle.ifdb_db.specs.Reading.{read_line}
 use Rattle.ifdb_pool.specs.Visits.{Visit, Serves as ServesAll}
-use Rattle.ifdb_pool.specs.Work.{Worked, AllWorked}
+use Rattle.ifdb_pool.specs.Work.{IsReady, Worked, AllWorked}
 use Rattle.ifdb_pool.specs.declared.worker.Worker.{Worker}
-use Rattle.ifdb_session.specs.declared.host.SessionHost.{SessionHost}
-use Rattle.ifdb_session.specs.declared.shared.SharedRoom.{SharedRoom}
+use Rattle.ifdb_session.specs.contracts.in_memory.InMemoryRecords.TheImpl as recording
+use Rattle.ifdb_session.specs.contracts.in_memory.InMemorySettles.TheImpl as waiting
 use Rattle.ifdb_session.specs.Endings.{fault_of, capped}
 use Rattle.ifdb_session.specs.Hosts.{Serves}
 use Rattle.ifdb_session.specs.Passes.{Sees}
 use Rattle.ifdb_session.proofs.Passes.{prefix-trans}
 use Rattle.ifdb_service.specs.Doors.{Connection, Run, AllLinked, IsRunIn, ServedAll, faults_in, faults_of, one_unless, turns_of, turns_at}
-use Rattle.ifdb_service.specs.Workers.{IsFresh, Hiring, IsHome, AllHome, Joining, hosts, one_if}
+use Rattle.ifdb_service.specs.Workers.{MemoryRoom, MemoryHost, IsFresh, Hiring, IsHome, AllHome, Joining, hosts, one_if}
 use Rattle.ifdb_service.proofs.Links.{linked1, all_later, run_later}
 
 all_snoc : {X : Type 0} (P : X → Type 0) (xs : List X) (x : X) → All P xs → P x → All P (xs ++ x ∷ [])
@@ -46,9 +46,9 @@ split_orderly right old own orderly seen none =
 
 -- ---- workers are hired
 
-module _ {D K R : Type 0} (doors : door.Ghosts D K) (hall : Turnstile SharedRoom Entry) (limit : ℕ) where
-  pub hired : (old now now' : Pass SharedRoom Entry) (given : List D) (ws ws' : List (Worker D (SessionHost R K))) (d : D) (rs rest : List D) (room room' : ℕ)
-      (w : Worker D (SessionHost R K)) → rs ≡ d ∷ rest → Hiring doors hall limit old now given ws rs room
+module _ {D K R : Type 0} (doors : door.Ghosts D K) (hall : Turnstile MemoryRoom Entry) (limit : ℕ) where
+  pub hired : (old now now' : Pass MemoryRoom Entry) (given : List D) (ws ws' : List (Worker D (MemoryHost R K))) (d : D) (rs rest : List D) (room room' : ℕ)
+      (w : Worker D (MemoryHost R K)) → rs ≡ d ∷ rest → Hiring doors hall limit old now given ws rs room
       → BelongsTo hall now' → shares now' + 1 ≡ shares now → history now' ≡ history now → places now' ≡ places now
       → w.door ≡ d → (doors.most d < 2 ^ 64 → IsFresh doors hall limit w) → ws' ≡ ws ++ w ∷ [] → room ≤ room'
       → Hiring doors hall limit old now' given ws' rest room'
@@ -70,6 +70,15 @@ module _ {D K R : Type 0} (doors : door.Ghosts D K) (hall : Turnstile SharedRoom
         seen = seen ∙ h.seen;
         own = own ∙ h.own;
       }
+
+-- fresh workers may be run
+pub all_ready : {D K R : Type 0} (doors : door.Ghosts D K) (hall : Turnstile MemoryRoom Entry) (limit : ℕ) (sources : source.Ghosts K) (sinks : sink.Ghosts K) (ws all : List (Worker D (MemoryHost R K)))
+    → all ≡ ws → All (IsFresh doors hall limit) ws → All (IsReady doors (hosts sources sinks)) all
+all_ready doors hall limit sources sinks ws all same fresh = λ k d lt.
+    let w = subst (All (IsFresh doors hall limit)) (sym same) fresh k d lt in
+    let none = w.no_link in
+    let few = w.most in
+    (w.ready, omega (arith, none, few))
 
 -- ---- what the services of a host come to
 
@@ -100,7 +109,7 @@ turns_snoc k (x ∷ xs) r = let i = turns_snoc k xs r in omega arith
 
 module _ {K R : Type 0} (sources : source.Ghosts K) (sinks : sink.Ghosts K) where
   -- one service after another
-  record Chained (a b : SessionHost R K) (vs : List (Visit K)) : Type 0 where
+  record Chained (a b : MemoryHost R K) (vs : List (Visit K)) : Type 0 where
     connections : List Connection
     linked : AllLinked sources sinks a.limit (history b.pass) vs connections
     own : places b.pass ≡ places a.pass ++ turns_of connections
@@ -110,17 +119,17 @@ module _ {K R : Type 0} (sources : source.Ghosts K) (sinks : sink.Ghosts K) wher
     hall : b.hall ≡ a.hall
     limit : b.limit ≡ a.limit
 
-  chained : (a b : SessionHost R K) (vs : List (Visit K)) → a.faults < 2 ^ 64 → AllRight (IsRight read_line) (history b.pass)
-      → ServesAll (Serves sources sinks) a vs b → Chained a b vs
+  chained : (a b : MemoryHost R K) (vs : List (Visit K)) → a.faults < 2 ^ 64 → AllRight (IsRight read_line) (history b.pass)
+      → ServesAll (Serves sources sinks recording.ghosts waiting.ghosts) a vs b → Chained a b vs
   chained a b [] lt right is = record {
     connections = [];
     linked = tt;
-    own = sym (append-nil (places a.pass) ∙ ap (λ (h : SessionHost R K). places h.pass) is);
-    faults = capped_zero a.faults b.faults lt (ap (λ (h : SessionHost R K). h.faults) (sym is));
-    share = ap (λ (h : SessionHost R K). shares h.pass) (sym is);
-    begins = ([], append-nil (history a.pass) ∙ ap (λ (h : SessionHost R K). history h.pass) is);
-    hall = ap (λ (h : SessionHost R K). h.hall) (sym is);
-    limit = ap (λ (h : SessionHost R K). h.limit) (sym is);
+    own = sym (append-nil (places a.pass) ∙ ap (λ (h : MemoryHost R K). places h.pass) is);
+    faults = capped_zero a.faults b.faults lt (ap (λ (h : MemoryHost R K). h.faults) (sym is));
+    share = ap (λ (h : MemoryHost R K). shares h.pass) (sym is);
+    begins = ([], append-nil (history a.pass) ∙ ap (λ (h : MemoryHost R K). history h.pass) is);
+    hall = ap (λ (h : MemoryHost R K). h.hall) (sym is);
+    limit = ap (λ (h : MemoryHost R K). h.limit) (sym is);
   }
   chained a b (v ∷ vs) lt right s =
       let m = s.0 in
@@ -142,12 +151,12 @@ module _ {K R : Type 0} (sources : source.Ghosts K) (sinks : sink.Ghosts K) wher
 
 -- ---- workers come home, and are joined
 
-module _ {D K R : Type 0} (doors : door.Ghosts D K) (hall : Turnstile SharedRoom Entry) (limit : ℕ) (sources : source.Ghosts K) (sinks : sink.Ghosts K) where
-  home_of : (w w' : Worker D (SessionHost R K)) → IsFresh doors hall limit w → Worked doors (hosts sources sinks) w w' → IsHome doors hall limit sources sinks w.door w'
+module _ {D K R : Type 0} (doors : door.Ghosts D K) (hall : Turnstile MemoryRoom Entry) (limit : ℕ) (sources : source.Ghosts K) (sinks : sink.Ghosts K) where
+  home_of : (w w' : Worker D (MemoryHost R K)) → IsFresh doors hall limit w → Worked doors (hosts sources sinks) w w' → IsHome doors hall limit sources sinks w.door w'
   home_of w w' f d =
       let lt : w.host.faults < 2 ^ 64 = subst (λ n. n < 2 ^ 64) (sym f.no_fault) (omega arith) in
       let c = chained sources sinks w.host w'.host d.visits lt d.served.ready.orderly.0 d.served.host in
-      let at : w'.host.hall.now ≡ hall = ap (λ (b : Bor (Turnstile SharedRoom Entry)). b.now) c.hall ∙ f.at in
+      let at : w'.host.hall.now ≡ hall = ap (λ (b : Bor (Turnstile MemoryRoom Entry)). b.now) c.hall ∙ f.at in
       let z : 0 + faults_in c.connections ≡ faults_in c.connections = omega arith in
       record {
         belongs = subst (λ t. BelongsTo t w'.host.pass) at d.served.ready.belongs;
@@ -166,7 +175,7 @@ module _ {D K R : Type 0} (doors : door.Ghosts D K) (hall : Turnstile SharedRoom
         failed = d.failed;
       }
 
-  all_home : (ws ws' : List (Worker D (SessionHost R K))) → All (IsFresh doors hall limit) ws → AllWorked (Worked doors (hosts sources sinks)) ws ws'
+  all_home : (ws ws' : List (Worker D (MemoryHost R K))) → All (IsFresh doors hall limit) ws → AllWorked (Worked doors (hosts sources sinks)) ws ws'
       → AllHome doors hall limit sources sinks (map (λ w. w.door) ws) ws'
   all_home [] [] f a = tt
   all_home [] (y ∷ ys) f a = absurd (omega (arith, a.0))
@@ -178,7 +187,7 @@ module _ {D K R : Type 0} (doors : door.Ghosts D K) (hall : Turnstile SharedRoom
       )
 
   -- all workers are at home, and none is joined yet
-  pub sent : (old now : Pass SharedRoom Entry) (given : List D) (ws0 ws ws' rs : List (Worker D (SessionHost R K))) (back : List D)
+  pub sent : (old now : Pass MemoryRoom Entry) (given : List D) (ws0 ws ws' rs : List (Worker D (MemoryHost R K))) (back : List D)
       → BelongsTo hall now → IsOrderly (IsRight read_line) old → shares now + length given ≡ shares old → history now ≡ history old → places now ≡ places old
       → map (λ w. w.door) ws ≡ given → All (IsFresh doors hall limit) ws → ws0 ≡ ws → AllWorked (Worked doors (hosts sources sinks)) ws0 ws' → rs ≡ ws' → back ≡ []
       → Joining doors hall limit sources sinks old now given rs back 0
@@ -202,7 +211,7 @@ module _ {D K R : Type 0} (doors : door.Ghosts D K) (hall : Turnstile SharedRoom
         own = λ k. ap (times k) own ∙ omega arith;
       }
 
-  pub joined : (old now now' : Pass SharedRoom Entry) (given : List D) (w : Worker D (SessionHost R K)) (rs rest : List (Worker D (SessionHost R K))) (back back' : List D) (faults faults' : ℕ)
+  pub joined : (old now now' : Pass MemoryRoom Entry) (given : List D) (w : Worker D (MemoryHost R K)) (rs rest : List (Worker D (MemoryHost R K))) (back back' : List D) (faults faults' : ℕ)
       → rs ≡ w ∷ rest → Joining doors hall limit sources sinks old now given rs back faults
       → BelongsTo hall now' → IsOrderly (IsRight read_line) now' → IsPrefix (history now) (history now') → IsPrefix (history w.host.pass) (history now')
       → places now' ≡ merge (places now) (places w.host.pass) → shares now' ≡ shares now + shares w.host.pass
@@ -239,7 +248,7 @@ module _ {D K R : Type 0} (doors : door.Ghosts D K) (hall : Turnstile SharedRoom
                 let x = turns_snoc k i.runs r in omega arith;
           }
 
-  pub next_belongs : (left : List D) (rs rest : List (Worker D (SessionHost R K))) (w : Worker D (SessionHost R K)) → AllHome doors hall limit sources sinks left rs → rs ≡ w ∷ rest
+  pub next_belongs : (left : List D) (rs rest : List (Worker D (MemoryHost R K))) (w : Worker D (MemoryHost R K)) → AllHome doors hall limit sources sinks left rs → rs ≡ w ∷ rest
       → BelongsTo hall w.host.pass
   next_belongs left rs rest w home is = go left (subst (λ l. AllHome doors hall limit sources sinks left l) is home)
     where
@@ -247,7 +256,7 @@ module _ {D K R : Type 0} (doors : door.Ghosts D K) (hall : Turnstile SharedRoom
       go [] h = absurd h
       go (d ∷ ds) h = h.0.belongs
 
-  pub all_served : (old now : Pass SharedRoom Entry) (given : List D) (rs : List (Worker D (SessionHost R K))) (back : List D) (faults : ℕ)
+  pub all_served : (old now : Pass MemoryRoom Entry) (given : List D) (rs : List (Worker D (MemoryHost R K))) (back : List D) (faults : ℕ)
       → Joining doors hall limit sources sinks old now given rs back faults → length rs ≡ 0 → ServedAll doors sources sinks limit old now given back faults
   all_served old now given rs back faults i is = record {
     runs = i.runs;
@@ -258,13 +267,13 @@ module _ {D K R : Type 0} (doors : door.Ghosts D K) (hall : Turnstile SharedRoom
     own = i.own;
   }
     where
-      go : (left : List D) (rs : List (Worker D (SessionHost R K))) → AllHome doors hall limit sources sinks left rs → length rs ≡ 0 → map (λ r. r.before) i.runs ++ left ≡ given
+      go : (left : List D) (rs : List (Worker D (MemoryHost R K))) → AllHome doors hall limit sources sinks left rs → length rs ≡ 0 → map (λ r. r.before) i.runs ++ left ≡ given
           → map (λ r. r.before) i.runs ≡ given
       go [] rs h z e = sym (append-nil (map (λ r. r.before) i.runs)) ∙ e
       go (d ∷ ds) [] h z e = absurd h
       go (d ∷ ds) (w ∷ ws) h z e = absurd (omega (arith, z))
 
-  pub all_seen : (old now : Pass SharedRoom Entry) (given : List D) (rs : List (Worker D (SessionHost R K))) (back : List D) (faults : ℕ)
+  pub all_seen : (old now : Pass MemoryRoom Entry) (given : List D) (rs : List (Worker D (MemoryHost R K))) (back : List D) (faults : ℕ)
       → Joining doors hall limit sources sinks old now given rs back faults → length rs ≡ 0 → Sees hall old now
   all_seen old now given rs back faults i is =
       let s = i.share in record { belongs = i.belongs; orderly = i.orderly; begins = i.begins; shares = omega arith }

@@ -16,17 +16,20 @@ use Rattle.ifdb_history.proofs.Entries.{entries_later}
 use Rattle.ifdb_db.specs.Reading.{read_line}
 use Rattle.ifdb_session.specs.declared.ending.Ending.{Ending}
 use Rattle.ifdb_session.specs.declared.ending.Ending.TheVariants as ends
-use Rattle.ifdb_session.specs.declared.host.SessionHost.{SessionHost}
+use Rattle.ifdb_session.specs.contracts.in_memory.InMemoryRecords.TheImpl as recording
+use Rattle.ifdb_session.specs.contracts.in_memory.InMemorySettles.TheImpl as waiting
 use Rattle.ifdb_session.specs.Hosts.{Serves}
 use Rattle.ifdb_session.specs.Links.{Served, Span}
 use Rattle.ifdb_session.proofs.Serving.{served_later}
 use Rattle.ifdb_service.specs.Doors.{Connection, Run, AreTurnsOf, IsLinked, AllLinked, IsRunIn}
+use Rattle.ifdb_service.specs.Workers.{MemoryHost}
 
 is_memory : (ending : Ending) → Dec (ending ≡ ends.OutOfMemory)
 is_memory ends.Bye = no (λ e. cc)
 is_memory ends.End = no (λ e. cc)
 is_memory ends.LinkRead = no (λ e. cc)
 is_memory ends.LinkWrite = no (λ e. cc)
+is_memory ends.Unkept = no (λ e. cc)
 is_memory ends.TooMuch = no (λ e. cc)
 is_memory ends.TooLong = no (λ e. cc)
 is_memory ends.OutOfMemory = yes refl
@@ -44,13 +47,13 @@ turns_are ending limit n old new s one =
 
 module _ {K : Type 0} (sources : source.Ghosts K) (sinks : sink.Ghosts K) where
   -- what a host did with one connection, by the turns that its pass has got
-  pub record Linked1 {R : Type 0} (a m : SessionHost R K) (v : Visit K) (ending : Ending) : Type 0 where
+  pub record Linked1 {R : Type 0} (a m : MemoryHost R K) (v : Visit K) (ending : Ending) : Type 0 where
     pub connection : Connection
     pub same : connection.ending ≡ ending
     pub linked : IsLinked sources sinks a.limit (history m.pass) v connection
     pub own : places m.pass ≡ places a.pass ++ connection.turns
 
-  pub linked1 : {R : Type 0} (a m : SessionHost R K) (v : Visit K) (s : Serves sources sinks a v.came m v.went)
+  pub linked1 : {R : Type 0} (a m : MemoryHost R K) (v : Visit K) (s : Serves sources sinks recording.ghosts waiting.ghosts a v.came m v.went)
       → Linked1 a m v s.service.ending
   linked1 {R} a m v s = by (is_memory s.service.ending) where
     by : Dec (s.service.ending ≡ ends.OutOfMemory) → Linked1 {R = R} a m v s.service.ending
@@ -63,6 +66,7 @@ module _ {K : Type 0} (sources : source.Ghosts K) (sinks : sink.Ghosts K) where
         unserved = s.unserved;
         unopened = λ _. refl;
         causes = s.causes;
+        kept = s.unkept;
       };
       own = s.unopened none ∙ sym (append-nil (places a.pass));
     }
@@ -76,6 +80,7 @@ module _ {K : Type 0} (sources : source.Ghosts K) (sinks : sink.Ghosts K) where
             unserved = s.unserved;
             unopened = λ none. absurd (opened none);
             causes = s.causes;
+            kept = s.unkept;
           };
           own = one.own;
         }
@@ -88,6 +93,7 @@ module _ {K : Type 0} (sources : source.Ghosts K) (sinks : sink.Ghosts K) where
     unserved = l.unserved;
     unopened = l.unopened;
     causes = l.causes;
+    kept = l.kept;
   }
 
   pub all_later : (limit : ℕ) (h k : List Entry) (vs : List (Visit K)) (cs : List Connection) → AllLinked sources sinks limit h vs cs → IsPrefix h k

@@ -61,13 +61,15 @@ faults_of doors [] = 0
 faults_of doors (r ∷ rs) = (faults_in r.connections + one_unless (doors.ended r.after)) + faults_of doors rs
 
 module _ {K : Type 0} (sources : source.Ghosts K) (sinks : sink.Ghosts K) where
-  -- a connection was served by a session of this history; or there was no memory for it, and it went as it came
+  -- a connection was served by a session of this history, and no reply was held back; or there was no memory for it, and it
+  -- went as it came
   pub record IsLinked (limit : ℕ) (h : List Entry) (v : Visit K) (c : Connection) : Type 0 where
     pub served : c.ending ≢ ends.OutOfMemory → IsServed c.ending limit c.number h (span_of sources sinks v.came v.went)
     pub turns : c.ending ≢ ends.OutOfMemory → AreTurnsOf c.number h c.turns
     pub unserved : c.ending ≡ ends.OutOfMemory → v.went ≡ v.came
     pub unopened : c.ending ≡ ends.OutOfMemory → c.turns ≡ []
     pub causes : HasCauses sources sinks c.ending v.came v.went
+    pub kept : c.ending ≢ ends.Unkept
 
   -- so was each of these
   abbrev pub AllLinked : ℕ → List Entry → List (Visit K) → List Connection → Type 0

@@ -1,5 +1,6 @@
 // That a room may go to another thread.
 ghost use Rattle.std.specs.Thread.{IsSend, IsSync};
+ghost use Rattle.ifdb_session.specs.contracts.in_memory.InMemory as in_memory;
 ghost use Rattle.ifdb_session.specs.contracts.shared.SharedRoom as room;
 
 use ifdb_bound::{Schema, ViewDef};
@@ -11,7 +12,7 @@ use std::marker::{Send, Sync};
 
 /// A room may go to another thread. Does nothing: the checker finds it of the parts that hold themselves, and not of the whole.
 pub(crate) fn room_crosses()
-    ensures { IsSend room.the_row }
+    ensures { IsSend (room.the_row in_memory.the_row) }
 {
     sends::<IndexMap<Name, Credentials>>();
     sends::<IndexSet<Name>>();

@@ -6,10 +6,10 @@ ghost use Rattle.ifdb_db.specs.Reading.{read_line};
 ghost use Rattle.ifdb_session.specs.Passes.{Sees};
 ghost use Rattle.ifdb_service.specs.Doors.{ServedAll};
 
-use crate::workers::{hire, more_faults, send};
+use crate::workers::{MemoryRoom, hire, more_faults, send};
 use ifdb_io::Door;
 use ifdb_pool::Worker;
-use ifdb_session::{SessionHost, SharedRoom};
+use ifdb_session::SessionHost;
 use ifdb_turn::{Pass, Turnstile};
 use std::alloc::Global;
 use std::sync::Wait;
@@ -39,8 +39,8 @@ pub struct Unserved<D> {
 pub fn serve_doors<R: Threads + Wait + Sync, D: Door + Send + Drop>(
     rt: &R,
     alloc: Global,
-    hall: &Turnstile<SharedRoom>,
-    pass: &mut Pass<SharedRoom>,
+    hall: &Turnstile<MemoryRoom>,
+    pass: &mut Pass<MemoryRoom>,
     doors: Vec<D>,
     limit: u64,
 ) -> Result<Ended<D>, Unserved<D>>

@@ -8,8 +8,9 @@ use crate::ServiceEnd;
 use crate::doors::{Ended, Unserved, serve_doors};
 use crate::numbered_line::write_numbered;
 use crate::summary::write_summary;
+use crate::workers::MemoryRoom;
 use ifdb_io::{Failed, Sink, Site, SiteFault};
-use ifdb_session::{OutOfMemory, SharedRoom};
+use ifdb_session::{InMemory, OutOfMemory, SharedRoom};
 use ifdb_turn::{Pass, Turnstile};
 use ifdb_words::Service;
 use std::alloc::Global;
@@ -77,10 +78,10 @@ pub fn serve<R: Threads + Wait + Sync, W: Sink, S: Site>(
 }
 
 /// A turnstile round a new room, and its first pass.
-fn open_hall(alloc: Global) -> Result<(Turnstile<SharedRoom>, Pass<SharedRoom>), OutOfMemory>
+fn open_hall(alloc: Global) -> Result<(Turnstile<MemoryRoom>, Pass<MemoryRoom>), OutOfMemory>
     ensures { IfOk result (λ t. IsNewHall t.0 t.1) }
 {
-    match Turnstile::new(alloc, SharedRoom::opening(alloc)?) {
+    match Turnstile::new(alloc, SharedRoom::opening(alloc, InMemory)?) {
         Ok(hall) => Ok(hall),
         Err(_) => Err(OutOfMemory),
     }

@@ -10,22 +10,28 @@ ghost use Rattle.ifdb_service.specs.Workers.{IsFresh, hosts, one_if};
 use crate::crossing::room_crosses;
 use ifdb_io::Door;
 use ifdb_pool::{Worker, run_all};
-use ifdb_session::{SessionHost, SharedRoom};
+use ifdb_session::{InMemory, SessionHost, SharedRoom};
 use ifdb_turn::{Pass, Turnstile};
 use std::alloc::Global;
 use std::marker::PhantomData;
 use std::sync::Wait;
 use std::thread::Threads;
 
+/// A room that stands in memory alone.
+pub(crate) type MemoryRoom = SharedRoom<InMemory>;
+
+/// A host whose replies wait for nothing.
+pub(crate) type MemoryHost<'a, R, K> = SessionHost<'a, R, K, InMemory, InMemory>;
+
 /// Gives each door a worker, with a pass that is split off.
 pub(crate) fn hire<'a, R: Wait, D: Door + Drop>(
     rt: &'a R,
     alloc: Global,
-    hall: &'a Turnstile<SharedRoom>,
-    pass: &mut Pass<SharedRoom>,
+    hall: &'a Turnstile<MemoryRoom>,
+    pass: &mut Pass<MemoryRoom>,
     doors: Vec<D>,
     limit: u64,
-    workers: &mut Vec<Worker<D, SessionHost<'a, R, D::Link>>>,
+    workers: &mut Vec<Worker<D, MemoryHost<'a, R, D::Link>>>,
 )
     requires pass { BelongsTo hall.now pass.old }
     requires orderly { IsOrderly (IsRight read_line) pass.old }
@@ -52,11 +58,11 @@ pub(crate) fn hire<'a, R: Wait, D: Door + Drop>(
 fn begin<'a, R, D: Door>(
     rt: &'a R,
     alloc: Global,
-    hall: &'a Turnstile<SharedRoom>,
-    own: Pass<SharedRoom>,
+    hall: &'a Turnstile<MemoryRoom>,
+    own: Pass<MemoryRoom>,
     door: D,
     limit: u64,
-) -> Worker<D, SessionHost<'a, R, D::Link>>
+) -> Worker<D, MemoryHost<'a, R, D::Link>>
     requires pass { BelongsTo hall.now own }
     requires orderly { IsOrderly (IsRight read_line) own }
     requires share { shares own ≡ 1 }
@@ -71,6 +77,7 @@ fn begin<'a, R, D: Door>(
         alloc,
         hall,
         pass: own,
+        keeper: InMemory,
         limit,
         faults: 0,
         link: PhantomData,
@@ -86,9 +93,9 @@ fn begin<'a, R, D: Door>(
 /// Runs all workers, each in a thread of its own.
 pub(crate) fn send<R: Threads + Wait + Sync, D: Door + Send + Drop>(
     rt: &R,
-    hall: &Turnstile<SharedRoom>,
+    hall: &Turnstile<MemoryRoom>,
     limit: u64,
-    workers: &mut Vec<Worker<D, SessionHost<'_, R, D::Link>>>,
+    workers: &mut Vec<Worker<D, MemoryHost<'_, R, D::Link>>>,
 )
     requires { All (IsFresh D.Door hall.now limit) workers.old.items }
     ensures { AllWorked (Worked D.Door (hosts D.Link.Source D.Link.Sink))

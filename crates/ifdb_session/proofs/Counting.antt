@@ -28,13 +28,15 @@ use Rattle.ifdb_history.specs.Counts.{is_refusal, refusal_of, refusals_from, ref
 use Rattle.ifdb_history.specs.History.{steps_of, flat, after}
 use Rattle.ifdb_history.proofs.Sessions.{open_was}
 use Rattle.ifdb_session.specs.declared.counts.Glance.{Glance}
+use Rattle.ifdb_session.specs.declared.records.Records as recorder
 use Rattle.ifdb_session.specs.declared.shared.SharedRoom.{SharedRoom}
 use Rattle.ifdb_session.specs.Counts.{counted, is_commit, commits_at, refuses_at, is_count, IsGlance, has_committed, has_refused}
 use Rattle.ifdb_session.specs.Endings.{capped}
+use Rattle.ifdb_session.specs.Records.{texts_of}
 use Rattle.ifdb_session.specs.Standing.{StandsForHistory}
 use Rattle.ifdb_session.specs.declared.shared.Asked.{Asked}
 use Rattle.ifdb_session.specs.declared.shared.Asked.TheVariants as asked
-use Rattle.ifdb_session.specs.Turns.{IsAnswered, IsAsked, IsLentAfter, IsLentBy, IsLeftOpen, HasCounted, CountsTurn}
+use Rattle.ifdb_session.specs.Turns.{IsAnswered, IsAsked, IsCount, IsLentAfter, IsLentBy, IsLeftOpen, HasCounted, CountsTurn}
 
 -- ---- a history and one more entry
 
@@ -97,15 +99,16 @@ capped_more : (n m k : ℕ) (is_so : Bool) → n ≡ capped m → k ≡ m + cond
 capped_more n m k true e f = omega (arith, e, f)
 capped_more n m k false e f = omega (arith, e, f)
 
--- the room stands for one entry more, where the turn was counted as what it is
-pub stands_more : (old new : SharedRoom) (h : List Entry) (e : Entry) (is_commit is_refused : Bool) → StandsForHistory old h → StandsFor new.room (after read_line (h ++ e ∷ []))
+-- the room stands for one entry more, where the turn was counted as what it is and recorded what it did
+pub stands_more : {Q : Type 0} (recorders : recorder.Ghosts Q) (old new : SharedRoom Q) (h : List Entry) (e : Entry) (is_commit is_refused : Bool) → StandsForHistory recorders old h → StandsFor new.room (after read_line (h ++ e ∷ []))
     → commits_in read_line (h ++ e ∷ []) ≡ commits_in read_line h + cond is_commit 1 0 → refuses_at read_line (after read_line h) e.kind ≡ is_refused
-    → HasCounted old new is_commit is_refused → StandsForHistory new (h ++ e ∷ [])
-stands_more old new h e is_commit is_refused stands room more refuses told = record {
+    → HasCounted old new is_commit is_refused → recorders.has new.records (texts_of (h ++ e ∷ [])) → StandsForHistory recorders new (h ++ e ∷ [])
+stands_more recorders old new h e is_commit is_refused stands room more refuses told recorded = record {
   room = room;
   entries = told.entries ∙ capped_more old.entries (length h) (length (h ++ e ∷ [])) true stands.entries (length-append h (e ∷ []));
   commits = told.commits ∙ capped_more old.commits _ _ is_commit stands.commits more;
   refused = told.refused ∙ capped_more old.refused _ _ is_refused stands.refused (refusals_more read_line h e ∙ ap (λ b. refusals_in read_line h + cond b 1 0) refuses);
+  recorded = recorded;
 }
 
 -- ---- how the room tells what a line did
@@ -188,7 +191,7 @@ module _ (h g : Hall) (n : ℕ) (line : List ℕ) (r : Reply) (before now : Glan
   refused_so = λ i. txn_before i && not (txn_now i) && is_refusal (told st w i)
 
 -- a line that was answered so, of a hall, and counted by these tests
-pub answered_and_counted : (h : Hall) (old new : SharedRoom) (n : ℕ) (line text : List ℕ) (r : Reply) (before now : Glance) (is_open : Bool) → IsGlance h n before → IsGlance new.room n now
+pub answered_and_counted : {Q : Type 0} (h : Hall) (old new : SharedRoom Q) (n : ℕ) (line text : List ℕ) (r : Reply) (before now : Glance) (is_open : Bool) → IsGlance h n before → IsGlance new.room n now
     → GoesBy h new.room (asks n line) → IsReplyTo h n line r → text ≡ reply_text None r → (client_in new.room n).is_open ≡ is_open
     → HasCounted old new (has_committed before now r) (has_refused before now r) → IsAnswered n line h new.room text is_open × CountsTurn h (kind.Asked n [] line) old new
 answered_and_counted h old new n line text r before now is_open was is goes told says left counts = ((goes, said, shown), counted_so) where
@@ -203,13 +206,15 @@ answered_and_counted h old new n line text r before now is_open was is goes told
       (λ i. (committed_so h new.room n line r before now was is goes told st w i, refused_so h new.room n line r before now was is goes told st w i)) counts
 
 -- a line for which there was no memory
-pub not_asked : (n : ℕ) (line : List ℕ) (lent now : Option Client) (old new : SharedRoom) (text : List ℕ) (result : Asked) → new.room ≡ old.room → text ≡ memory_text None → now ≡ lent
-    → (lent ≡ None → result ≡ asked.Refused) → (lent ≡ None → HasCounted old new false false) → (IsSome lent → result ≡ asked.Kept) → (IsSome lent → new ≡ old)
-    → IsAsked n line lent now old new text result
-not_asked n line None now old new text result room told same refused counted kept still =
-    subst (IsAsked n line None now old new text) (sym (refused refl)) (room, told, λ st w. counted refl, refl, same)
-not_asked n line (Some c) now old new text result room told same refused counted kept still =
-    subst (IsAsked n line (Some c) now old new text) (sym (kept refl)) (still refl, told, same, (c, refl))
+pub not_asked : {Q : Type 0} (recorders : recorder.Ghosts Q) (n : ℕ) (line : List ℕ) (lent now : Option Client) (old new : SharedRoom Q) (text : List ℕ) (result : Asked)
+    → new.room ≡ old.room → new.records ≡ old.records → text ≡ memory_text None → now ≡ lent
+    → (lent ≡ None → (count : ℕ) × (result ≡ asked.Refused count) × IsCount recorders new count) → (lent ≡ None → HasCounted old new false false)
+    → (IsSome lent → result ≡ asked.Kept) → (IsSome lent → new ≡ old) → IsAsked recorders n line lent now old new text result
+not_asked recorders n line None now old new text result room recorded told same refused counted kept still =
+    let r = refused refl in
+    subst (IsAsked recorders n line None now old new text) (sym r.1) (room, told, (λ st w. counted refl), refl, same, recorded, r.2)
+not_asked recorders n line (Some c) now old new text result room recorded told same refused counted kept still =
+    subst (IsAsked recorders n line (Some c) now old new text) (sym (kept refl)) (still refl, told, same, (c, refl))
 
 -- what is lent of a session that is open
 pub lent_if_open : (h : Hall) (n : ℕ) (is_open : Bool) (now : Option Client) → IsLentAfter h n is_open now → is_open ≡ true → IsLentBy h n now

@@ -1,6 +1,6 @@
 -- How the lines of a connection end, by what the last call of the reader and the last writing said. Reading leaves what was
 -- written, and writing leaves what is to be read: so the old and the new are said to be the same.
-use Rattle.std.proofs.Common.{◌≡◌, ℕ, ◌≤◌, false, List, [], ◌∷◌, ◌++◌, ◌∙◌, sym, subst, Option, None, inl, inr}
+use Rattle.std.proofs.Common.{◌≡◌, ℕ, ◌≤◌, false, List, [], ◌∷◌, ◌++◌, ◌∙◌, sym, ap, subst, Option, None, inl, inr}
 use Rattle.std.specs.Io.KnownBytes.{Appends, IsAtEnd}
 use Rattle.ifdb_io.specs.Causes.{WritesShort}
 use Rattle.ifdb_io.specs.Lines.{Reading, Gives, Ends as Stops, Exceeds, IsLine, IsLong}
@@ -37,6 +37,20 @@ module _ (limit : ℕ) (lines : List (List ℕ)) (texts : List ℕ) (old new : R
         inl (
           (new.held, record { took = took.took; within = took.within }),
           wrote_cut lines texts old new a b w v so more all d text here line asked told t r is (subst (λ z. WritesShort z t text) written short),
+        )
+
+    -- nothing was written of its reply
+    pub ends_unkept : new.taken ≤ limit → (r : Reply) → text ≡ reply_text None r → t ≡ u
+        → Ends ends.Unkept limit more all (record { left = a; left_now = d; written = w; written_now = t })
+    ends_unkept few r is held =
+        let took = line_within lines texts old new a b w v so more all d text here line asked told limit few in (
+          (new.held, record { took = took.took; within = took.within }),
+          record {
+            before = texts;
+            last = r;
+            all = told ∙ ap (λ l. texts ++ l) is;
+            wrote = subst (λ z. Appends w z texts) (sym (held ∙ written)) so.wrote;
+          },
         )
 
   -- ---- a line that is too long

@@ -9,3 +9,7 @@ pub mod MayAdd
 pub mod Said
 pub mod Turned
 pub mod ClearedInside
+pub mod Recording
+pub mod Noting
+pub mod Sources
+pub mod Settled

@@ -1,5 +1,5 @@
 -- What a turn finds, and the entries that it may add.
-use Rattle.std.proofs.Common.{◌≡◌, ℕ, ◌+◌, ◌<◌, false, List, [], ◌∷◌, ◌++◌, ◌∙◌, length, refl, sym, ap, subst, arith, cond}
+use Rattle.std.proofs.Common.{◌≡◌, ℕ, ◌+◌, ◌<◌, false, List, [], ◌∷◌, ◌++◌, ◌∙◌, length, map, refl, sym, ap, subst, arith, cond}
 use Rattle.std.proofs.lemmas.List.{append-nil}
 use mathlib.Core.List.{IsPrefix}
 use Rattle.ifdb_turn.specs.Histories.{AllRight, NoRootsFrom}
@@ -7,6 +7,9 @@ use Rattle.ifdb_turn.specs.Places.{times}
 use Rattle.ifdb_model.specs.Log.{commits_of}
 use Rattle.ifdb_model.specs.Run.{State, opens, asks, leaves, next, run}
 use Rattle.ifdb_model.proofs.Runs.{run-append}
+use Rattle.ifdb_redo.specs.Spelling.{text}
+use Rattle.ifdb_redo.specs.declared.record.RedoRecord.{RedoRecord}
+use Rattle.ifdb_restore.specs.Redone.{records_at, records}
 use Rattle.ifdb_db.specs.Looks.{Looking, IsLookOf}
 use Rattle.ifdb_db.specs.Reading.{read_line}
 use Rattle.ifdb_db.specs.Room.{Hall, StandsFor}
@@ -15,7 +18,7 @@ use Rattle.ifdb_db.proofs.Looking.{only_looks}
 use Rattle.ifdb_history.specs.declared.entry.Entry.{Entry}
 use Rattle.ifdb_history.specs.declared.entry.Kind.TheVariants as kind
 use Rattle.ifdb_history.specs.declared.entry.Note.{Note}
-use Rattle.ifdb_history.specs.History.{work_steps, after, IsAt, IsRight, root_in, opening_entry, entry_of}
+use Rattle.ifdb_history.specs.History.{work_steps, steps_of, after, IsAt, IsRight, root_in, opening_entry, entry_of}
 use Rattle.ifdb_history.specs.Counts.{commits_in}
 use Rattle.ifdb_history.specs.Lines.{work_lines}
 use Rattle.ifdb_history.proofs.Flat.{after-append}
@@ -25,11 +28,14 @@ use Rattle.ifdb_history.proofs.Logs.{log_on}
 use Rattle.ifdb_session.specs.Counts.{commits_at, refuses_at}
 use Rattle.ifdb_session.specs.Seats.{work_of, lines_in, IsToldIn, asked_entry, left_entry, IsSeated}
 use Rattle.ifdb_session.specs.declared.seat.Seat.{Seat}
+use Rattle.ifdb_session.specs.declared.records.Records as recorder
 use Rattle.ifdb_session.specs.declared.shared.SharedRoom.{SharedRoom}
+use Rattle.ifdb_session.specs.Records.{texts_of}
 use Rattle.ifdb_session.specs.Standing.{StandsForHistory}
-use Rattle.ifdb_session.specs.Turns.{with_lent, MayBeBack, HasCounted, CountsTurn}
+use Rattle.ifdb_session.specs.Turns.{with_lent, MayBeBack, HasCounted, CountsTurn, RecordsStep}
 use Rattle.ifdb_session.proofs.Counting.{stands_more, commits_more, line_commits, leaving_commits}
-use Rattle.ifdb_session.proofs.Working.{if_later, if_told, if_work, if_log, if_stands, if_back}
+use Rattle.ifdb_session.proofs.Recording.{records-append, quiet, texts_more, texts_still}
+use Rattle.ifdb_session.proofs.Working.{if_later, if_told, if_work, if_log, if_records, if_stands, if_back}
 
 -- ---- the state after an entry
 
@@ -59,9 +65,30 @@ seat_found h log own s seated front right away =
       λ text t. (t.0, kept.2 t.0 t.1, t.2 ∙ ap (λ l. t.0 ++ l) (sym (if_told h log s.number (work_of s) kept.3 more s.lent seated.works))),
     )
 
+-- ---- what is recorded then
+
+-- a line of a seat records what its step does behind the session's work
+asked_more : (log : List Entry) (s : Seat) (line : List ℕ) → records read_line (after read_line log) (work_steps s.number (work_of s)) ≡ []
+    → texts_of (log ++ asked_entry log s.number s.work.items line ∷ [])
+    ≡ texts_of log ++ map text (records_at read_line (run read_line (after read_line log) (work_steps s.number (work_of s))) (asks s.number line))
+asked_more log s line none =
+    texts_more log (asked_entry log s.number s.work.items line)
+    ∙ ap (λ (rs : List RedoRecord). texts_of log ++ map text rs) (
+    records-append read_line (after read_line log) (work_steps s.number (work_of s)) (asks s.number line ∷ [])
+    ∙ ap (λ (rs : List RedoRecord). rs ++ (records_at read_line (run read_line (after read_line log) (work_steps s.number (work_of s))) (asks s.number line) ++ [])) none
+    ∙ append-nil (records_at read_line (run read_line (after read_line log) (work_steps s.number (work_of s))) (asks s.number line))
+    )
+
+-- a turn that records nothing leaves what was recorded
+still_recorded : {Q : Type 0} (recorders : recorder.Ghosts Q) (old new : SharedRoom Q) (log : List Entry) (e : Entry) → StandsForHistory recorders old log → new.records ≡ old.records
+    → records read_line (after read_line log) (steps_of e.kind) ≡ [] → recorders.has new.records (texts_of (log ++ e ∷ []))
+still_recorded recorders old new log e stands same none =
+    subst (recorders.has new.records) (sym (texts_still log e none)) (subst (λ q. recorders.has q (texts_of log)) (sym same) stands.recorded)
+
 -- ---- the entries that it may add
 
-module _ (log : List Entry) (own : List ℕ) (s : Seat) (seated : IsSeated log own s) (old new : SharedRoom) (stands : StandsForHistory old log) where
+module _ {Q : Type 0} (recorders : recorder.Ghosts Q) (log : List Entry) (own : List ℕ) (s : Seat) (seated : IsSeated log own s) (old new : SharedRoom Q)
+    (stands : StandsForHistory recorders old log) where
   mine : IsAt read_line log s.number (root_in log s.number) × (0 < times (root_in log s.number) own)
   mine = own_is_right read_line log own s.number seated.holds
 
@@ -77,15 +104,19 @@ module _ (log : List Entry) (own : List ℕ) (s : Seat) (seated : IsSeated log o
 
   pub may_ask : (line : List ℕ) → GoesBy (with_lent old.room s.number s.lent) new.room (asks s.number line)
       → CountsTurn (with_lent old.room s.number s.lent) (kind.Asked s.number [] line) old new
-      → StandsForHistory new (log ++ asked_entry log s.number s.work.items line ∷ [])
+      → RecordsStep recorders (with_lent old.room s.number s.lent) (asks s.number line) old new
+      → StandsForHistory recorders new (log ++ asked_entry log s.number s.work.items line ∷ [])
       × IsRight read_line log (asked_entry log s.number s.work.items line) × (0 < times (root_in log s.number) own)
-  may_ask line goes counts = (
-    stands_more old new log e (commits_at read_line worked (kind.Asked s.number [] line)) (refuses_at read_line worked (kind.Asked s.number [] line)) stands room commits refl (counts worked then),
+  may_ask line goes counts recording = (
+    stands_more recorders old new log e (commits_at read_line worked (kind.Asked s.number [] line)) (refuses_at read_line worked (kind.Asked s.number [] line)) stands room commits refl (counts worked then) recorded,
     (mine.0, if_work log s.number (work_of s) s.lent seated.works),
     mine.1,
   ) where
     e : Entry
     e = asked_entry log s.number s.work.items line
+
+    recorded : recorders.has new.records (texts_of (log ++ e ∷ []))
+    recorded = subst (recorders.has new.records) (sym (asked_more log s line (if_records log s.number (work_of s) s.lent seated.works))) (recording worked (texts_of log) then stands.recorded)
 
     room : StandsFor new.room (after read_line (log ++ e ∷ []))
     room = subst (StandsFor new.room) (sym (asked_state log s.number (work_of s) line)) (goes worked then)
@@ -96,16 +127,19 @@ module _ (log : List Entry) (own : List ℕ) (s : Seat) (seated : IsSeated log o
         ∙ ap (λ l. length (commits_of l) + cond (commits_at read_line worked (kind.Asked s.number [] line)) 1 0) (if_log log s.number (work_of s) s.lent seated.works))
 
   pub may_leave : GoesBy (with_lent old.room s.number s.lent) new.room (leaves s.number)
-      → CountsTurn (with_lent old.room s.number s.lent) (kind.Left s.number []) old new
-      → StandsForHistory new (log ++ left_entry log s.number s.work.items ∷ [])
+      → CountsTurn (with_lent old.room s.number s.lent) (kind.Left s.number []) old new → new.records ≡ old.records
+      → StandsForHistory recorders new (log ++ left_entry log s.number s.work.items ∷ [])
       × IsRight read_line log (left_entry log s.number s.work.items) × (0 < times (root_in log s.number) own)
-  may_leave goes counts = (
-    stands_more old new log e false false stands room commits refl (counts worked then),
+  may_leave goes counts same = (
+    stands_more recorders old new log e false false stands room commits refl (counts worked then) (still_recorded recorders old new log e stands same none),
     (mine.0, if_work log s.number (work_of s) s.lent seated.works),
     mine.1,
   ) where
     e : Entry
     e = left_entry log s.number s.work.items
+
+    none : records read_line (after read_line log) (steps_of e.kind) ≡ []
+    none = records-append read_line (after read_line log) (work_steps s.number (work_of s)) (leaves s.number ∷ []) ∙ append-nil _ ∙ if_records log s.number (work_of s) s.lent seated.works
 
     room : StandsFor new.room (after read_line (log ++ e ∷ []))
     room = subst (StandsFor new.room) (sym (left_state log s.number (work_of s))) (goes worked then)
@@ -114,11 +148,11 @@ module _ (log : List Entry) (own : List ℕ) (s : Seat) (seated : IsSeated log o
     commits = commits_more read_line log e (next read_line worked (leaves s.number)) false (left_state log s.number (work_of s))
         (leaving_commits read_line worked s.number ∙ ap (λ l. length (commits_of l) + 0) (if_log log s.number (work_of s) s.lent seated.works))
 
-  pub may_refuse : (line : List ℕ) → new.room ≡ old.room → CountsTurn old.room (kind.Refused s.number line) old new
-      → StandsForHistory new (log ++ entry_of log s.number (kind.Refused s.number line) ∷ [])
+  pub may_refuse : (line : List ℕ) → new.room ≡ old.room → new.records ≡ old.records → CountsTurn old.room (kind.Refused s.number line) old new
+      → StandsForHistory recorders new (log ++ entry_of log s.number (kind.Refused s.number line) ∷ [])
       × IsRight read_line log (entry_of log s.number (kind.Refused s.number line)) × (0 < times (root_in log s.number) own)
-  may_refuse line same counts = (
-    stands_more old new log e false false stands room (commits_more read_line log e (after read_line log) false state (omega arith)) refl (counts (after read_line log) stands.room),
+  may_refuse line same recorded counts = (
+    stands_more recorders old new log e false false stands room (commits_more read_line log e (after read_line log) false state (omega arith)) refl (counts (after read_line log) stands.room) (still_recorded recorders old new log e stands recorded refl),
     mine.0,
     mine.1,
   ) where
@@ -131,11 +165,11 @@ module _ (log : List Entry) (own : List ℕ) (s : Seat) (seated : IsSeated log o
     room : StandsFor new.room (after read_line (log ++ e ∷ []))
     room = subst (λ (h : Hall). StandsFor h (after read_line (log ++ e ∷ []))) (sym same) (subst (StandsFor old.room) (sym state) stands.room)
 
-  pub may_look : (line : List ℕ) (x : Looking) → IsLookOf old.room s.number line x → new.room ≡ old.room → HasCounted old new false false
-      → StandsForHistory new (log ++ entry_of log s.number (kind.Looked s.number line) ∷ [])
+  pub may_look : (line : List ℕ) (x : Looking) → IsLookOf old.room s.number line x → new.room ≡ old.room → new.records ≡ old.records → HasCounted old new false false
+      → StandsForHistory recorders new (log ++ entry_of log s.number (kind.Looked s.number line) ∷ [])
       × IsRight read_line log (entry_of log s.number (kind.Looked s.number line)) × (0 < times (root_in log s.number) own)
-  may_look line x look same counts = (
-    stands_more old new log e false false stands room (commits_more read_line log e (after read_line log) false state (omega arith)) refl counts,
+  may_look line x look same recorded counts = (
+    stands_more recorders old new log e false false stands room (commits_more read_line log e (after read_line log) false state (omega arith)) refl counts (still_recorded recorders old new log e stands recorded none),
     (mine.0, still),
     mine.1,
   ) where
@@ -145,6 +179,9 @@ module _ (log : List Entry) (own : List ℕ) (s : Seat) (seated : IsSeated log o
     still : next read_line (after read_line log) (asks s.number line) ≡ after read_line log
     still = only_looks old.room (after read_line log) stands.room s.number line x look
 
+    none : records read_line (after read_line log) (steps_of e.kind) ≡ []
+    none = append-nil _ ∙ quiet read_line (after read_line log) (asks s.number line) (ap (λ (st : State). st.log) still)
+
     state : after read_line (log ++ e ∷ []) ≡ after read_line log
     state = after-append read_line log (e ∷ []) ∙ still
 
@@ -153,10 +190,11 @@ module _ (log : List Entry) (own : List ℕ) (s : Seat) (seated : IsSeated log o
 
 -- ---- that of a session that is opened
 
-pub may_open : (old new : SharedRoom) (log : List Entry) → StandsForHistory old log → GoesBy old.room new.room opens → CountsTurn old.room kind.Opened old new
-    → StandsForHistory new (log ++ opening_entry log ∷ []) × IsRight read_line log (opening_entry log)
-may_open old new log stands goes counts =
+pub may_open : {Q : Type 0} (recorders : recorder.Ghosts Q) (old new : SharedRoom Q) (log : List Entry) → StandsForHistory recorders old log → GoesBy old.room new.room opens
+    → CountsTurn old.room kind.Opened old new → new.records ≡ old.records
+    → StandsForHistory recorders new (log ++ opening_entry log ∷ []) × IsRight read_line log (opening_entry log)
+may_open recorders old new log stands goes counts same =
     let state = after-append read_line log (opening_entry log ∷ []) in
     let room : StandsFor new.room (after read_line (log ++ opening_entry log ∷ [])) = subst (StandsFor new.room) (sym state) (goes (after read_line log) stands.room) in
     let commits = commits_more read_line log (opening_entry log) (next read_line (after read_line log) opens) false state (omega arith) in
-    (stands_more old new log (opening_entry log) false false stands room commits refl (counts (after read_line log) stands.room), refl)
+    (stands_more recorders old new log (opening_entry log) false false stands room commits refl (counts (after read_line log) stands.room) (still_recorded recorders old new log (opening_entry log) stands same refl), refl)

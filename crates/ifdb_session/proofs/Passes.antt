@@ -1,9 +1,11 @@
 -- Passes that go on, and then go on again.
-use Rattle.std.proofs.Common.{◌≡◌, ℕ, Bool, true, false, List, [], ◌∷◌, ◌++◌, ◌∙◌, refl, sym, ap}
+use Rattle.std.proofs.Common.{◌≡◌, ℕ, Bool, true, false, List, [], ◌∷◌, ◌++◌, ◌∙◌, length, refl, sym, ap, arith}
 use Rattle.std.proofs.lemmas.List.{append_assoc, append-nil}
 use mathlib.Core.List.{IsPrefix}
+use Rattle.ifdb_turn.proofs.ViewLemmas.{below}
 use Rattle.ifdb_turn.specs.declared.turnstile.Turnstile.{Turnstile}
 use Rattle.ifdb_turn.specs.declared.turnstile.Pass.{Pass}
+use Rattle.ifdb_turn.specs.Histories.{NoRootsFrom}
 use Rattle.ifdb_turn.specs.Passes.{history, places, BelongsTo, IsOrderly}
 use Rattle.ifdb_history.specs.declared.entry.Entry.{Entry}
 use Rattle.ifdb_history.specs.History.{IsRight}
@@ -32,6 +34,10 @@ module _ {X : Type 0} (hall : Turnstile X Entry) where
     begins = prefix-trans _ _ _ p.begins q.begins;
     shares = q.shares ∙ p.shares;
   }
+
+-- nothing was added since, and so no entry of others
+pub away_itself : {X : Type 0} (pass : Pass X Entry) → NoRootsFrom (λ (e : Entry). e.root) (history pass) (length (history pass)) (places pass)
+away_itself pass k entry le there = let lt = below (history pass) k entry there in absurd (omega (arith, le, lt))
 
 module _ {X : Type 0} (n : ℕ) where
   pub adds_none : (pass : Pass X Entry) → Adds n pass pass

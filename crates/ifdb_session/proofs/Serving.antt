@@ -17,6 +17,7 @@ use Rattle.ifdb_session.specs.declared.ending.Ending.{Ending}
 use Rattle.ifdb_session.specs.declared.ending.Ending.TheVariants as ends
 use Rattle.ifdb_session.specs.declared.link.Talked.{Talked}
 use Rattle.ifdb_session.specs.declared.seat.Seat.{Seat}
+use Rattle.ifdb_session.specs.Acknowledged.{sources_of, Acknowledges}
 use Rattle.ifdb_session.specs.Closings.{HasTurn, EndsInBye, HasLeft, Closes, MayBeOpen}
 use Rattle.ifdb_session.specs.Passes.{Sees, Adds, IsNew}
 use Rattle.ifdb_session.specs.Links.{Span, Ends, IsServed, Served}
@@ -27,7 +28,7 @@ use Rattle.ifdb_session.proofs.Working.{told_of_none}
 
 -- ---- in a longer history a session is closed as it was
 
-turn_later : (h k : List Entry) (x : Kind) → HasTurn h x → IsPrefix h k → HasTurn k x
+pub turn_later : (h k : List Entry) (x : Kind) → HasTurn h x → IsPrefix h k → HasTurn k x
 turn_later h k x t front = record {
   before = t.before;
   root = t.root;
@@ -52,6 +53,8 @@ closes_later ends.End n h k c front same = left_later n h k c front
 closes_later ends.LinkRead n h k c front same = left_later n h k c front
 closes_later ends.LinkWrite n h k (inl c) front same = inl (bye_later n h k _ _ c front same)
 closes_later ends.LinkWrite n h k (inr c) front same = inr (left_later n h k c front)
+closes_later ends.Unkept n h k (inl c) front same = inl (bye_later n h k _ _ c front same)
+closes_later ends.Unkept n h k (inr c) front same = inr (left_later n h k c front)
 closes_later ends.TooMuch n h k c front same = left_later n h k c front
 closes_later ends.TooLong n h k c front same = left_later n h k c front
 closes_later ends.OutOfMemory n h k c front same = c
@@ -62,6 +65,7 @@ closes_by_line ends.Bye n h may bye = bye
 closes_by_line ends.End n h may bye = cc
 closes_by_line ends.LinkRead n h may bye = cc
 closes_by_line ends.LinkWrite n h may bye = inl bye
+closes_by_line ends.Unkept n h may bye = inl bye
 closes_by_line ends.TooMuch n h may bye = cc
 closes_by_line ends.TooLong n h may bye = cc
 closes_by_line ends.OutOfMemory n h may bye = may
@@ -71,6 +75,7 @@ closes_by_leaving ends.Bye n h may left = cc
 closes_by_leaving ends.End n h may left = left
 closes_by_leaving ends.LinkRead n h may left = left
 closes_by_leaving ends.LinkWrite n h may left = inr left
+closes_by_leaving ends.Unkept n h may left = inr left
 closes_by_leaving ends.TooMuch n h may left = left
 closes_by_leaving ends.TooLong n h may left = left
 closes_by_leaving ends.OutOfMemory n h may left = may
@@ -86,7 +91,7 @@ served_later ending limit n h k s served front right =
       (ended.0, still.2 ended.0 ended.1, subst (λ z. Ends ending limit z ended.0 s) (sym still.1) ended.2),
     )
 
-module _ {X : Type 0} (hall : Turnstile X Entry) (n limit : ℕ) (s : Span) (first opened : Pass X Entry) (new : IsNew n first opened) where
+module _ {X : Type 0} (IsKept : List (List ℕ) → Type 0) (hall : Turnstile X Entry) (n limit : ℕ) (s : Span) (first opened : Pass X Entry) (new : IsNew n first opened) where
   -- the session's first turn is the first of the own places that came
   first_on : (ending : Ending) (last : Pass X Entry) → Sees hall opened last → Adds n opened last → IsServed ending limit n (history last) s
       → Served ending limit n first last s
@@ -105,8 +110,9 @@ module _ {X : Type 0} (hall : Turnstile X Entry) (n limit : ℕ) (s : Span) (fir
 
   pub served_over : (last : Pass X Entry) (seat : Seat) (talked : Talked) → seat.number ≡ n → Sees hall opened last → Adds n opened last
       → IsTalked (history last) (places last) seat limit s talked → talked.is_open ≡ false
-      → (k : ℕ) × Served talked.ending limit k first last s
-  served_over last seat talked this sees adds so over =
+      → Acknowledges talked.ending IsKept (sources_of seat.number (history last))
+      → (k : ℕ) × Served talked.ending limit k first last s × Acknowledges talked.ending IsKept (sources_of k (history last))
+  served_over last seat talked this sees adds so over kept =
       let left : IsLeftSo (history last) (places last) seat false = subst (IsLeftSo (history last) (places last) seat) over so.1 in
       let gone : IsGone (history last) seat = left.0 in
       let lines = nothing_left (history last) seat gone in
@@ -114,16 +120,23 @@ module _ {X : Type 0} (hall : Turnstile X Entry) (n limit : ℕ) (s : Span) (fir
       let bye = subst (EndsInBye seat.number (history last)) lines left.1 in
       let closes = closes_by_line talked.ending seat.number (history last) (subst (MayBeOpen talked.ending) over so.2) bye in
       let served : IsServed talked.ending limit seat.number (history last) s =
-      (gone.shut, closes, (so.0.0, told_of_none (history last) seat so.0.0 gone.none so.0.1, ends)) in
-      (n, first_on talked.ending last sees adds (subst (λ m. IsServed talked.ending limit m (history last) s) this served))
+      (gone.shut, closes, (so.0.0, told_of_none (history last) seat so.0.0 gone.none so.0.1, ends)) in (
+        n,
+        first_on talked.ending last sees adds (subst (λ m. IsServed talked.ending limit m (history last) s) this served),
+        subst (λ m. Acknowledges talked.ending IsKept (sources_of m (history last))) this kept,
+      )
 
   pub served_left : (mid last : Pass X Entry) (seat : Seat) (talked : Talked) → seat.number ≡ n → IsTalked (history mid) (places mid) seat limit s talked → talked.is_open ≡ true
       → Sees hall opened last → Adds n opened last → IsShut (after read_line (history last)) seat.number → HasLeft seat.number (history last)
       → lines_of seat.number (history last) ≡ lines_in (history mid) seat
       → ((text : List ℕ) → IsToldIn (history mid) seat text → IsTold read_line seat.number (history last) text)
-      → (k : ℕ) × Served talked.ending limit k first last s
-  served_left mid last seat talked this so still sees adds shut left lines texts =
+      → Acknowledges talked.ending IsKept (sources_of seat.number (history last))
+      → (k : ℕ) × Served talked.ending limit k first last s × Acknowledges talked.ending IsKept (sources_of k (history last))
+  served_left mid last seat talked this so still sees adds shut left lines texts kept =
       let ends = subst (λ z. Ends talked.ending limit z so.0.0 s) (sym lines) so.0.2 in
       let closes = closes_by_leaving talked.ending seat.number (history last) (subst (MayBeOpen talked.ending) still so.2) left in
-      let served : IsServed talked.ending limit seat.number (history last) s = (shut, closes, (so.0.0, texts so.0.0 so.0.1, ends)) in
-      (n, first_on talked.ending last sees adds (subst (λ m. IsServed talked.ending limit m (history last) s) this served))
+      let served : IsServed talked.ending limit seat.number (history last) s = (shut, closes, (so.0.0, texts so.0.0 so.0.1, ends)) in (
+        n,
+        first_on talked.ending last sees adds (subst (λ m. IsServed talked.ending limit m (history last) s) this served),
+        subst (λ m. Acknowledges talked.ending IsKept (sources_of m (history last))) this kept,
+      )

@@ -18,8 +18,11 @@ use Rattle.ifdb_history.specs.declared.entry.Entry.{Entry}
 use Rattle.ifdb_history.specs.declared.entry.Kind.TheVariants as kind
 use Rattle.ifdb_history.specs.History.{after, IsShut, HasRoot, IsKindOf, IsRight, Holds, opening_entry, entry_of, IsEntryOf}
 use Rattle.ifdb_history.specs.Lines.{lines_of, IsTold}
+use Rattle.ifdb_history.proofs.Others.{kept_among_others}
 use Rattle.ifdb_history.proofs.Over.{opened_new}
 use Rattle.ifdb_history.proofs.Entries.{last_entry}
+use Rattle.ifdb_session.specs.Records.{texts_of}
+use Rattle.ifdb_session.specs.Acknowledged.{answers, sources_of, IsSourced}
 use Rattle.ifdb_session.specs.Closings.{HasLeft}
 use Rattle.ifdb_session.specs.Ends.{EndsBare, EndsWith}
 use Rattle.ifdb_session.specs.Passes.{Sees, Adds, Asks, IsNew, TakesNoTurn}
@@ -28,6 +31,7 @@ use Rattle.ifdb_session.specs.declared.seat.Seat.{Seat}
 use Rattle.ifdb_session.specs.Turns.{with_lent, IsLentBy, IsNextNumber, IsAnswered}
 use Rattle.ifdb_session.proofs.Passes.{prefix-trans, sees_itself, adds_none}
 use Rattle.ifdb_session.proofs.MayAdd.{seat_found}
+use Rattle.ifdb_session.proofs.Sources.{sources_later, sources_more, sources_still}
 use Rattle.ifdb_session.proofs.Said.{memory_is_reply, told_is_reply, shown_is_reply, asked_lines, asked_texts, asked_open, asked_bye, asked_reply, asked_over, refused_lines, refused_texts, refused_open, looked_lines, looked_texts, looked_open, left_lines, left_texts, left_over, left_leaves, noted_seat, noted_lines, noted_texts}
 
 -- ---- passes
@@ -93,6 +97,16 @@ module _ {X : Type 0} (hall : Turnstile X Entry) (old : Pass X Entry) (turn : Tu
     found : IsSeated log_of (places old) s × (lines_in log_of s ≡ lines_in (history old) s) × ((text : List ℕ) → IsToldIn (history old) s text → IsToldIn log_of s text)
     found = seat_found (history old) log_of (places old) s seated front right away
 
+    sources_found : sources_of s.number log_of ≡ sources_of s.number (history old)
+    sources_found = sources_later s.number (history old) log_of front (kept_among_others read_line (history old) log_of (places old) s.number seated.holds front right away).1
+
+    -- it has answered the session, and counted what was recorded up to it
+    pub ended_sourced : (count_of : List (List ℕ) → ℕ) (count : ℕ) → answers s.number e.kind ≡ true → count ≡ count_of (texts_of (log_of ++ e ∷ []))
+        → IsSourced count_of s.number (history old) (history new) (Some count)
+    ended_sourced count_of count so is =
+        subst (λ k. IsSourced count_of s.number (history old) k (Some count)) (sym ended.seen)
+        (sources_more s.number log_of e so ∙ ap (λ (l : List (List (List ℕ))). l ++ texts_of (log_of ++ e ∷ []) ∷ []) sources_found, is)
+
     pub ended_asked : (line text : List ℕ) (room next_room : Hall) (is_open : Bool) (now : Option Client) (t : Seat) → e ≡ asked_entry log_of s.number s.work.items line
         → StandsFor room (after read_line log_of) → IsAnswered s.number line (with_lent room s.number s.lent) next_room text is_open → (is_open ≡ true → IsLentBy next_room s.number now)
         → t.number ≡ s.number → t.lent ≡ now → work_of t ≡ [] → Asks hall line text old new s t is_open
@@ -149,6 +163,9 @@ module _ {X : Type 0} (hall : Turnstile X Entry) (old : Pass X Entry) (turn : Tu
       pub ended_left_adds : Adds s.number old new
       ended_left_adds = ended_adds s.number (subst (λ (x : Entry). IsKindOf s.number (log_of ++ e ∷ []) (length log_of) x.kind) (sym this) refl)
 
+      pub ended_left_sourced : sources_of s.number (history new) ≡ sources_of s.number (history old)
+      ended_left_sourced = ap (sources_of s.number) left_is ∙ sources_still s.number log_of (left_entry log_of s.number s.work.items) refl ∙ sources_found
+
       pub ended_left_lines : lines_of s.number (history new) ≡ lines_in (history old) s
       ended_left_lines = left_lines log_of (places old) s found.0 (history new) left_is ∙ found.1
 
@@ -173,6 +190,12 @@ module _ {X : Type 0} (hall : Turnstile X Entry) (old : Pass X Entry) (turn : Tu
     begins = subst (IsPrefix (history old)) (sym ended.seen) front;
     shares = ended.same ∙ kept;
   }
+
+  pub bare_sourced : (s : Seat) → IsSeated (history old) (places old) s → AllRight (IsRight read_line) (history (pass_of turn))
+      → NoRootsFrom (λ (x : Entry). x.root) (history (pass_of turn)) (length (history old)) (places old) → sources_of s.number (history new) ≡ sources_of s.number (history old)
+  bare_sourced s seated right away =
+      ap (sources_of s.number) ended.seen
+      ∙ sources_later s.number (history old) (history (pass_of turn)) front (kept_among_others read_line (history old) (history (pass_of turn)) (places old) s.number seated.holds front right away).1
 
   -- in which a lent session was refused a line
   pub bare_asked : (s t : Seat) (line text : List ℕ) → IsSeated (history old) (places old) s → AllRight (IsRight read_line) (history (pass_of turn))

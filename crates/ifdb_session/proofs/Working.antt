@@ -9,6 +9,8 @@ use Rattle.ifdb_model.specs.Log.{Entry as LogEntry}
 use Rattle.ifdb_model.specs.Session.{Session, in_txn}
 use Rattle.ifdb_model.specs.Step.{Outcome, tells, ask}
 use Rattle.ifdb_model.specs.Run.{State, Step, session_of, outcome_of, with_outcome, asks, refused, next, run}
+use Rattle.ifdb_redo.specs.declared.record.RedoRecord.{RedoRecord}
+use Rattle.ifdb_restore.specs.Redone.{records}
 use Rattle.ifdb_db.specs.Client.{Open, Client, session_at, txn_at}
 use Rattle.ifdb_db.specs.Lent.{IsLabelInside, IsLent, GoesOn, Answers, with_client}
 use Rattle.ifdb_db.specs.Looks.{Looking, Shows}
@@ -25,6 +27,7 @@ use Rattle.ifdb_session.specs.Seats.{work_of, IsToldIn, IsToldAs, IsWorked, Work
 use Rattle.ifdb_session.specs.declared.seat.Seat.{Seat}
 use Rattle.ifdb_session.specs.Turns.{with_lent, MayBeBack, IsLentBy}
 use Rattle.ifdb_session.proofs.Counting.{session_after}
+use Rattle.ifdb_session.proofs.Recording.{quiet}
 
 -- ---- in states
 
@@ -106,6 +109,13 @@ module _ (n : ℕ) where
   work_log st [] c e at k = refl
   work_log st (w ∷ work) c e at k =
       let one = note_leaves st n w c k.0 k.1 at k.2 in work_log (next read_line st (note_step n w)) work k.0 e one.here k.3 ∙ one.log
+
+  pub work_records : (st : State) (work : List Note) (c e : Client) → IsHere st n c → IsWorked work c e → records read_line st (work_steps n work) ≡ []
+  work_records st [] c e at k = refl
+  work_records st (w ∷ work) c e at k =
+      let one = note_leaves st n w c k.0 k.1 at k.2 in
+      ap (λ (rs : List RedoRecord). rs ++ records read_line (next read_line st (note_step n w)) (work_steps n work)) (quiet read_line st (note_step n w) one.log)
+      ∙ work_records (next read_line st (note_step n w)) work k.0 e one.here k.3
 
   pub work_told : (st : State) (work : List Note) (c e : Client) → IsHere st n c → (k : IsWorked work c e) → told_in read_line n st (work_steps n work) ≡ texts_told work c e k
   work_told st [] c e at k = refl
@@ -199,6 +209,10 @@ module _ (h : List Entry) (n : ℕ) (work : List Note) where
   pub if_log : (lent : Option Client) → WorksIf h n work lent → (run read_line (after read_line h) (work_steps n work)).log ≡ (after read_line h).log
   if_log None w = ap (λ ws. (run read_line (after read_line h) (work_steps n ws)).log) w
   if_log (Some c) w = work_log n (after read_line h) work w.begun c (works_here h n work c w) w.worked
+
+  pub if_records : (lent : Option Client) → WorksIf h n work lent → records read_line (after read_line h) (work_steps n work) ≡ []
+  if_records None w = ap (λ ws. records read_line (after read_line h) (work_steps n ws)) w
+  if_records (Some c) w = work_records n (after read_line h) work w.begun c (works_here h n work c w) w.worked
 
   module _ (room : Hall) (stands : StandsFor room (after read_line h)) where
     begun_there : (c : Client) → (w : Works h n work c) → client_in room n ≡ w.begun

@@ -36,11 +36,12 @@ pub record HasLeft (n : ℕ) (h : List Entry) : Type 0 where
   pub work : List Note
   pub turn : HasTurn h (kind.Left n work)
 
--- At Bye the session was closed by its last line, and at every other end it left. Where a reply was cut, that may have been
--- the reply to BYE.
+-- At Bye the session was closed by its last line, and at every other end it left. Where a reply was cut or held back, that may
+-- have been the reply to BYE.
 abbrev pub Closes : Ending → ℕ → List Entry → Type 0
 Closes ends.Bye n h = EndsInBye n h (lines_of n h)
 Closes ends.LinkWrite n h = EndsInBye n h (lines_of n h) ⊎ HasLeft n h
+Closes ends.Unkept n h = EndsInBye n h (lines_of n h) ⊎ HasLeft n h
 Closes ends.End n h = HasLeft n h
 Closes ends.LinkRead n h = HasLeft n h
 Closes ends.TooMuch n h = HasLeft n h
@@ -51,6 +52,7 @@ Closes ends.OutOfMemory n h = ⊥
 abbrev pub MayBeOpen : Ending → Bool → Type 0
 MayBeOpen ends.Bye is_open = is_open ≡ false
 MayBeOpen ends.LinkWrite is_open = Unit {0}
+MayBeOpen ends.Unkept is_open = Unit {0}
 MayBeOpen ends.End is_open = is_open ≡ true
 MayBeOpen ends.LinkRead is_open = is_open ≡ true
 MayBeOpen ends.TooMuch is_open = is_open ≡ true

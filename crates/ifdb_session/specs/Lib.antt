@@ -8,5 +8,7 @@ pub mod Passes
 pub mod Links
 pub mod Talk
 pub mod Endings
+pub mod Records
+pub mod Acknowledged
 pub mod Hosts
 pub mod Cleared

@@ -67,8 +67,15 @@ pub record CutsReply (texts : List ℕ) (s : Span) : Type 0 where
   pub all : texts ≡ before ++ reply_text None last
   pub wrote : WroteShort before (reply_text None last) s
 
+-- the replies before the last one were written, and nothing of that
+pub record HoldsReply (texts : List ℕ) (s : Span) : Type 0 where
+  pub before : List ℕ
+  pub last : Reply
+  pub all : texts ≡ before ++ reply_text None last
+  pub wrote : Wrote before s
+
 -- The lines and the texts of a session, whose link was to give at most so many bytes and ended so. The tail is what was read
--- behind the last line: after BYE and where a reply was cut it is anything, else a line without its newline, or the front
+-- behind the last line: after BYE and where a reply was cut or held back it is anything, else a line without its newline, or the front
 -- of a line that is too long and what was read behind that.
 abbrev pub Ends : Ending → ℕ → List (List ℕ) → List ℕ → Span → Type 0
 Ends ends.Bye limit lines texts s = ((tail : List ℕ) × TookWithin limit lines tail s) × Wrote texts s
@@ -77,6 +84,7 @@ Ends ends.LinkRead limit lines texts s = ((tail : List ℕ) × TookWithin limit 
 Ends ends.LinkWrite limit lines texts s =
     (((tail : List ℕ) × TookWithin limit lines tail s) × CutsReply texts s)
     ⊎ (((front : List ℕ) × (rest : List ℕ) × TookWithin limit lines (front ++ rest) s × IsLong front) × WroteShort texts long_text s)
+Ends ends.Unkept limit lines texts s = ((tail : List ℕ) × TookWithin limit lines tail s) × HoldsReply texts s
 Ends ends.TooMuch limit lines texts s =
     ((tail : List ℕ) × (last : ℕ) × Took lines (tail ++ last ∷ []) s × IsLine tail × (length (bytes_of lines ++ tail) ≡ limit)) × Wrote texts s
 Ends ends.TooLong limit lines texts s =

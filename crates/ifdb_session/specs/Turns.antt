@@ -1,7 +1,9 @@
 -- What the room does in a turn, whatever state it stands for.
-use Rattle.std.specs.Prelude.{◌≡◌, ℕ, ◌+◌, Bool, true, false, List, [], length, Option, Some, None}
+use Rattle.std.specs.Prelude.{◌≡◌, ℕ, ◌+◌, Bool, true, false, List, [], ◌++◌, length, map, Option, Some, None}
 use Rattle.ifdb_wire.specs.Text.{memory_text}
-use Rattle.ifdb_model.specs.Run.{State, session_of, asks}
+use Rattle.ifdb_redo.specs.Spelling.{text as text_of}
+use Rattle.ifdb_model.specs.Run.{State, Step, session_of, asks}
+use Rattle.ifdb_restore.specs.Redone.{records_at}
 use Rattle.ifdb_db.specs.Reading.{read_line}
 use Rattle.ifdb_db.specs.Client.{Client}
 use Rattle.ifdb_db.specs.Lent.{IsLent, MayComeBack, with_client}
@@ -9,6 +11,7 @@ use Rattle.ifdb_db.specs.Room.{Hall, StandsFor, client_in}
 use Rattle.ifdb_db.specs.RoomSteps.{GoesBy, IsReplyText}
 use Rattle.ifdb_history.specs.declared.entry.Kind.{Kind}
 use Rattle.ifdb_history.specs.declared.entry.Kind.TheVariants as kind
+use Rattle.ifdb_session.specs.declared.records.Records as recorder
 use Rattle.ifdb_session.specs.declared.shared.Asked.{Asked}
 use Rattle.ifdb_session.specs.declared.shared.Asked.TheVariants as asked
 use Rattle.ifdb_session.specs.declared.shared.SharedRoom.{SharedRoom}
@@ -47,15 +50,28 @@ IsLentAfter h n false now = now ≡ None
 
 -- ---- what is counted
 
--- one entry more is counted, and a commit or a refused COMMIT if it is so
-pub record HasCounted (old new : SharedRoom) (is_commit is_refused : Bool) : Type 0 where
-  pub entries : new.entries ≡ capped (old.entries + 1)
-  pub commits : new.commits ≡ counted old.commits is_commit
-  pub refused : new.refused ≡ counted old.refused is_refused
+module _ {Q : Type 0} where
+  -- one entry more is counted, and a commit or a refused COMMIT if it is so
+  pub record HasCounted (old new : SharedRoom Q) (is_commit is_refused : Bool) : Type 0 where
+    pub entries : new.entries ≡ capped (old.entries + 1)
+    pub commits : new.commits ≡ counted old.commits is_commit
+    pub refused : new.refused ≡ counted old.refused is_refused
 
--- a turn was counted as what it is, whatever state the hall stands for at which it was taken
-abbrev pub CountsTurn : Hall → Kind → SharedRoom → SharedRoom → Type 0
-CountsTurn h x old new = (st : State) → StandsFor h st → HasCounted old new (commits_at read_line st x) (refuses_at read_line st x)
+  -- a turn was counted as what it is, whatever state the hall stands for at which it was taken
+  abbrev pub CountsTurn : Hall → Kind → SharedRoom Q → SharedRoom Q → Type 0
+  CountsTurn h x old new = (st : State) → StandsFor h st → HasCounted old new (commits_at read_line st x) (refuses_at read_line st x)
+
+-- ---- what is recorded
+
+module _ {Q : Type 0} (recorders : recorder.Ghosts Q) where
+  -- the records of a step were made behind the others, whatever state the hall stood for at which it was taken
+  abbrev pub RecordsStep : Hall → Step → SharedRoom Q → SharedRoom Q → Type 0
+  RecordsStep h x old new = (st : State) (texts : List (List ℕ)) → StandsFor h st → recorders.has old.records texts
+      → recorders.has new.records (texts ++ map text_of (records_at read_line st x))
+
+  -- so many records of a journal were made in all
+  abbrev pub IsCount : SharedRoom Q → ℕ → Type 0
+  IsCount shared count = (texts : List (List ℕ)) → recorders.has shared.records texts → count ≡ recorders.count_of texts
 
 -- ---- a line
 
@@ -63,12 +79,15 @@ CountsTurn h x old new = (st : State) → StandsFor h st → HasCounted old new 
 abbrev pub IsAnswered : ℕ → List ℕ → Hall → Hall → List ℕ → Bool → Type 0
 IsAnswered n line h g text is_open = GoesBy h g (asks n line) × IsReplyText h n line None text × IsLeftOpen g n is_open
 
--- So it was, by a session that was lent or not; the room has lent it again, if it could be. Or there was no memory for the
--- line: in the room it is counted, and a lent session stays as it is.
-abbrev pub IsAsked : ℕ → List ℕ → Option Client → Option Client → SharedRoom → SharedRoom → List ℕ → Asked → Type 0
-IsAsked n line lent now old new text (asked.Done is_open) =
-    IsAnswered n line (with_lent old.room n lent) new.room text is_open
-    × CountsTurn (with_lent old.room n lent) (kind.Asked n [] line) old new × IsLentAfter new.room n is_open now
-IsAsked n line lent now old new text asked.Refused =
-    (new.room ≡ old.room) × (text ≡ memory_text None) × CountsTurn old.room (kind.Refused n line) old new × (lent ≡ None) × (now ≡ None)
-IsAsked n line lent now old new text asked.Kept = (new ≡ old) × (text ≡ memory_text None) × (now ≡ lent) × ((c : Client) × (lent ≡ Some c))
+module _ {Q : Type 0} (recorders : recorder.Ghosts Q) where
+  -- So it was, by a session that was lent or not; the room has lent it again, if it could be. Or there was no memory for the
+  -- line: in the room it is counted, and a lent session stays as it is.
+  abbrev pub IsAsked : ℕ → List ℕ → Option Client → Option Client → SharedRoom Q → SharedRoom Q → List ℕ → Asked → Type 0
+  IsAsked n line lent now old new text (asked.Done is_open count) =
+      IsAnswered n line (with_lent old.room n lent) new.room text is_open
+      × CountsTurn (with_lent old.room n lent) (kind.Asked n [] line) old new × IsLentAfter new.room n is_open now
+      × RecordsStep recorders (with_lent old.room n lent) (asks n line) old new × IsCount recorders new count
+  IsAsked n line lent now old new text (asked.Refused count) =
+      (new.room ≡ old.room) × (text ≡ memory_text None) × CountsTurn old.room (kind.Refused n line) old new × (lent ≡ None) × (now ≡ None)
+      × (new.records ≡ old.records) × IsCount recorders new count
+  IsAsked n line lent now old new text asked.Kept = (new ≡ old) × (text ≡ memory_text None) × (now ≡ lent) × ((c : Client) × (lent ≡ Some c))

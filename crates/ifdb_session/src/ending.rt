@@ -15,6 +15,8 @@ pub enum Ending {
     LinkRead,
     /// Writing failed, as the connection's count says.
     LinkWrite,
+    /// The disk failed, so that what the last reply was answered from isn't known to be kept, and nothing of it was written.
+    Unkept,
     /// The connection sent more bytes than the limit.
     TooMuch,
     /// A line was longer than a line may be, and was told so.
@@ -39,6 +41,7 @@ impl fmt::Display for Ending {
             Ending::End => write!(f, "the input ended"),
             Ending::LinkRead => write!(f, "reading failed"),
             Ending::LinkWrite => write!(f, "writing failed"),
+            Ending::Unkept => write!(f, "the disk failed"),
             Ending::TooMuch => write!(f, "more bytes than the limit"),
             Ending::TooLong => write!(f, "a line was too long"),
             Ending::OutOfMemory => write!(f, "out of memory"),

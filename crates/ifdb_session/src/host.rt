@@ -1,6 +1,6 @@
 // What serves the connections of one worker.
 
-use crate::{SharedRoom, serve_link};
+use crate::{Records, Settles, SharedRoom, serve_link};
 use ifdb_io::Link;
 use ifdb_pool::Host;
 use ifdb_turn::{Pass, Turnstile};
@@ -11,15 +11,17 @@ use std::sync::Wait;
 /// Serves connections with a pass of its own, one session each, and counts those that ended otherwise than by BYE or at
 /// the end of their input, up to 2^64 - 1.
 #[derive(Drop)]
-pub struct SessionHost<'a, R, K> {
+pub struct SessionHost<'a, R, K, Q: Records, S> {
     /// What waits for turns.
     pub rt: &'a R,
     /// Where the readers and the replies of connections are taken from.
     pub alloc: Global,
     /// The room that all connections share.
-    pub hall: &'a Turnstile<SharedRoom>,
+    pub hall: &'a Turnstile<SharedRoom<Q>>,
     /// The host's own pass.
-    pub pass: Pass<SharedRoom>,
+    pub pass: Pass<SharedRoom<Q>>,
+    /// By what it waits until that is kept which its replies are answered from.
+    pub keeper: S,
     /// The most bytes that a connection may send.
     pub limit: u64,
     /// How many connections ended so.
@@ -28,14 +30,14 @@ pub struct SessionHost<'a, R, K> {
     pub link: PhantomData<K>,
 }
 
-impl<'a, R: Wait, K: Link> Host for SessionHost<'a, R, K> {
+impl<'a, R: Wait, K: Link, Q: Records, S: Settles<Q>> Host for SessionHost<'a, R, K, Q, S> {
     ghost use Rattle.ifdb_session.specs.Hosts.{IsHostReady, Serves};
 
     type Link = K;
 
-    ghost ready = { IsHostReady };
+    ghost ready = { IsHostReady S.Settles };
 
-    ghost serves = { Serves K.Source K.Sink };
+    ghost serves = { Serves K.Source K.Sink Q.Records S.Settles };
 
     fn serve(&mut self, link: &mut K) {
         let faults = self.faults;
@@ -44,6 +46,7 @@ impl<'a, R: Wait, K: Link> Host for SessionHost<'a, R, K> {
             self.alloc,
             self.hall,
             &mut self.pass,
+            &mut self.keeper,
             link,
             self.limit,
         );

@@ -1,29 +1,33 @@
 // One connection: its lines are asked one by one, and each reply is written before the next line is read.
-ghost use Rattle.std.specs.Prelude.{◌≡◌, ◌≢◌, ◌≤◌, ◌^◌, [], ℕ, true, false, OnOk, OnErr};
+ghost use Rattle.std.specs.Prelude.{◌≡◌, ◌≢◌, ◌≤◌, ◌^◌, [], ℕ, true, false, IsSome, OnOk, OnErr};
 ghost use Rattle.std.specs.Io.KnownBytes.{Appends};
 ghost use Rattle.ifdb_io.specs.Causes.{HasCause, Rose, WritesShort};
-ghost use Rattle.ifdb_turn.specs.Passes.{history, places, BelongsTo, IsOrderly};
+ghost use Rattle.ifdb_turn.specs.Passes.{history, places, BelongsTo, IsOrderly, NoForeignRoots};
 ghost use Rattle.ifdb_wire.specs.Text.{reply_text};
 ghost use Rattle.ifdb_history.specs.History.{IsRight};
 ghost use Rattle.ifdb_db.specs.Reading.{read_line};
 ghost use Rattle.ifdb_session.specs.Passes.{Sees, Adds, Asks, TakesNoTurn};
 ghost use Rattle.ifdb_session.specs.Seats.{lines_in, IsSeated, IsToldIn};
 ghost use Rattle.ifdb_session.specs.Links.{Served};
+ghost use Rattle.ifdb_session.specs.Acknowledged.{AllButLastKept, AllKept, IsAcknowledged, IsKeptIf, IsSourced};
+ghost use Rattle.ifdb_session.specs.Standing.{root_of};
 ghost use Rattle.ifdb_session.specs.Talk.{IsTalked};
 
 use crate::seat::Seat;
-use crate::turns::{ask_in_turn, leave, open};
-use crate::{Ending, SharedRoom};
+use crate::turns::{Outcome, ask_in_turn, leave, open};
+use crate::{Ending, Records, Settles, SharedRoom};
 use ifdb_io::{Failed, Line, LineFault, LineReader, Link, write_all};
 use ifdb_turn::{Pass, Turnstile};
 use ifdb_wire::{Fault, Out, Reply};
 use std::alloc::Global;
 use std::sync::Wait;
 
-// What became of a line: whether its session is open still, and whether the reply was written.
+// What became of a line: whether its session is open still, whether that is kept which the reply was answered from, and whether
+// the reply was written.
 #[derive(Clone, Copy, Debug, PartialEq, Eq)]
 struct Answered {
     is_open: bool,
+    is_kept: bool,
     is_written: bool,
 }
 
@@ -40,27 +44,33 @@ struct Talked {
 /// and its transaction is dropped. A reader of 128 KiB and a buffer are taken before anything is read, and each line takes what its
 /// request does.
 ///
-/// `LinkRead` and `LinkWrite` come only where the link's own count of such failures rose; at every other end but `LinkRead`
-/// no read failed.
-pub fn serve_link<R: Wait, K: Link>(
+/// The reply to a line that took a turn is written once all is kept that was recorded up to that turn; where the disk has
+/// failed, nothing of it is. A reply of a lent session was answered from what all saw at its BEGIN, whose reply was written so.
+///
+/// `LinkRead` and `LinkWrite` come only where the link's own count of such failures rose, and `Unkept` only where it is known
+/// that the disk has failed; at every other end but `LinkRead` no read failed.
+pub fn serve_link<R: Wait, K: Link, Q: Records, S: Settles<Q>>(
     rt: &R,
     alloc: Global,
-    hall: &Turnstile<SharedRoom>,
-    pass: &mut Pass<SharedRoom>,
+    hall: &Turnstile<SharedRoom<Q>>,
+    pass: &mut Pass<SharedRoom<Q>>,
+    keeper: &mut S,
     link: &mut K,
     limit: u64,
 ) -> Ending
     requires pass { BelongsTo hall.now pass.old }
     requires orderly { IsOrderly (IsRight read_line) pass.old }
     requires limit { limit ≤ 2 ^ 40 }
+    requires keeper { S.ready keeper.old }
     ensures sees { Sees hall.now pass.old pass.new }
+    ensures keeper { S.ready keeper.new × S.goes_on keeper.old keeper.new }
     ensures served { result ≢ Ending.OutOfMemory
         → (n : ℕ) × Served result limit n pass.old pass.new (record {
           left = K.left link.old;
           left_now = K.left link.new;
           written = K.written link.old;
           written_now = K.written link.new;
-        }) }
+        }) × IsAcknowledged Q.Records S.Settles result n (history pass.new) keeper.new }
     ensures unserved { result ≡ Ending.OutOfMemory → link.new ≡ link.old }
     ensures unopened { result ≡ Ending.OutOfMemory → places pass.new ≡ places pass.old }
     ensures read_cause { result ≡ Ending.LinkRead
@@ -69,6 +79,7 @@ pub fn serve_link<R: Wait, K: Link>(
         → K.Source.faults link.new ≡ K.Source.faults link.old }
     ensures write_cause { result ≡ Ending.LinkWrite
         → Rose (K.Sink.faults link.old) (K.Sink.faults link.new) }
+    ensures unkept { result ≡ Ending.Unkept → S.has_failed keeper.new }
 {
     let Ok(mut reader) = LineReader::new(alloc, limit) else {
         return Ending::OutOfMemory;
@@ -80,7 +91,16 @@ pub fn serve_link<R: Wait, K: Link>(
         return Ending::OutOfMemory;
     };
     let mut seat = Seat::new(alloc, n);
-    let talked = talk(rt, hall, pass, &mut seat, &mut reader, &mut out, link);
+    let talked = talk(
+        rt,
+        hall,
+        pass,
+        keeper,
+        &mut seat,
+        &mut reader,
+        &mut out,
+        link,
+    );
     if !talked.is_open {
         return talked.ending;
     }
@@ -89,10 +109,11 @@ pub fn serve_link<R: Wait, K: Link>(
 }
 
 // Asks each line that comes, and writes its reply, to the end.
-fn talk<R: Wait, K: Link>(
+fn talk<R: Wait, K: Link, Q: Records, S: Settles<Q>>(
     rt: &R,
-    hall: &Turnstile<SharedRoom>,
-    pass: &mut Pass<SharedRoom>,
+    hall: &Turnstile<SharedRoom<Q>>,
+    pass: &mut Pass<SharedRoom<Q>>,
+    keeper: &mut S,
     seat: &mut Seat,
     reader: &mut LineReader,
     out: &mut Out,
@@ -111,9 +132,14 @@ fn talk<R: Wait, K: Link>(
       limit = reader.old.limit;
       over = false;
     } }
+    requires keeper { S.ready keeper.old }
     ensures sees { Sees hall.now pass.old pass.new }
     ensures adds { Adds seat.old.number pass.old pass.new }
     ensures number { seat.new.number ≡ seat.old.number }
+    ensures keeper { S.ready keeper.new × S.goes_on keeper.old keeper.new }
+    ensures acknowledged { IsAcknowledged Q.Records S.Settles
+        result.ending seat.old.number (history pass.new) keeper.new }
+    ensures unkept { result.ending ≡ Ending.Unkept → S.has_failed keeper.new }
     ensures talked { IsTalked (history pass.new) (places pass.new) seat.new reader.old.limit
         (record {
           left = K.left link.old;
@@ -131,9 +157,18 @@ fn talk<R: Wait, K: Link>(
     loop {
         match reader.next(link) {
             Ok(Line::Whole) => {
-                let answered = answer(rt, hall, pass, seat, reader, out, link);
-                let is_open = answered.is_open;
-                if !answered.is_written {
+                let Answered {
+                    is_open,
+                    is_kept,
+                    is_written,
+                } = answer(rt, hall, pass, keeper, seat, reader, out, link);
+                if !is_kept {
+                    return Talked {
+                        ending: Ending::Unkept,
+                        is_open,
+                    };
+                }
+                if !is_written {
                     return Talked {
                         ending: Ending::LinkWrite,
                         is_open,
@@ -178,11 +213,12 @@ fn talk<R: Wait, K: Link>(
     }
 }
 
-// Asks the line that was read, and writes the reply.
-fn answer<R: Wait, K: Link>(
+// Asks the line that was read, waits until that is kept which its reply was answered from, and writes the reply.
+fn answer<R: Wait, K: Link, Q: Records, S: Settles<Q>>(
     rt: &R,
-    hall: &Turnstile<SharedRoom>,
-    pass: &mut Pass<SharedRoom>,
+    hall: &Turnstile<SharedRoom<Q>>,
+    pass: &mut Pass<SharedRoom<Q>>,
+    keeper: &mut S,
     seat: &mut Seat,
     reader: &LineReader,
     out: &mut Out,
@@ -191,43 +227,92 @@ fn answer<R: Wait, K: Link>(
     requires pass { BelongsTo hall.now pass.old }
     requires orderly { IsOrderly (IsRight read_line) pass.old }
     requires seated { IsSeated (history pass.old) (places pass.old) seat.old }
+    requires keeper { S.ready keeper.old }
     ensures asks { Asks hall.now reader.now.text out.new.text
         pass.old pass.new seat.old seat.new result.is_open }
+    ensures keeper { S.ready keeper.new × S.goes_on keeper.old keeper.new }
+    ensures kept { result.is_kept ≡ true
+        → AllKept Q.Records S.Settles seat.old.number (history pass.old) keeper.old
+        → AllKept Q.Records S.Settles seat.old.number (history pass.new) keeper.new }
+    ensures unkept { result.is_kept ≡ false
+        → AllKept Q.Records S.Settles seat.old.number (history pass.old) keeper.old
+        → AllButLastKept Q.Records S.Settles seat.old.number (history pass.new) keeper.new }
+    ensures unkept_cause { result.is_kept ≡ false → S.has_failed keeper.new }
+    ensures held { result.is_kept ≡ false → link.new ≡ link.old }
     ensures written { result.is_written ≡ true
         → Appends (K.written link.old) (K.written link.new) out.new.text }
-    ensures unwritten { result.is_written ≡ false
+    ensures unwritten { result.is_kept ≡ true → result.is_written ≡ false
         → WritesShort (K.written link.old) (K.written link.new) out.new.text }
-    ensures cause { result.is_written ≡ false
+    ensures cause { result.is_kept ≡ true → result.is_written ≡ false
         → Rose (K.Sink.faults link.old) (K.Sink.faults link.new) }
     ensures later { K.Sink.faults link.old ≤ K.Sink.faults link.new }
     ensures left { K.left link.new ≡ K.left link.old }
     ensures reads { K.Source.faults link.new ≡ K.Source.faults link.old }
 {
-    let is_open = ask(rt, hall, pass, seat, reader, out);
+    let Outcome { is_open, count } = ask(rt, hall, pass, seat, reader, out);
+    if let Err(Failed) = settle_if(rt, hall, pass, keeper, count) {
+        return Answered {
+            is_open,
+            is_kept: false,
+            is_written: false,
+        };
+    }
     let is_written = write_all(link, out.bytes()).is_ok();
     Answered {
         is_open,
+        is_kept: true,
         is_written,
     }
 }
 
-// Asks the line that was read: of a lent session without a turn, where that can answer it, else in a turn of its own.
-fn ask<R: Wait>(
+// Waits until so many records are kept, if a turn told how many.
+fn settle_if<R: Wait, Q: Records, S: Settles<Q>>(
     rt: &R,
-    hall: &Turnstile<SharedRoom>,
-    pass: &mut Pass<SharedRoom>,
+    hall: &Turnstile<SharedRoom<Q>>,
+    pass: &mut Pass<SharedRoom<Q>>,
+    keeper: &mut S,
+    count: Option<u64>,
+) -> Result<(), Failed>
+    requires pass { BelongsTo hall.now pass.old }
+    requires orderly { IsOrderly (IsRight read_line) pass.old }
+    requires keeper { S.ready keeper.old }
+    ensures keeper { S.ready keeper.new × S.goes_on keeper.old keeper.new }
+    ensures sees { Sees hall.now pass.old pass.new }
+    ensures places { places pass.new ≡ places pass.old }
+    ensures away { NoForeignRoots root_of pass.old pass.new }
+    ensures kept { OnOk result (IsKeptIf Q.Records S.Settles keeper.new count) }
+    ensures some { OnErr result (IsSome count) }
+    ensures failed { OnErr result (S.has_failed keeper.new) }
+{
+    match count {
+        None => Ok(()),
+        Some(count) => keeper.settle(rt, hall, pass, count),
+    }
+}
+
+// Asks the line that was read: of a lent session without a turn, where that can answer it, else in a turn of its own.
+fn ask<R: Wait, Q: Records>(
+    rt: &R,
+    hall: &Turnstile<SharedRoom<Q>>,
+    pass: &mut Pass<SharedRoom<Q>>,
     seat: &mut Seat,
     reader: &LineReader,
     out: &mut Out,
-) -> bool
+) -> Outcome
     requires pass { BelongsTo hall.now pass.old }
     requires orderly { IsOrderly (IsRight read_line) pass.old }
     requires seated { IsSeated (history pass.old) (places pass.old) seat.old }
-    ensures asks { Asks hall.now reader.now.text out.new.text pass.old pass.new seat.old seat.new result }
+    ensures asks { Asks hall.now reader.now.text out.new.text
+        pass.old pass.new seat.old seat.new result.is_open }
+    ensures sourced { IsSourced Q.count_of seat.old.number
+        (history pass.old) (history pass.new) result.count }
     ensures alone { TakesNoTurn reader.now.text seat.old.lent pass.old pass.new }
 {
     if seat.ask(reader, out) {
-        return true;
+        return Outcome {
+            is_open: true,
+            count: None,
+        };
     }
     ask_in_turn(rt, hall, pass, seat, reader, out)
 }

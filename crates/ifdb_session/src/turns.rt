@@ -8,6 +8,7 @@ ghost use Rattle.ifdb_history.specs.Lines.{lines_of, IsTold};
 ghost use Rattle.ifdb_history.specs.declared.entry.Kind.TheVariants.{Looked as LookedKind, Refused as RefusedKind};
 ghost use Rattle.ifdb_session.specs.Standing.{StandsForHistory, root_of};
 ghost use Rattle.ifdb_session.specs.Closings.{HasLeft};
+ghost use Rattle.ifdb_session.specs.Acknowledged.{IsSourced, sources_of};
 ghost use Rattle.ifdb_session.specs.Ends.{EndsBare, EndsOf, EndsWith};
 ghost use Rattle.ifdb_session.specs.Passes.{Sees, Adds, Asks, IsNew};
 ghost use Rattle.ifdb_session.specs.Seats.{asked_entry, asked_kind, left_entry, left_kind};
@@ -15,7 +16,7 @@ ghost use Rattle.ifdb_session.specs.Seats.{lines_in, IsSeated, IsToldIn};
 
 use crate::seat::{Seat, show};
 use crate::shared::Asked;
-use crate::{OutOfMemory, SharedRoom};
+use crate::{OutOfMemory, Records, SharedRoom};
 use ifdb_db::ReadLine;
 use ifdb_history::{Entry, GhostList};
 use ifdb_io::LineReader;
@@ -25,10 +26,10 @@ use std::marker::Brand;
 use std::sync::Wait;
 
 /// Opens the next session, and says its number. `OutOfMemory` opens none.
-pub(crate) fn open<R: Wait>(
+pub(crate) fn open<R: Wait, Q: Records>(
     rt: &R,
-    hall: &Turnstile<SharedRoom>,
-    pass: &mut Pass<SharedRoom>,
+    hall: &Turnstile<SharedRoom<Q>>,
+    pass: &mut Pass<SharedRoom<Q>>,
 ) -> Result<u64, OutOfMemory>
     requires pass { BelongsTo hall.now pass.old }
     ensures sees { Sees hall.now pass.old pass.new }
@@ -40,60 +41,84 @@ pub(crate) fn open<R: Wait>(
         done_bare(turn);
         return Err(OutOfMemory);
     };
-    done_opened::<Brand>(turn);
+    done_opened::<Q, Brand>(turn);
     Ok(n)
 }
 
-/// Asks the line that a reader has taken, of a session that is open, and says whether it is open still. The line is read
-/// before the turn, and a SELECT outside a transaction is answered after it. A lent session comes back, and its work with it.
-/// The reply stands in `out`: where there was no memory it is error 20.
-pub(crate) fn ask_in_turn<R: Wait>(
+/// What became of a line that was asked.
+#[derive(Clone, Copy, Debug, PartialEq, Eq)]
+pub(crate) struct Outcome {
+    /// Whether the session is open still.
+    pub(crate) is_open: bool,
+    /// How many records of a journal were made up to the turn that answered the line, if one did.
+    pub(crate) count: Option<u64>,
+}
+
+/// Asks the line that a reader has taken, of a session that is open. The line is read before the turn, and a SELECT outside a
+/// transaction is answered after it. A lent session comes back, and its work with it. The reply stands in `out`: where there
+/// was no memory it is error 20.
+pub(crate) fn ask_in_turn<R: Wait, Q: Records>(
     rt: &R,
-    hall: &Turnstile<SharedRoom>,
-    pass: &mut Pass<SharedRoom>,
+    hall: &Turnstile<SharedRoom<Q>>,
+    pass: &mut Pass<SharedRoom<Q>>,
     seat: &mut Seat,
     reader: &LineReader,
     out: &mut Out,
-) -> bool
+) -> Outcome
     requires pass { BelongsTo hall.now pass.old }
     requires seated { IsSeated (history pass.old) (places pass.old) seat.old }
-    ensures { Asks hall.now reader.now.text out.new.text pass.old pass.new seat.old seat.new result }
+    ensures asks { Asks hall.now reader.now.text out.new.text
+        pass.old pass.new seat.old seat.new result.is_open }
+    ensures sourced { IsSourced Q.count_of seat.old.number
+        (history pass.old) (history pass.new) result.count }
 {
     let n = seat.number;
     let line = ReadLine::new(seat.alloc, reader.text());
     let mut turn = hall.enter(rt, pass);
     let line = match turn.object().look(n, &seat.lent, line) {
-        Ok(look) => {
-            done_looked::<Brand>(turn, n, reader.text());
+        Ok((look, count)) => {
+            done_looked::<Q, Brand>(turn, n, reader.text());
             show(look, out);
-            return true;
+            return Outcome {
+                is_open: true,
+                count: Some(count),
+            };
         }
         Err(line) => line,
     };
     match turn.object().ask(n, &mut seat.lent, line, out) {
-        Asked::Done { is_open } => {
-            done_asked::<Brand>(turn, n, &seat.work, reader.text());
+        Asked::Done { is_open, count } => {
+            done_asked::<Q, Brand>(turn, n, &seat.work, reader.text());
             seat.work = GhostList::new();
-            is_open
+            Outcome {
+                is_open,
+                count: Some(count),
+            }
         }
-        Asked::Refused => {
-            done_refused::<Brand>(turn, n, reader.text());
-            true
+        Asked::Refused { count } => {
+            done_refused::<Q, Brand>(turn, n, reader.text());
+            Outcome {
+                is_open: true,
+                count: Some(count),
+            }
         }
         Asked::Kept => {
             done_bare(turn);
             seat.work = seat.work.and(reader, &true);
-            true
+            Outcome {
+                is_open: true,
+                count: None,
+            }
         }
     }
 }
 
 /// The session of a seat leaves without BYE; a lent one comes back, and its transaction, if one is open, is over. Takes no
 /// memory.
-pub(crate) fn leave<R: Wait>(
+pub(crate) fn leave<R: Wait, Q: Records>(
     rt: &R,
-    hall: &Turnstile<SharedRoom>,
-    pass: &mut Pass<SharedRoom>,
+    hall: &Turnstile<SharedRoom<Q>>,
+    pass: &mut Pass<SharedRoom<Q>>,
     seat: Seat,
 )
     requires pass { BelongsTo hall.now pass.old }
@@ -102,6 +127,8 @@ pub(crate) fn leave<R: Wait>(
     ensures adds { Adds seat.number pass.old pass.new }
     ensures over { IsShut (after read_line (history pass.new)) seat.number }
     ensures left { HasLeft seat.number (history pass.new) }
+    ensures sourced { sources_of seat.number (history pass.new)
+        ≡ sources_of seat.number (history pass.old) }
     ensures lines { lines_of seat.number (history pass.new) ≡ lines_in (history pass.old) seat }
     ensures texts { (text : List ℕ) → IsToldIn (history pass.old) seat text
         → IsTold read_line seat.number (history pass.new) text }
@@ -114,72 +141,76 @@ pub(crate) fn leave<R: Wait>(
     } = seat;
     let mut turn = hall.enter(rt, pass);
     turn.object().leave(number, lent);
-    done_left::<Brand>(turn, number, &work);
+    done_left::<Q, Brand>(turn, number, &work);
 }
 
 // Ends a turn that adds nothing.
-fn done_bare(turn: Turn<'_, SharedRoom>)
+fn done_bare<Q: Records>(turn: Turn<'_, SharedRoom<Q>>)
     requires turn { IsTurn turn }
-    requires stands { StandsForHistory (object_of turn) (history (pass_of turn)) }
+    requires stands { StandsForHistory Q.Records (object_of turn) (history (pass_of turn)) }
     ensures { EndsBare turn.entry turn.exit.0.now }
 {
     turn.leave();
 }
 
 // Ends a turn in which a session was opened.
-fn done_opened<N: NamedEntry<Entry>>(turn: Turn<'_, SharedRoom>)
+fn done_opened<Q: Records, N: NamedEntry<Entry>>(turn: Turn<'_, SharedRoom<Q>>)
     requires turn { IsTurn turn }
     requires entry { let e = opening_entry (history (pass_of turn)) in
-        (N.entry ≡ Some e) × AddsEntry StandsForHistory (IsRight read_line) root_of turn e }
+        (N.entry ≡ Some e) × AddsEntry (StandsForHistory Q.Records) (IsRight read_line) root_of turn e }
     ensures { EndsWith turn.entry turn.exit.0.now (opening_entry (history (pass_of turn.entry))) }
 {
     turn.done::<N>();
 }
 
 // Ends a turn in which a session asked a line, and brought its work along.
-fn done_asked<N: NamedEntry<Entry>>(
-    turn: Turn<'_, SharedRoom>,
+fn done_asked<Q: Records, N: NamedEntry<Entry>>(
+    turn: Turn<'_, SharedRoom<Q>>,
     n: u64,
     work: &GhostList<LineReader, bool>,
     line: &[u8],
 )
     requires turn { IsTurn turn }
     requires entry { let e = asked_entry (history (pass_of turn)) n work.now.items line.now in
-        (N.entry ≡ Some e) × AddsEntry StandsForHistory (IsRight read_line) root_of turn e }
+        (N.entry ≡ Some e) × AddsEntry (StandsForHistory Q.Records) (IsRight read_line) root_of turn e }
     ensures { EndsOf turn.entry turn.exit.0.now n (asked_kind n work.now.items line.now) }
 {
     turn.done::<N>();
 }
 
 // Ends a turn in which a session asked a line that only looks.
-fn done_looked<N: NamedEntry<Entry>>(turn: Turn<'_, SharedRoom>, n: u64, line: &[u8])
+fn done_looked<Q: Records, N: NamedEntry<Entry>>(turn: Turn<'_, SharedRoom<Q>>, n: u64, line: &[u8])
     requires turn { IsTurn turn }
     requires entry { let e = entry_of (history (pass_of turn)) n (LookedKind n line.now) in
-        (N.entry ≡ Some e) × AddsEntry StandsForHistory (IsRight read_line) root_of turn e }
+        (N.entry ≡ Some e) × AddsEntry (StandsForHistory Q.Records) (IsRight read_line) root_of turn e }
     ensures { EndsOf turn.entry turn.exit.0.now n (LookedKind n line.now) }
 {
     turn.done::<N>();
 }
 
 // Ends a turn in which there was no memory for a line.
-fn done_refused<N: NamedEntry<Entry>>(turn: Turn<'_, SharedRoom>, n: u64, line: &[u8])
+fn done_refused<Q: Records, N: NamedEntry<Entry>>(
+    turn: Turn<'_, SharedRoom<Q>>,
+    n: u64,
+    line: &[u8],
+)
     requires turn { IsTurn turn }
     requires entry { let e = entry_of (history (pass_of turn)) n (RefusedKind n line.now) in
-        (N.entry ≡ Some e) × AddsEntry StandsForHistory (IsRight read_line) root_of turn e }
+        (N.entry ≡ Some e) × AddsEntry (StandsForHistory Q.Records) (IsRight read_line) root_of turn e }
     ensures { EndsOf turn.entry turn.exit.0.now n (RefusedKind n line.now) }
 {
     turn.done::<N>();
 }
 
 // Ends a turn in which a session left, and brought its work along.
-fn done_left<N: NamedEntry<Entry>>(
-    turn: Turn<'_, SharedRoom>,
+fn done_left<Q: Records, N: NamedEntry<Entry>>(
+    turn: Turn<'_, SharedRoom<Q>>,
     n: u64,
     work: &GhostList<LineReader, bool>,
 )
     requires turn { IsTurn turn }
     requires entry { let e = left_entry (history (pass_of turn)) n work.now.items in
-        (N.entry ≡ Some e) × AddsEntry StandsForHistory (IsRight read_line) root_of turn e }
+        (N.entry ≡ Some e) × AddsEntry (StandsForHistory Q.Records) (IsRight read_line) root_of turn e }
     ensures { EndsOf turn.entry turn.exit.0.now n (left_kind n work.now.items) }
 {
     turn.done::<N>();

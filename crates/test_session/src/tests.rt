@@ -2,7 +2,7 @@
 // end, and what is counted of them.
 
 use ifdb_io::{MemoryLink, MemorySink, MemorySource};
-use ifdb_session::{Counts, Ending, SharedRoom, serve_link};
+use ifdb_session::{Counts, Ending, InMemory, SharedRoom, serve_link};
 use ifdb_turn::Turnstile;
 use std::alloc::Global;
 use std::sync::Wait;
@@ -27,11 +27,19 @@ fn serve<R: Wait>(
     limit: u32,
 ) -> Result<(Vec<Ending>, Counts), Fail> {
     let mut endings = Vec::with_capacity(alloc, links.len())?;
-    let Ok((hall, mut pass)) = Turnstile::new(alloc, SharedRoom::opening(alloc)?) else {
+    let Ok((hall, mut pass)) = Turnstile::new(alloc, SharedRoom::opening(alloc, InMemory)?) else {
         return Err(Fail::from("no memory"));
     };
     for link in links.iter_mut() {
-        let ending = serve_link(rt, alloc, &hall, &mut pass, link, u64::from(limit));
+        let ending = serve_link(
+            rt,
+            alloc,
+            &hall,
+            &mut pass,
+            &mut InMemory,
+            link,
+            u64::from(limit),
+        );
         let _ = endings.push(ending);
     }
     let shared = hall.close(pass);

@@ -1,6 +1,7 @@
 use Rattle.std.proofs.Common.{◌≡◌, ◌≤◌}
 use Rattle.ifdb_io.specs.Lines.{budget}
 use Rattle.ifdb_turn.specs.Passes.{history, places}
+use Rattle.ifdb_session.specs.Acknowledged.{AllKept}
 use Rattle.ifdb_session.specs.Passes.{Sees, Adds}
 use Rattle.ifdb_session.specs.Seats.{IsSeated}
 use Rattle.ifdb_session.specs.Talk.{IsTalking}
@@ -20,6 +21,9 @@ invariant-loop-pass g l = record {
     written = g.K.Sink.written l.fn.link;
     written_now = g.K.Sink.written l.link;
   });
+  ready : g.S.Settles.ready l.keeper;
+  goes_on : g.S.Settles.goes_on l.fn.keeper l.keeper;
+  kept : AllKept g.Q.Records g.S.Settles l.fn.seat.number (history l.pass) l.keeper;
   unfailed : g.K.Source.faults l.link ≡ g.K.Source.faults l.fn.link;
   writes : g.K.Sink.faults l.fn.link ≤ g.K.Sink.faults l.link;
 }

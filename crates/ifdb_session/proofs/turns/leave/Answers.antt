@@ -6,24 +6,24 @@ use Rattle.ifdb_history.specs.History.{root_in}
 use Rattle.ifdb_session.specs.declared.shared.SharedRoom.{SharedRoom}
 use Rattle.ifdb_session.specs.Standing.{StandsForHistory}
 use Rattle.ifdb_session.proofs.MayAdd.{seat_found, may_be_back, may_leave}
-use Rattle.ifdb_session.proofs.Turned.{ended_sees, ended_left_adds, ended_left_lines, ended_left_texts, ended_left_over, ended_left_leaves}
+use Rattle.ifdb_session.proofs.Turned.{ended_sees, ended_left_adds, ended_left_sourced, ended_left_lines, ended_left_texts, ended_left_over, ended_left_leaves}
 use Rattle.ifdb_session.proofs.turns.leave.Goals as goal
 
 pub leave-requires : goal.leave-requires
 leave-requires g c =
     let e = c.enter-turn.ensures in
     let log = history (pass_of c.enter-turn.result) in
-    let stands = subst (λ (s : SharedRoom). StandsForHistory s log) (sym c.object.ensures.value) e.stands in
+    let stands = subst (λ (s : SharedRoom _). StandsForHistory g.Q.Records s log) (sym c.object.ensures.value) e.stands in
     let found = seat_found (history c.args.pass.now) log (places c.args.pass.now) c.args.seat c.requires.seated e.begins e.orderly.0 e.own in
-    may_be_back log (places c.args.pass.now) c.args.seat found.0 c.object.result.now c.object.result.now stands
+    may_be_back g.Q.Records log (places c.args.pass.now) c.args.seat found.0 c.object.result.now c.object.result.now stands
 
 pub done_left-requires-clause-entry : goal.done_left-requires-clause-entry
 done_left-requires-clause-entry g c =
     let e = c.enter-turn.ensures in
     let log = history (pass_of c.enter-turn.result) in
-    let stands = subst (λ (s : SharedRoom). StandsForHistory s log) (sym c.object.ensures.value) e.stands in
+    let stands = subst (λ (s : SharedRoom _). StandsForHistory g.Q.Records s log) (sym c.object.ensures.value) e.stands in
     let found = seat_found (history c.args.pass.now) log (places c.args.pass.now) c.args.seat c.requires.seated e.begins e.orderly.0 e.own in
-    let m = may_leave log (places c.args.pass.now) c.args.seat found.0 c.object.result.now c.leave.new.self stands c.leave.ensures.left c.leave.ensures.counted in
+    let m = may_leave g.Q.Records log (places c.args.pass.now) c.args.seat found.0 c.object.result.now c.leave.new.self stands c.leave.ensures.left c.leave.ensures.counted c.leave.ensures.recorded in
     (refl, (m.0, (m.1, inr (subst (λ l. 0 < times (root_in log c.args.seat.number) l) (sym e.places) m.2))))
 
 pub returns-clause-sees : goal.returns-clause-sees
@@ -55,3 +55,8 @@ pub returns-clause-left : goal.returns-clause-left
 returns-clause-left g c =
     let e = c.enter-turn.ensures in
     let x = ended_left_leaves c.args.hall.now c.args.pass.now _ _ _ c.done_left.ensures e.turnstile e.begins e.places e.shares c.args.seat c.requires.seated e.orderly.0 e.own refl in search rules
+
+pub returns-clause-sourced : goal.returns-clause-sourced
+returns-clause-sourced g c =
+    let e = c.enter-turn.ensures in
+    let x = ended_left_sourced c.args.hall.now c.args.pass.now _ _ _ c.done_left.ensures e.turnstile e.begins e.places e.shares c.args.seat c.requires.seated e.orderly.0 e.own refl in search rules

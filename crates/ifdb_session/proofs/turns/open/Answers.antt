@@ -11,8 +11,8 @@ pub done_opened-requires-clause-entry : goal.done_opened-requires-clause-entry
 done_opened-requires-clause-entry g c =
     let e = c.enter-turn.ensures in
     let log = history (pass_of c.enter-turn.result) in
-    let stands = subst (λ (s : SharedRoom). StandsForHistory s log) (sym c.object.ensures.value) e.stands in
-    let m = may_open c.object.result.now c.open.new.self log stands (search rules) (search rules) in
+    let stands = subst (λ (s : SharedRoom _). StandsForHistory g.Q.Records s log) (sym c.object.ensures.value) e.stands in
+    let m = may_open g.Q.Records c.object.result.now c.open.new.self log stands (search rules) (search rules) c.open.ensures.recorded in
     (refl, (m.0, (m.1, inl refl)))
 
 pub returns-clause-sees : goal.returns-clause-sees
@@ -24,7 +24,7 @@ pub returns-clause-new : goal.returns-clause-new
 returns-clause-new g c =
     let e = c.enter-turn.ensures in
     let log = history (pass_of c.enter-turn.result) in
-    let stands = subst (λ (s : SharedRoom). StandsForHistory s log) (sym c.object.ensures.value) e.stands in
+    let stands = subst (λ (s : SharedRoom _). StandsForHistory g.Q.Records s log) (sym c.object.ensures.value) e.stands in
     let x = ended_new c.args.hall.now c.args.pass.now _ _ _ c.done_opened.ensures e.turnstile e.begins e.places e.shares c.object.result.now.room c.in-Ok.n e.orderly.0 stands.room (search rules) refl in search rules
 
 pub returns-in_default-clause-sees : goal.returns-in_default-clause-sees

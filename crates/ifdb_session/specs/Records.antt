@@ -1,0 +1,28 @@
+-- decides: the service
+-- What is recorded of a history.
+use Rattle.std.specs.Prelude.{◌≡◌, ℕ, ◌<◌, ◌≤◌, List, ◌++◌, length, map, option_to_list}
+use Rattle.ifdb_redo.specs.Spelling.{text}
+use Rattle.ifdb_model.specs.Run.{opening}
+use Rattle.ifdb_restore.specs.Redone.{records}
+use Rattle.ifdb_db.specs.Noting.{Noted, text_of}
+use Rattle.ifdb_db.specs.Reading.{read_line}
+use Rattle.ifdb_history.specs.declared.entry.Entry.{Entry}
+use Rattle.ifdb_history.specs.History.{flat}
+use Rattle.ifdb_session.specs.declared.records.Records as recorder
+
+-- the texts of the records of a history's steps, in their order
+abbrev pub texts_of : List Entry → List (List ℕ)
+texts_of h = map text (records read_line opening (flat h))
+
+-- the text that a note holds, if it holds one
+abbrev pub texts_in : Noted → List (List ℕ)
+texts_in note = option_to_list (text_of note.held)
+
+module _ {Q : Type 0} (recorders : recorder.Ghosts Q) where
+  -- there is room for each text of at most so many bytes, but an empty one
+  abbrev pub HasRoom : Q → ℕ → Type 0
+  HasRoom q limit = (text : List ℕ) → 0 < length text → length text ≤ limit → recorders.fits q text
+
+  -- nothing is kept: any more texts may be said to be recorded
+  abbrev pub Forgets : Q → Type 0
+  Forgets q = (texts more : List (List ℕ)) → recorders.has q texts → recorders.has q (texts ++ more)
