@@ -1,4 +1,3 @@
--- decides: the service
 -- What is recorded of a history.
 use Rattle.std.specs.Prelude.{◌≡◌, ℕ, ◌<◌, ◌≤◌, List, ◌++◌, length, map, option_to_list}
 use Rattle.ifdb_redo.specs.Spelling.{text}
