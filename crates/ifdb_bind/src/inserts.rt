@@ -207,9 +207,9 @@ fn fill(columns: &[Column], key: &[usize], values: &[Value]) -> bool
     values_fit(columns, values) && are_given(values, key)
 }
 
-/// Whether there is a value for each column, which takes it.
+/// Whether there is a value for each column, which takes it. Takes no memory; in time the number of values.
 #[tactic(auto, using(crate::proofs::Listed::no_columns))]
-fn values_fit(columns: &[Column], values: &[Value]) -> bool
+pub fn values_fit(columns: &[Column], values: &[Value]) -> bool
     ensures { result ≡ values_fit (kinds_of columns.now) values.now }
 {
     match columns {

@@ -10,3 +10,4 @@ mod writes;
 
 pub use binding::bind;
 pub use ifdb_catalog::OutOfMemory;
+pub use inserts::values_fit;

@@ -3,6 +3,7 @@ use Rattle.std.proofs.Common.{◌≡◌, ℕ, Bool, true, false, List, [], ◌�
 use Rattle.std.specs.Prelude.{find, cond}
 use Rattle.std.specs.List.{list_any}
 use Rattle.std.proofs.lemmas.Bool.Decides.{nat_tests}
+use Rattle.ifdb_value.proofs.Lists.{some_found, none_found}
 use Rattle.ifdb_label.specs.Tags.{MadeTag}
 use Rattle.ifdb_row.specs.declared.row.Row.{Row}
 use Rattle.ifdb_row.specs.declared.slot.Slot.{Slot}
@@ -14,14 +15,6 @@ use Rattle.ifdb_row.proofs.Children.{left_any}
 use Rattle.ifdb_row.proofs.ShowsLaws.{find_some}
 use Rattle.ifdb_commit.specs.Meeting.{Met, NamesConflict}
 use Rattle.ifdb_commit.proofs.MeetLemmas.{never}
-
-some_found : {X : Type 0} (p : X → Bool) (xs : List X) (x : X) → find p xs ≡ Some x → list_any p xs ≡ true
-some_found p [] x e = cc
-some_found p (y ∷ xs) x e = grind (arith, nat_tests, some_found p xs x)
-
-none_found : {X : Type 0} (p : X → Bool) (xs : List X) → find p xs ≡ None → list_any p xs ≡ false
-none_found p [] e = refl
-none_found p (y ∷ xs) e = grind (arith, nat_tests, none_found p xs)
 
 -- a later commit wrote the slot
 wrote_some : (q : Slot → Bool) (s : Slot) (n : ℕ) (cs : List Commit) → last_stamp cs s ≡ Some n → q s ≡ true → list_any q (written_by cs) ≡ true

@@ -3,6 +3,7 @@ use Rattle.std.proofs.Common.{◌≡◌, ◌≢◌, ◌⊎◌, inl, inr, ℕ, Ok
 use Rattle.std.specs.Prelude.{find, not, IsSome}
 use Rattle.std.specs.List.{list_any}
 use Rattle.std.proofs.lemmas.Bool.Decides.{nat_tests}
+use Rattle.ifdb_value.proofs.Lists.{some_found, none_found}
 use Rattle.ifdb_row.specs.declared.row.Row.{Row}
 use Rattle.ifdb_row.specs.declared.write.Write.{Write}
 use Rattle.ifdb_row.specs.Writes.{are_fitting, are_rising}
@@ -31,14 +32,6 @@ use Rattle.ifdb_db.specs.Reading.{read_line}
 use Rattle.ifdb_db.specs.Desk.{Desk, settled, with_entry}
 use Rattle.ifdb_db.specs.Redoing.{change_by, entry_at, idle_client, writes_fit}
 use Rattle.ifdb_db.specs.Kept.{IsSound, keeps_parents}
-
-some_found : {X : Type 0} (p : X → Bool) (xs : List X) (x : X) → find p xs ≡ Some x → list_any p xs ≡ true
-some_found p [] x e = cc
-some_found p (y ∷ xs) x e = grind (arith, nat_tests, some_found p xs x)
-
-none_found : {X : Type 0} (p : X → Bool) (xs : List X) → find p xs ≡ None → list_any p xs ≡ false
-none_found p [] e = refl
-none_found p (y ∷ xs) e = grind (arith, nat_tests, none_found p xs)
 
 pub some_broken : (rows : List Row) (ws : List Write) (w : Write) → find (λ (v : Write). is_broken rows v.row) ws ≡ Some w → breaks rows ws ≡ true
 some_broken rows ws w e = some_found (λ (v : Write). is_broken rows v.row) ws w e

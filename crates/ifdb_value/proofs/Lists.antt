@@ -1,6 +1,6 @@
 -- Tests over lists: what every crate above needs of `list_any`, `list_all`, `filter` and `map`, beside what std has.
-use Rattle.std.proofs.Common.{◌≡◌, ℕ, eqb, ◌<◌, zero, suc, Bool, true, false, List, [], ◌∷◌, length, get_or, refl, arith}
-use Rattle.std.specs.Prelude.{filter, map}
+use Rattle.std.proofs.Common.{◌≡◌, ℕ, eqb, ◌<◌, zero, suc, Bool, true, false, List, [], ◌∷◌, length, get_or, Some, None, refl, arith}
+use Rattle.std.specs.Prelude.{filter, find, map}
 use Rattle.std.specs.List.{list_any, list_all}
 use Rattle.std.proofs.lemmas.Bool.Decides.{nat_tests}
 
@@ -127,3 +127,12 @@ pub all_of_itself : (f : ℕ → Bool) (list : List ℕ) → ((u : ℕ) → list
     → list_all f list ≡ true
 all_of_itself f [] h = refl
 all_of_itself f (u ∷ us) h = grind (arith, nat_tests, h u, all_of_itself f us (λ v i. h v (grind (arith, nat_tests))))
+
+-- what a search says of whether some element passes
+pub some_found : {X : Type 0} (p : X → Bool) (xs : List X) (x : X) → find p xs ≡ Some x → list_any p xs ≡ true
+some_found p [] x e = cc
+some_found p (y ∷ xs) x e = grind (arith, nat_tests, some_found p xs x)
+
+pub none_found : {X : Type 0} (p : X → Bool) (xs : List X) → find p xs ≡ None → list_any p xs ≡ false
+none_found p [] e = refl
+none_found p (y ∷ xs) e = grind (arith, nat_tests, none_found p xs)

@@ -80,7 +80,7 @@ fits_all b log r h = sym (ap (λ l. row_fits (public_of l) r) (take-append-drop 
 
 -- ---- what is written
 
-abbrev are_fit : Public → List Write → Bool
+abbrev pub are_fit : Public → List Write → Bool
 are_fit p ws = list_all (write_fits p) ws
 
 writes_seen_fit : (log : List Entry) (o : Option Txn) (ws : List Write) → are_fit (seen_in log o).public ws ≡ true → are_fit (public_of log) ws ≡ true
@@ -91,13 +91,13 @@ writes_seen_fit log (Some x) ws h =
 
 -- ---- the rows
 
-abbrev content_fits : List Entry → Type 0
+abbrev pub content_fits : List Entry → Type 0
 content_fits log = rows_fit (seen_in log None) ≡ true
 
-record FitFronts (log : List Entry) : Type 0 where
+pub record FitFronts (log : List Entry) : Type 0 where
   fronts : (b : ℕ) → content_fits (take b log)
 
-whole : (log : List Entry) → FitFronts log → content_fits log
+pub whole : (log : List Entry) → FitFronts log → content_fits log
 whole log f = subst content_fits (take_all (length log) log (omega arith)) (f.fronts (length log))
 
 content_grows : (log : List Entry) (a : Option Entry) → content_fits log → all_commits (are_fit (public_of log)) (option_to_list a) ≡ true → content_fits (log ++ option_to_list a)
@@ -129,11 +129,11 @@ fronts_grow log a k l = record {
 -- ---- a session
 
 -- its own writes fit what it sees, and so does its label
-record FitSeen (log : List Entry) (label : List ℕ) (o : Option Txn) : Type 0 where
+pub record FitSeen (log : List Entry) (label : List ℕ) (o : Option Txn) : Type 0 where
   own : txn_all (are_fit (seen_in log o).public) o ≡ true
   made : are_made (length (tags_of (seen_in log o).public)) label ≡ true
 
-abbrev FitSession : List Entry → Session → Type 0
+abbrev pub FitSession : List Entry → Session → Type 0
 FitSession log s = FitSeen log s.label s.txn
 
 no_txn : (log : List Entry) (label : List ℕ) (o : Option Txn) → o ≡ None → are_made (tag_count log) label ≡ true → FitSeen log label o
@@ -192,10 +192,10 @@ module _ (log : List Entry) (s : Session) (line : Result Request Fault) (k : Fit
   session_fits o (wrote asker r b w i t e d) h = k
   session_fits o (done x t j) h = record { own = refl; made = label_later s.label k.made }
 
-  outcome_fits : (o : Outcome) → Shape log s line o → outcome_all (write_fits (seen log s).public) o ≡ true
+  pub outcome_fits : (o : Outcome) → Shape log s line o → outcome_all (write_fits (seen log s).public) o ≡ true
   outcome_fits o x = outcome_writes (write_fits (seen log s).public) log s line k.own new_writes_fit o x
 
-  added_fits : (o : Outcome) → outcome_all (write_fits (seen log s).public) o ≡ true → all_commits (are_fit (public_of log)) (option_to_list o.added) ≡ true
+  pub added_fits : (o : Outcome) → outcome_all (write_fits (seen log s).public) o ≡ true → all_commits (are_fit (public_of log)) (option_to_list o.added) ≡ true
   added_fits o h = by o.added (added_part o h) where
     by : (a : Option Entry) → all_commits (are_fit (seen log s).public) (option_to_list a) ≡ true → all_commits (are_fit (public_of log)) (option_to_list a) ≡ true
     by None i = refl
@@ -205,19 +205,19 @@ module _ (log : List Entry) (s : Session) (line : Result Request Fault) (k : Fit
 -- ---- runs
 
 -- a session is sound, and fits
-record Both (log : List Entry) (s : Session) : Type 0 where
-  sound : SoundSession log s
-  fits : FitSession log s
+pub record Both (log : List Entry) (s : Session) : Type 0 where
+  pub sound : SoundSession log s
+  pub fits : FitSession log s
 
-record Fitting (st : State) : Type 0 where
-  sound : Sound st
-  fronts : FitFronts st.log
-  sessions : All (Both st.log) st.sessions
+pub record Fitting (st : State) : Type 0 where
+  pub sound : Sound st
+  pub fronts : FitFronts st.log
+  pub sessions : All (Both st.log) st.sessions
 
 idle : (log : List Entry) (s : Session) → are_made (tag_count log) s.label ≡ true → s.txn ≡ None → Both log s
 idle log s m e = record { sound = no_txn_is_sound log s m e; fits = no_txn log s.label s.txn e m }
 
-at : (st : State) → Fitting st → (n : ℕ) → Both st.log (session_of st n)
+pub at : (st : State) → Fitting st → (n : ℕ) → Both st.log (session_of st n)
 at st v n = session_has (Both st.log) st v.sessions (idle st.log no_session refl refl) n
 
 asked_fits : (read : Reader) (st : State) → Fitting st → (n : ℕ) (line : List ℕ) → Fitting (with_outcome st n (ask read st.log (session_of st n) line))
@@ -264,11 +264,11 @@ next_fits read st long v = v
 next_fits read st stray v = v
 next_fits read st (leaves n) v = either (session_of st n).is_open (with_session st n (closed (session_of st n))) st (left_fits st v n) v
 
-run_fits : (read : Reader) (steps : List Step) (st : State) → Fitting st → Fitting (run read st steps)
+pub run_fits : (read : Reader) (steps : List Step) (st : State) → Fitting st → Fitting (run read st steps)
 run_fits read [] st v = v
 run_fits read (x ∷ steps) st v = run_fits read steps (next read st x) (next_fits read st x v)
 
-opening_fits : Fitting opening
+pub opening_fits : Fitting opening
 opening_fits = record { sound = opening_sound; fronts = record { fronts = none }; sessions = All-nil (Both []) } where
   none : (b : ℕ) → content_fits (take b [])
   none zero = refl
