@@ -7,12 +7,16 @@ use ifdb_io::Failed;
 use std::fs::File;
 use std::io;
 use std::io::ErrorKind;
+use std::os::unix::fs::OpenOptionsExt;
 use std::path::Path;
 use std::rt::Files;
 
+// Who may read and write a file that is made: its owner, and nobody else.
+const OWNER_ALONE: u32 = 0o600;
+
 /// The files of the system. A name is a path, as the system has it.
 ///
-/// `open` makes the file where there is none, and syncs the folder, so that its entry is there after
+/// `open` makes the file where there is none, for its owner alone (mode 0600), and syncs the folder, so that its entry is there after
 /// a crash. It locks the file against each other program that opens it so, up to `close` or the end
 /// of the program. It fails, and the count of the shelf's faults rises, where one of these fails: the
 /// file or its folder can't be opened, or another program has the lock.
@@ -37,6 +41,7 @@ fn open_alone<R: Files<File = File>>(rt: &R, name: &str) -> io::Result<File> {
         .read(true)
         .write(true)
         .create(true)
+        .mode(OWNER_ALONE)
         .open(rt, name)?;
     if file.try_lock().is_err() {
         return Err(io::Error::from(ErrorKind::WouldBlock));

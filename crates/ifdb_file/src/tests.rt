@@ -3,6 +3,7 @@ use crate::{FileDisk, FileShelf};
 use ifdb_disk::{Disk, Shelf};
 use ifdb_io::Failed;
 use std::fs;
+use std::os::unix::fs::PermissionsExt;
 use std::test::Fail;
 
 // What a disk holds, up to 16 bytes, read behind its length.
@@ -17,6 +18,9 @@ fn holds(disk: &mut FileDisk, want: &[u8]) -> Result<bool, Failed> {
 fn written_and_opened_again(rt: HostRuntime) -> Result<(), Fail> {
     let mut shelf = FileShelf::new(&rt);
     let mut disk = shelf.open("journal")?;
+    let mode = fs::metadata(&rt, "journal")?.permissions().mode();
+    // Nobody but the owner may read what it holds.
+    assert_eq!(rt; mode & 0o777, 0o600);
     assert!(rt; holds(&mut disk, b"")?);
     disk.write(0, b"abcdef")?;
     disk.sync()?;

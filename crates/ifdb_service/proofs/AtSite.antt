@@ -10,14 +10,15 @@ use Rattle.ifdb_turn.specs.Histories.{AllRight}
 use Rattle.ifdb_turn.specs.Passes.{history, places, OwnsAll}
 use Rattle.ifdb_turn.specs.Places.{times, RisesFrom}
 use Rattle.ifdb_turn.proofs.PlaceLemmas.{merged_apart}
+use Rattle.ifdb_model.specs.Log.{Entry as LogEntry}
 use Rattle.ifdb_history.specs.declared.entry.Entry.{Entry}
 use Rattle.ifdb_history.specs.History.{IsRight}
-use Rattle.ifdb_db.specs.Reading.{read_line}
 use Rattle.ifdb_session.specs.declared.counts.Counts.{Counts}
+use Rattle.ifdb_session.specs.Starts.{start_of}
 use Rattle.ifdb_session.specs.Counts.{counts_of}
 use Rattle.ifdb_words.specs.declared.service.Service.{Service}
 use Rattle.ifdb_service.specs.Doors.{ServedAll}
-use Rattle.ifdb_service.specs.Site.{Exchanges, IsServed, IsAskedFor}
+use Rattle.ifdb_service.specs.Site.{Exchanges, IsServedOver, IsAskedFor}
 use Rattle.ifdb_service.specs.Summary.{listening_line, summary_text}
 
 loses_kept : {A : Type 0} (a b c : Option (List A)) (xs : List A) → LosesFirst a b xs → Stays b c → LosesFirst a c xs
@@ -42,13 +43,14 @@ module _ {S D K : Type 0} (sites : site.Ghosts S D K) where
     many = many;
   }
 
-module _ {S D K : Type 0} (sites : site.Ghosts S D K) (doors : door.Ghosts D K) (sources : source.Ghosts K) (sinks : sink.Ghosts K) where
+module _ {S D K : Type 0} (sites : site.Ghosts S D K) (doors : door.Ghosts D K) (sources : source.Ghosts K) (sinks : sink.Ghosts K)
+    (first_log : List LogEntry) (IsKept : List (List ℕ) → Type 0) (HasFailed : Type 0) where
   -- all doors were served, in the history with which the turnstile was closed
   pub is_served : {X : Type 0} (Wrote : List ℕ → Type 0) (s : Service) (first last : S) (given back : List D) (old now : Pass X Entry) (faults : ℕ) (counts : Counts)
-      → Exchanges sites s first last given back → places old ≡ [] → ServedAll doors sources sinks s.limit old now given back faults
-      → AllRight (IsRight read_line) (history now) → OwnsAll now → RisesFrom 0 (places now)
-      → counts ≡ counts_of (history now) → Wrote (listening_line s.port ++ summary_text counts faults)
-      → IsServed sites doors sources sinks Wrote s first last
+      → Exchanges sites s first last given back → places old ≡ [] → ServedAll sources sinks first_log IsKept HasFailed doors s.limit old now given back faults
+      → AllRight (IsRight (start_of first_log)) (history now) → OwnsAll now → RisesFrom 0 (places now)
+      → counts ≡ counts_of first_log (history now) → Wrote (listening_line s.port ++ summary_text counts faults)
+      → IsServedOver sites doors sources sinks first_log IsKept HasFailed Wrote s first last
   is_served Wrote s first last given back old now faults counts exchanges none all right owns rises counted wrote = record {
     log = history now;
     order = right;

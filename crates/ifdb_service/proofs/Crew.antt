@@ -1,7 +1,7 @@
 -- Workers: hired, sent out, and joined.
 use Rattle.std.specs.Bool.{if◌then◌else◌}
 use Rattle.std.specs.Result.{IsOk, is_ok}
-use Rattle.std.proofs.Common.{Result, ◌≡◌, ◌<◌, ◌≤◌, ◌+◌, ◌^◌, ℕ, suc, not, Bool, true, false, List, [], ◌∷◌, ◌++◌, map, length, All, sym, refl, ap, ap₂, ◌∙◌, subst, arith, append-nil, append_assoc, length-append}
+use Rattle.std.proofs.Common.{Result, ◌≡◌, ◌<◌, ◌≤◌, ◌+◌, ◌-◌, ◌^◌, ℕ, suc, not, Bool, true, false, List, [], ◌∷◌, ◌++◌, map, length, All, sym, refl, ap, ap₂, ◌∙◌, subst, arith, append-nil, append_assoc, length-append}
 use Rattle.std.proofs.lemmas.List.{map-append, length-map}
 use Rattle.std.proofs.lemmas.List.Elements.{All-append, All-head, All-tail, All-cons}
 use mathlib.Core.List.{IsPrefix}
@@ -17,19 +17,22 @@ use Rattle.ifdb_turn.specs.Histories.{AllRight}
 use Rattle.ifdb_turn.proofs.PlaceLemmas.{times_merge}
 use Rattle.ifdb_history.specs.declared.entry.Entry.{Entry}
 use Rattle.ifdb_history.specs.History.{IsRight}
-use Rattle.ifdb_db.specs.Reading.{read_line}
 use Rattle.ifdb_pool.specs.Visits.{Visit, Serves as ServesAll}
 use Rattle.ifdb_pool.specs.Work.{IsReady, Worked, AllWorked}
 use Rattle.ifdb_pool.specs.declared.worker.Worker.{Worker}
-use Rattle.ifdb_session.specs.contracts.in_memory.InMemoryRecords.TheImpl as recording
-use Rattle.ifdb_session.specs.contracts.in_memory.InMemorySettles.TheImpl as waiting
+use Rattle.ifdb_session.specs.declared.host.SessionHost.{SessionHost}
+use Rattle.ifdb_session.specs.declared.records.Records as recorder
+use Rattle.ifdb_session.specs.declared.settles.Settles as settler
+use Rattle.ifdb_session.specs.declared.shared.SharedRoom.{SharedRoom}
+use Rattle.ifdb_session.specs.Acknowledged.{KnowsKept}
 use Rattle.ifdb_session.specs.Endings.{fault_of, capped}
 use Rattle.ifdb_session.specs.Hosts.{Serves}
 use Rattle.ifdb_session.specs.Passes.{Sees}
+use Rattle.ifdb_session.specs.Starts.{start_of}
 use Rattle.ifdb_session.proofs.Passes.{prefix-trans}
 use Rattle.ifdb_service.specs.Doors.{Connection, Run, AllLinked, IsRunIn, ServedAll, faults_in, faults_of, one_unless, turns_of, turns_at}
-use Rattle.ifdb_service.specs.Workers.{MemoryRoom, MemoryHost, IsFresh, Hiring, IsHome, AllHome, Joining, hosts, one_if}
-use Rattle.ifdb_service.proofs.Links.{linked1, all_later, run_later}
+use Rattle.ifdb_service.specs.Workers.{HasMore, LacksShares, GoesOnWithout, IsFresh, Hiring, IsHome, AllHome, Joining, hosts, one_if}
+use Rattle.ifdb_service.proofs.Links.{Laws, linked1, all_later, run_later}
 
 all_snoc : {X : Type 0} (P : X → Type 0) (xs : List X) (x : X) → All P xs → P x → All P (xs ++ x ∷ [])
 all_snoc P xs x all one = All-append P xs (x ∷ []) all (All-cons P x [] one (λ k d lt. absurd (omega arith)))
@@ -46,36 +49,93 @@ split_orderly right old own orderly seen none =
 
 -- ---- workers are hired
 
-module _ {D K R : Type 0} (doors : door.Ghosts D K) (hall : Turnstile MemoryRoom Entry) (limit : ℕ) where
-  pub hired : (old now now' : Pass MemoryRoom Entry) (given : List D) (ws ws' : List (Worker D (MemoryHost R K))) (d : D) (rs rest : List D) (room room' : ℕ)
-      (w : Worker D (MemoryHost R K)) → rs ≡ d ∷ rest → Hiring doors hall limit old now given ws rs room
+module _ {D K R Q S : Type 0} (recorders : recorder.Ghosts Q) (settlers : settler.Ghosts S Q) (doors : door.Ghosts D K) (hall : Turnstile (SharedRoom Q) Entry) (limit : ℕ) (first : S) where
+  -- nobody is hired yet
+  pub not_hired : (pass : Pass (SharedRoom Q) Entry) (given : List D) (ws : List (Worker D (SessionHost R K Q S))) (room : ℕ) → Laws settlers
+      → BelongsTo hall pass → settlers.ready first → HasMore settlers first (length given) → All (λ d. doors.most d < 2 ^ 64) given → ws ≡ [] → length given ≤ room
+      → Hiring recorders settlers doors hall limit first pass pass first given ws given room
+  not_hired pass given ws room laws belongs ready more few none fits =
+      let len : length ws ≡ 0 = ap length none in
+      record {
+        belongs = belongs;
+        share = omega arith;
+        keeper_left = record { ready = ready; knows = laws.itself first; shares = record { all = more.0; left = more.0; had = more.1.0; has = more.1.0; lacks = omega arith } };
+        keeper_more = more.1.1;
+        taken = ap (λ l. map (λ w. w.door) l ++ given) none;
+        fresh = subst (All (IsFresh recorders settlers doors hall limit first)) (sym none) (λ k d lt. absurd (omega (arith, lt)));
+        few = few;
+        fits = omega arith;
+        seen = refl;
+        own = refl;
+      }
+
+  -- a share more can be split off for the next door
+  pub can_split : (old now : Pass (SharedRoom Q) Entry) (keeper : S) (given : List D) (ws : List (Worker D (SessionHost R K Q S))) (d : D) (rs rest : List D) (room : ℕ)
+      → rs ≡ d ∷ rest → Hiring recorders settlers doors hall limit first old now keeper given ws rs room → (n : ℕ) × settlers.has_shares keeper (n + 2)
+  can_split old now keeper given ws d rs rest room gone h =
+      let len : length rs ≡ length rest + 1 = ap length gone ∙ omega arith in
+      let more = h.keeper_more in
+      let left = h.keeper_left.shares.left in
+      let two : left ≡ (left - 2) + 2 = omega arith in
+      (left - 2, subst (settlers.has_shares keeper) two h.keeper_left.shares.has)
+
+  pub hired : (old now now' : Pass (SharedRoom Q) Entry) (keeper keeper' : S) (given : List D) (ws ws' : List (Worker D (SessionHost R K Q S))) (d : D) (rs rest : List D) (room room' : ℕ)
+      (w : Worker D (SessionHost R K Q S)) → Laws settlers → rs ≡ d ∷ rest → Hiring recorders settlers doors hall limit first old now keeper given ws rs room
       → BelongsTo hall now' → shares now' + 1 ≡ shares now → history now' ≡ history now → places now' ≡ places now
-      → w.door ≡ d → (doors.most d < 2 ^ 64 → IsFresh doors hall limit w) → ws' ≡ ws ++ w ∷ [] → room ≤ room'
-      → Hiring doors hall limit old now' given ws' rest room'
-  hired old now now' given ws ws' d rs rest room room' w gone i belongs share seen own is fresh more fits =
-      let h = subst (λ l. Hiring doors hall limit old now given ws l room) gone i in
+      → settlers.ready keeper' → settlers.goes_on keeper keeper' → ((n : ℕ) → settlers.has_shares keeper (n + 1) → settlers.has_shares keeper' n)
+      → w.door ≡ d → (doors.most d < 2 ^ 64 → IsFresh recorders settlers doors hall limit first w) → ws' ≡ ws ++ w ∷ [] → room ≤ room'
+      → Hiring recorders settlers doors hall limit first old now' keeper' given ws' rest room'
+  hired old now now' keeper keeper' given ws ws' d rs rest room room' w laws gone i belongs share seen own ready goes lacking is fresh more fits =
+      let h = subst (λ l. Hiring recorders settlers doors hall limit first old now keeper given ws l room) gone i in
       let s = h.share in
       let f = h.fits in
       let few : D → Type 0 = λ x. doors.most x < 2 ^ 64 in
       let len : length ws' ≡ length ws + 1 = ap length more ∙ length-append ws (w ∷ []) in
-      let first : doors.most d < 2 ^ 64 = All-head few d rest h.few in
+      let few_first : doors.most d < 2 ^ 64 = All-head few d rest h.few in
+      let k = h.keeper_left in
+      let many = h.keeper_more in
+      let lacks = k.shares.lacks in
+      let one : k.shares.left ≡ (k.shares.left - 1) + 1 = omega arith in
       record {
         belongs = belongs;
         share = omega arith;
+        keeper_left = record {
+          ready = ready;
+          knows = laws.further first keeper keeper' k.knows goes;
+          shares = record {
+            all = k.shares.all;
+            left = k.shares.left - 1;
+            had = k.shares.had;
+            has = lacking (k.shares.left - 1) (subst (settlers.has_shares keeper) one k.shares.has);
+            lacks = omega arith;
+          };
+        };
+        keeper_more = omega arith;
         taken = ap (λ l. map (λ w. w.door) l ++ rest) more ∙ ap (λ l. l ++ rest) (map-append (λ w. w.door) ws (w ∷ [])) ∙ append_assoc (map (λ w. w.door) ws) (w.door ∷ []) rest
             ∙ ap (λ x. map (λ w. w.door) ws ++ x ∷ rest) is ∙ h.taken;
-        fresh = subst (All (IsFresh doors hall limit)) (sym more) (all_snoc (IsFresh doors hall limit) ws w h.fresh (fresh first));
+        fresh = subst (All (IsFresh recorders settlers doors hall limit first)) (sym more) (all_snoc (IsFresh recorders settlers doors hall limit first) ws w h.fresh (fresh few_first));
         few = All-tail few d rest h.few;
         fits = omega arith;
         seen = seen ∙ h.seen;
         own = own ∙ h.own;
       }
 
+  -- each door has a worker
+  pub all_hired : (old now : Pass (SharedRoom Q) Entry) (keeper : S) (given rest : List D) (ws : List (Worker D (SessionHost R K Q S))) (room : ℕ)
+      → length rest ≡ 0 → Hiring recorders settlers doors hall limit first old now keeper given ws rest room → GoesOnWithout settlers first keeper (length given)
+  all_hired old now keeper given rest ws room none h =
+      let all : length (map (λ w. w.door) ws ++ rest) ≡ length given = ap length h.taken in
+      let sum = length-append (map (λ w. w.door) ws) rest in
+      let doors_of = length-map ws (λ w. w.door) in
+      let same : length ws ≡ length given = omega arith in
+      subst (GoesOnWithout settlers first keeper) same h.keeper_left
+
 -- fresh workers may be run
-pub all_ready : {D K R : Type 0} (doors : door.Ghosts D K) (hall : Turnstile MemoryRoom Entry) (limit : ℕ) (sources : source.Ghosts K) (sinks : sink.Ghosts K) (ws all : List (Worker D (MemoryHost R K)))
-    → all ≡ ws → All (IsFresh doors hall limit) ws → All (IsReady doors (hosts sources sinks)) all
-all_ready doors hall limit sources sinks ws all same fresh = λ k d lt.
-    let w = subst (All (IsFresh doors hall limit)) (sym same) fresh k d lt in
+pub all_ready : {D K R Q S : Type 0} (recorders : recorder.Ghosts Q) (settlers : settler.Ghosts S Q) (doors : door.Ghosts D K) (hall : Turnstile (SharedRoom Q) Entry) (limit : ℕ)
+    (sources : source.Ghosts K) (sinks : sink.Ghosts K) (ws all : List (Worker D (SessionHost R K Q S)))
+    → all ≡ ws → ((first : S) × All (IsFresh recorders settlers doors hall limit first) ws) → All (IsReady doors (hosts sources sinks recorders settlers)) all
+all_ready recorders settlers doors hall limit sources sinks ws all same fresh = λ k d lt.
+    let w = subst (All (IsFresh recorders settlers doors hall limit fresh.0)) (sym same) fresh.1 k d lt in
     let none = w.no_link in
     let few = w.most in
     (w.ready, omega (arith, none, few))
@@ -107,43 +167,54 @@ turns_snoc : {D K : Type 0} (k : ℕ) (rs : List (Run D K)) (r : Run D K) → tu
 turns_snoc k [] r = omega arith
 turns_snoc k (x ∷ xs) r = let i = turns_snoc k xs r in omega arith
 
-module _ {K R : Type 0} (sources : source.Ghosts K) (sinks : sink.Ghosts K) where
+module _ {K R Q S : Type 0} (sources : source.Ghosts K) (sinks : sink.Ghosts K) (recorders : recorder.Ghosts Q) (settlers : settler.Ghosts S Q) (laws : Laws settlers) where
+  -- connections were served so, by what a keeper knows
+  abbrev AllLinkedBy : S → ℕ → List Entry → List (Visit K) → List Connection → Type 0
+  AllLinkedBy keeper = AllLinked sources sinks recorders.first (KnowsKept recorders settlers keeper) (settlers.has_failed keeper)
+
   -- one service after another
-  record Chained (a b : MemoryHost R K) (vs : List (Visit K)) : Type 0 where
+  record Chained (a b : SessionHost R K Q S) (vs : List (Visit K)) : Type 0 where
     connections : List Connection
-    linked : AllLinked sources sinks a.limit (history b.pass) vs connections
+    linked : AllLinkedBy b.keeper a.limit (history b.pass) vs connections
     own : places b.pass ≡ places a.pass ++ turns_of connections
     faults : b.faults ≡ capped (a.faults + faults_in connections)
     share : shares b.pass ≡ shares a.pass
+    knows : settlers.goes_on a.keeper b.keeper
+    keeper_shares : (n : ℕ) → settlers.has_shares a.keeper n → settlers.has_shares b.keeper n
     begins : IsPrefix (history a.pass) (history b.pass)
     hall : b.hall ≡ a.hall
     limit : b.limit ≡ a.limit
 
-  chained : (a b : MemoryHost R K) (vs : List (Visit K)) → a.faults < 2 ^ 64 → AllRight (IsRight read_line) (history b.pass)
-      → ServesAll (Serves sources sinks recording.ghosts waiting.ghosts) a vs b → Chained a b vs
+  chained : (a b : SessionHost R K Q S) (vs : List (Visit K)) → a.faults < 2 ^ 64 → AllRight (IsRight (start_of recorders.first)) (history b.pass)
+      → ServesAll (Serves sources sinks recorders settlers) a vs b → Chained a b vs
   chained a b [] lt right is = record {
     connections = [];
     linked = tt;
-    own = sym (append-nil (places a.pass) ∙ ap (λ (h : MemoryHost R K). places h.pass) is);
-    faults = capped_zero a.faults b.faults lt (ap (λ (h : MemoryHost R K). h.faults) (sym is));
-    share = ap (λ (h : MemoryHost R K). shares h.pass) (sym is);
-    begins = ([], append-nil (history a.pass) ∙ ap (λ (h : MemoryHost R K). history h.pass) is);
-    hall = ap (λ (h : MemoryHost R K). h.hall) (sym is);
-    limit = ap (λ (h : MemoryHost R K). h.limit) (sym is);
+    own = sym (append-nil (places a.pass) ∙ ap (λ (h : SessionHost R K Q S). places h.pass) is);
+    faults = capped_zero a.faults b.faults lt (ap (λ (h : SessionHost R K Q S). h.faults) (sym is));
+    share = ap (λ (h : SessionHost R K Q S). shares h.pass) (sym is);
+    knows = subst (λ (h : SessionHost R K Q S). settlers.goes_on a.keeper h.keeper) is (laws.itself a.keeper);
+    keeper_shares = subst (λ (h : SessionHost R K Q S). (n : ℕ) → settlers.has_shares a.keeper n → settlers.has_shares h.keeper n) is (λ n has. has);
+    begins = ([], append-nil (history a.pass) ∙ ap (λ (h : SessionHost R K Q S). history h.pass) is);
+    hall = ap (λ (h : SessionHost R K Q S). h.hall) (sym is);
+    limit = ap (λ (h : SessionHost R K Q S). h.limit) (sym is);
   }
   chained a b (v ∷ vs) lt right s =
       let m = s.0 in
       let one = s.1 in
       let rest = chained m b vs (capped_lt _ m.faults one.faults) right s.2 in
-      let l = linked1 sources sinks a m v one in
-      let first = all_later sources sinks a.limit (history m.pass) (history b.pass) (v ∷ []) (l.connection ∷ []) (l.linked, tt) rest.begins right in
+      let l = linked1 sources sinks recorders settlers a m v one in
+      let here = all_later sources sinks recorders.first (KnowsKept recorders settlers m.keeper) (KnowsKept recorders settlers b.keeper) (settlers.has_failed m.keeper) (settlers.has_failed b.keeper)
+      (λ x. laws.kept m.keeper b.keeper (recorders.count_of x) rest.knows) (laws.failed m.keeper b.keeper rest.knows) (history m.pass) (history b.pass) rest.begins right a.limit (v ∷ []) (l.connection ∷ []) (l.linked, tt) in
       record {
         connections = l.connection ∷ rest.connections;
-        linked = (first.0, subst (λ n. AllLinked sources sinks n (history b.pass) vs rest.connections) one.limit rest.linked);
+        linked = (here.0, subst (λ n. AllLinkedBy b.keeper n (history b.pass) vs rest.connections) one.limit rest.linked);
         own = rest.own ∙ ap (λ p. p ++ turns_of rest.connections) l.own ∙ append_assoc (places a.pass) l.connection.turns (turns_of rest.connections);
         faults = rest.faults ∙ ap (λ n. capped (n + faults_in rest.connections)) one.faults ∙ capped_more a.faults (fault_of one.service.ending) (faults_in rest.connections)
             ∙ ap (λ e. capped (a.faults + (fault_of e + faults_in rest.connections))) (sym l.same);
         share = rest.share ∙ one.sees.shares;
+        knows = laws.further a.keeper m.keeper b.keeper one.keeper rest.knows;
+        keeper_shares = λ n has. rest.keeper_shares n (one.shares n has);
         begins = prefix-trans (history a.pass) (history m.pass) (history b.pass) one.sees.begins rest.begins;
         hall = rest.hall ∙ one.hall;
         limit = rest.limit ∙ one.limit;
@@ -151,22 +222,27 @@ module _ {K R : Type 0} (sources : source.Ghosts K) (sinks : sink.Ghosts K) wher
 
 -- ---- workers come home, and are joined
 
-module _ {D K R : Type 0} (doors : door.Ghosts D K) (hall : Turnstile MemoryRoom Entry) (limit : ℕ) (sources : source.Ghosts K) (sinks : sink.Ghosts K) where
-  home_of : (w w' : Worker D (MemoryHost R K)) → IsFresh doors hall limit w → Worked doors (hosts sources sinks) w w' → IsHome doors hall limit sources sinks w.door w'
+module _ {D K R Q S : Type 0} (recorders : recorder.Ghosts Q) (settlers : settler.Ghosts S Q) (doors : door.Ghosts D K) (hall : Turnstile (SharedRoom Q) Entry) (limit : ℕ) (first : S)
+    (sources : source.Ghosts K) (sinks : sink.Ghosts K) (laws : Laws settlers) where
+  home_of : (w w' : Worker D (SessionHost R K Q S)) → IsFresh recorders settlers doors hall limit first w → Worked doors (hosts sources sinks recorders settlers) w w'
+      → IsHome recorders settlers doors hall limit first sources sinks w.door w'
   home_of w w' f d =
       let lt : w.host.faults < 2 ^ 64 = subst (λ n. n < 2 ^ 64) (sym f.no_fault) (omega arith) in
-      let c = chained sources sinks w.host w'.host d.visits lt d.served.ready.orderly.0 d.served.host in
-      let at : w'.host.hall.now ≡ hall = ap (λ (b : Bor (Turnstile MemoryRoom Entry)). b.now) c.hall ∙ f.at in
+      let c = chained sources sinks recorders settlers laws w.host w'.host d.visits lt d.served.ready.orderly.0 d.served.host in
+      let at : w'.host.hall.now ≡ hall = ap (λ (b : Bor (Turnstile (SharedRoom Q) Entry)). b.now) c.hall ∙ f.at in
       let z : 0 + faults_in c.connections ≡ faults_in c.connections = omega arith in
       record {
         belongs = subst (λ t. BelongsTo t w'.host.pass) at d.served.ready.belongs;
         share = c.share ∙ f.share;
+        keeper_ready = d.served.ready.keeper;
+        knows = laws.further first w.host.keeper w'.host.keeper f.knows c.knows;
+        keeper_share = c.keeper_shares 1 f.keeper_share;
         visits = d.visits;
         connections = c.connections;
         run = record {
           coming = d.served.coming;
           back = d.served.back;
-          linked = subst (λ n. AllLinked sources sinks n (history w'.host.pass) d.visits c.connections) f.limit_is c.linked;
+          linked = subst (λ n. AllLinked sources sinks recorders.first (KnowsKept recorders settlers w'.host.keeper) (settlers.has_failed w'.host.keeper) n (history w'.host.pass) d.visits c.connections) f.limit_is c.linked;
           all = d.all;
           cause = λ off. d.cause (d.failed ∙ ap not off);
         };
@@ -175,34 +251,39 @@ module _ {D K R : Type 0} (doors : door.Ghosts D K) (hall : Turnstile MemoryRoom
         failed = d.failed;
       }
 
-  all_home : (ws ws' : List (Worker D (MemoryHost R K))) → All (IsFresh doors hall limit) ws → AllWorked (Worked doors (hosts sources sinks)) ws ws'
-      → AllHome doors hall limit sources sinks (map (λ w. w.door) ws) ws'
+  all_home : (ws ws' : List (Worker D (SessionHost R K Q S))) → All (IsFresh recorders settlers doors hall limit first) ws
+      → AllWorked (Worked doors (hosts sources sinks recorders settlers)) ws ws'
+      → AllHome recorders settlers doors hall limit first sources sinks (map (λ w. w.door) ws) ws'
   all_home [] [] f a = tt
   all_home [] (y ∷ ys) f a = absurd (omega (arith, a.0))
   all_home (x ∷ xs) [] f a = absurd (omega (arith, a.0))
   all_home (x ∷ xs) (y ∷ ys) f a =
       let len : length ys ≡ length xs = let e = a.0 in omega arith in (
-        home_of x y (All-head (IsFresh doors hall limit) x xs f) (a.1 0 x (omega arith)),
-        all_home xs ys (All-tail (IsFresh doors hall limit) x xs f) (len, λ k d lt. a.1 (suc k) d (omega arith)),
+        home_of x y (All-head (IsFresh recorders settlers doors hall limit first) x xs f) (a.1 0 x (omega arith)),
+        all_home xs ys (All-tail (IsFresh recorders settlers doors hall limit first) x xs f) (len, λ k d lt. a.1 (suc k) d (omega arith)),
       )
 
   -- all workers are at home, and none is joined yet
-  pub sent : (old now : Pass MemoryRoom Entry) (given : List D) (ws0 ws ws' rs : List (Worker D (MemoryHost R K))) (back : List D)
-      → BelongsTo hall now → IsOrderly (IsRight read_line) old → shares now + length given ≡ shares old → history now ≡ history old → places now ≡ places old
-      → map (λ w. w.door) ws ≡ given → All (IsFresh doors hall limit) ws → ws0 ≡ ws → AllWorked (Worked doors (hosts sources sinks)) ws0 ws' → rs ≡ ws' → back ≡ []
-      → Joining doors hall limit sources sinks old now given rs back 0
-  sent old now given ws0 ws ws' rs back belongs orderly share seen own taken fresh same first is none =
-      let worked = subst (λ l. AllWorked (Worked doors (hosts sources sinks)) l ws') same first in
+  pub sent : (old now : Pass (SharedRoom Q) Entry) (keeper : S) (given : List D) (ws0 ws ws' rs : List (Worker D (SessionHost R K Q S))) (back : List D)
+      → BelongsTo hall now → IsOrderly (IsRight (start_of recorders.first)) old → shares now + length given ≡ shares old → history now ≡ history old → places now ≡ places old
+      → GoesOnWithout settlers first keeper (length given)
+      → map (λ w. w.door) ws ≡ given → All (IsFresh recorders settlers doors hall limit first) ws → ws0 ≡ ws
+      → AllWorked (Worked doors (hosts sources sinks recorders settlers)) ws0 ws' → rs ≡ ws' → back ≡ []
+      → Joining recorders settlers doors hall limit first sources sinks old now keeper given rs back 0
+  sent old now keeper given ws0 ws ws' rs back belongs orderly share seen own keeps taken fresh same worked0 is none =
+      let worked = subst (λ l. AllWorked (Worked doors (hosts sources sinks recorders settlers)) l ws') same worked0 in
       let l1 : length ws ≡ length given = sym (length-map ws (λ w. w.door)) ∙ ap length taken in
       let l2 : length ws' ≡ length ws = worked.0 in
       let l3 : length rs ≡ length ws' = ap length is in
+      let l4 : length given ≡ length rs = omega arith in
       record {
         belongs = belongs;
-        orderly = subst (λ (z : List Entry × List ℕ). AllRight (IsRight read_line) z.0 × RisesFrom 0 z.1 × Rattle.ifdb_turn.specs.Places.LiesBelow (length z.0) z.1) (λ i. (sym seen i, sym own i)) orderly;
+        orderly = subst (λ (z : List Entry × List ℕ). AllRight (IsRight (start_of recorders.first)) z.0 × RisesFrom 0 z.1 × Rattle.ifdb_turn.specs.Places.LiesBelow (length z.0) z.1) (λ i. (sym seen i, sym own i)) orderly;
         share = omega arith;
         begins = ([], append-nil (history old) ∙ sym seen);
+        keeper_left = subst (GoesOnWithout settlers first keeper) l4 keeps;
         left = map (λ w. w.door) ws;
-        home = subst (AllHome doors hall limit sources sinks (map (λ w. w.door) ws)) (sym is) (all_home ws ws' fresh worked);
+        home = subst (AllHome recorders settlers doors hall limit first sources sinks (map (λ w. w.door) ws)) (sym is) (all_home ws ws' fresh worked);
         runs = [];
         before = taken;
         after = sym none;
@@ -211,16 +292,25 @@ module _ {D K R : Type 0} (doors : door.Ghosts D K) (hall : Turnstile MemoryRoom
         own = λ k. ap (times k) own ∙ omega arith;
       }
 
-  pub joined : (old now now' : Pass MemoryRoom Entry) (given : List D) (w : Worker D (MemoryHost R K)) (rs rest : List (Worker D (MemoryHost R K))) (back back' : List D) (faults faults' : ℕ)
-      → rs ≡ w ∷ rest → Joining doors hall limit sources sinks old now given rs back faults
-      → BelongsTo hall now' → IsOrderly (IsRight read_line) now' → IsPrefix (history now) (history now') → IsPrefix (history w.host.pass) (history now')
+  pub joined : (old now now' : Pass (SharedRoom Q) Entry) (keeper keeper' : S) (given : List D) (w : Worker D (SessionHost R K Q S)) (rs rest : List (Worker D (SessionHost R K Q S))) (back back' : List D) (faults faults' : ℕ)
+      → rs ≡ w ∷ rest → Joining recorders settlers doors hall limit first sources sinks old now keeper given rs back faults
+      → BelongsTo hall now' → IsOrderly (IsRight (start_of recorders.first)) now' → IsPrefix (history now) (history now') → IsPrefix (history w.host.pass) (history now')
       → places now' ≡ merge (places now) (places w.host.pass) → shares now' ≡ shares now + shares w.host.pass
+      → settlers.ready keeper' → settlers.goes_on keeper keeper' → settlers.goes_on w.host.keeper keeper'
+      → ((n m : ℕ) → settlers.has_shares keeper n → settlers.has_shares w.host.keeper m → settlers.has_shares keeper' (n + m))
       → back' ≡ back ++ w.door ∷ [] → faults' ≡ capped (capped (faults + w.host.faults) + one_if w.failed)
-      → Joining doors hall limit sources sinks old now' given rest back' faults'
-  joined old now now' given w rs rest back back' faults faults' gone i belongs orderly begins from own shares_are more total =
-      go i.left (subst (λ l. AllHome doors hall limit sources sinks i.left l) gone i.home) refl
+      → Joining recorders settlers doors hall limit first sources sinks old now' keeper' given rest back' faults'
+  joined old now now' keeper keeper' given w rs rest back back' faults faults' gone i belongs orderly begins from own shares_are ready goes others adds more total =
+      go i.left (subst (λ l. AllHome recorders settlers doors hall limit first sources sinks i.left l) gone i.home) refl
     where
-      go : (left : List D) → AllHome doors hall limit sources sinks left (w ∷ rest) → left ≡ i.left → Joining doors hall limit sources sinks old now' given rest back' faults'
+      later : (t : S) → settlers.goes_on t keeper' → (h : List Entry) → IsPrefix h (history now') → (r : Run D K)
+          → IsRunIn sources sinks recorders.first (KnowsKept recorders settlers t) (settlers.has_failed t) doors limit h r
+          → IsRunIn sources sinks recorders.first (KnowsKept recorders settlers keeper') (settlers.has_failed keeper') doors limit (history now') r
+      later t knows h p r = run_later sources sinks recorders.first (KnowsKept recorders settlers t) (KnowsKept recorders settlers keeper') (settlers.has_failed t) (settlers.has_failed keeper')
+          (λ x. laws.kept t keeper' (recorders.count_of x) knows) (laws.failed t keeper' knows) h (history now') p orderly.0 doors limit r
+
+      go : (left : List D) → AllHome recorders settlers doors hall limit first sources sinks left (w ∷ rest) → left ≡ i.left
+          → Joining recorders settlers doors hall limit first sources sinks old now' keeper' given rest back' faults'
       go [] h is = absurd h
       go (d ∷ ds) h is =
           let one = h.0 in
@@ -228,19 +318,32 @@ module _ {D K R : Type 0} (doors : door.Ghosts D K) (hall : Turnstile MemoryRoom
           let len : length rs ≡ length rest + 1 = ap length gone ∙ omega arith in
           let s = i.share in
           let s1 = one.share in
+          let k = i.keeper_left in
+          let lacks = k.shares.lacks in
           record {
             belongs = belongs;
             orderly = orderly;
             share = omega arith;
             begins = prefix-trans (history old) (history now) (history now') i.begins begins;
+            keeper_left = record {
+              ready = ready;
+              knows = laws.further first keeper keeper' k.knows goes;
+              shares = record {
+                all = k.shares.all;
+                left = k.shares.left + 1;
+                had = k.shares.had;
+                has = adds k.shares.left 1 k.shares.has one.keeper_share;
+                lacks = omega arith;
+              };
+            };
             left = ds;
             home = h.1;
             runs = i.runs ++ r ∷ [];
             before = ap (λ l. l ++ ds) (map-append (λ r. r.before) i.runs (r ∷ [])) ∙ append_assoc (map (λ r. r.before) i.runs) (d ∷ []) ds ∙ ap (λ l. map (λ r. r.before) i.runs ++ l) is ∙ i.before;
             after = map-append (λ r. r.after) i.runs (r ∷ []) ∙ ap (λ l. l ++ w.door ∷ []) i.after ∙ sym more;
-            served = all_snoc (IsRunIn doors sources sinks limit (history now')) i.runs r
-                (λ k d lt. run_later sources sinks doors limit (history now) (history now') _ (i.served k d lt) begins orderly.0)
-                (run_later sources sinks doors limit (history w.host.pass) (history now') r one.run from orderly.0);
+            served = all_snoc (IsRunIn sources sinks recorders.first (KnowsKept recorders settlers keeper') (settlers.has_failed keeper') doors limit (history now')) i.runs r
+                (λ k d lt. later keeper goes (history now) begins _ (i.served k d lt))
+                (later w.host.keeper others (history w.host.pass) from r one.run);
             total = total ∙ ap₂ (λ a b. capped (capped (a + w.host.faults) + b)) i.total (if_not _ w.failed one.failed)
                 ∙ ap (λ b. capped (capped (capped (faults_of doors i.runs) + b) + one_unless (doors.ended w.door))) one.faults
                 ∙ tally (faults_of doors i.runs) (faults_in one.connections) _ ∙ ap capped (sym (faults_snoc doors i.runs r));
@@ -248,17 +351,24 @@ module _ {D K R : Type 0} (doors : door.Ghosts D K) (hall : Turnstile MemoryRoom
                 let x = turns_snoc k i.runs r in omega arith;
           }
 
-  pub next_belongs : (left : List D) (rs rest : List (Worker D (MemoryHost R K))) (w : Worker D (MemoryHost R K)) → AllHome doors hall limit sources sinks left rs → rs ≡ w ∷ rest
-      → BelongsTo hall w.host.pass
-  next_belongs left rs rest w home is = go left (subst (λ l. AllHome doors hall limit sources sinks left l) is home)
-    where
-      go : (left : List D) → AllHome doors hall limit sources sinks left (w ∷ rest) → BelongsTo hall w.host.pass
-      go [] h = absurd h
-      go (d ∷ ds) h = h.0.belongs
+  -- what joining the next worker takes
+  pub record CanJoin (w : Worker D (SessionHost R K Q S)) : Type 0 where
+    pub belongs : BelongsTo hall w.host.pass
+    pub ready : settlers.ready w.host.keeper
+    pub knows : settlers.goes_on first w.host.keeper
 
-  pub all_served : (old now : Pass MemoryRoom Entry) (given : List D) (rs : List (Worker D (MemoryHost R K))) (back : List D) (faults : ℕ)
-      → Joining doors hall limit sources sinks old now given rs back faults → length rs ≡ 0 → ServedAll doors sources sinks limit old now given back faults
-  all_served old now given rs back faults i is = record {
+  pub next_joins : (left : List D) (rs rest : List (Worker D (SessionHost R K Q S))) (w : Worker D (SessionHost R K Q S)) → AllHome recorders settlers doors hall limit first sources sinks left rs → rs ≡ w ∷ rest
+      → CanJoin w
+  next_joins left rs rest w home is = go left (subst (λ l. AllHome recorders settlers doors hall limit first sources sinks left l) is home)
+    where
+      go : (left : List D) → AllHome recorders settlers doors hall limit first sources sinks left (w ∷ rest) → CanJoin w
+      go [] h = absurd h
+      go (d ∷ ds) h = record { belongs = h.0.belongs; ready = h.0.keeper_ready; knows = h.0.knows }
+
+  pub all_served : (old now : Pass (SharedRoom Q) Entry) (keeper : S) (given : List D) (rs : List (Worker D (SessionHost R K Q S))) (back : List D) (faults : ℕ)
+      → Joining recorders settlers doors hall limit first sources sinks old now keeper given rs back faults → length rs ≡ 0
+      → ServedAll sources sinks recorders.first (KnowsKept recorders settlers keeper) (settlers.has_failed keeper) doors limit old now given back faults
+  all_served old now keeper given rs back faults i is = record {
     runs = i.runs;
     before = go i.left rs i.home is i.before;
     after = i.after;
@@ -267,13 +377,18 @@ module _ {D K R : Type 0} (doors : door.Ghosts D K) (hall : Turnstile MemoryRoom
     own = i.own;
   }
     where
-      go : (left : List D) (rs : List (Worker D (MemoryHost R K))) → AllHome doors hall limit sources sinks left rs → length rs ≡ 0 → map (λ r. r.before) i.runs ++ left ≡ given
+      go : (left : List D) (rs : List (Worker D (SessionHost R K Q S))) → AllHome recorders settlers doors hall limit first sources sinks left rs → length rs ≡ 0 → map (λ r. r.before) i.runs ++ left ≡ given
           → map (λ r. r.before) i.runs ≡ given
       go [] rs h z e = sym (append-nil (map (λ r. r.before) i.runs)) ∙ e
       go (d ∷ ds) [] h z e = absurd h
       go (d ∷ ds) (w ∷ ws) h z e = absurd (omega (arith, z))
 
-  pub all_seen : (old now : Pass MemoryRoom Entry) (given : List D) (rs : List (Worker D (MemoryHost R K))) (back : List D) (faults : ℕ)
-      → Joining doors hall limit sources sinks old now given rs back faults → length rs ≡ 0 → Sees hall old now
-  all_seen old now given rs back faults i is =
+  pub all_seen : (old now : Pass (SharedRoom Q) Entry) (keeper : S) (given : List D) (rs : List (Worker D (SessionHost R K Q S))) (back : List D) (faults : ℕ)
+      → Joining recorders settlers doors hall limit first sources sinks old now keeper given rs back faults → length rs ≡ 0 → Sees recorders.first hall old now
+  all_seen old now keeper given rs back faults i is =
       let s = i.share in record { belongs = i.belongs; orderly = i.orderly; begins = i.begins; shares = omega arith }
+
+  -- all shares came back
+  pub all_back : (old now : Pass (SharedRoom Q) Entry) (keeper : S) (given : List D) (rs : List (Worker D (SessionHost R K Q S))) (back : List D) (faults : ℕ)
+      → Joining recorders settlers doors hall limit first sources sinks old now keeper given rs back faults → length rs ≡ 0 → GoesOnWithout settlers first keeper 0
+  all_back old now keeper given rs back faults i is = subst (GoesOnWithout settlers first keeper) is i.keeper_left

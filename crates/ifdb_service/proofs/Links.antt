@@ -1,6 +1,7 @@
 -- Connections that were served, in longer and longer histories.
-use Rattle.std.proofs.Common.{◌≡◌, ℕ, List, [], ◌∷◌, ◌++◌, ◌∙◌, refl, sym, subst}
+use Rattle.std.proofs.Common.{◌≡◌, ℕ, List, [], ◌∷◌, ◌++◌, ◌∙◌, refl, sym, subst, All}
 use Rattle.std.proofs.lemmas.List.{append-nil, append_cancel_left}
+use Rattle.std.proofs.lemmas.List.Elements.{All-weaker}
 use mathlib.Core.List.{IsPrefix}
 use Rattle.ifdb_io.specs.declared.outside.Source as source
 use Rattle.ifdb_io.specs.declared.outside.Sink as sink
@@ -13,16 +14,20 @@ use Rattle.ifdb_history.specs.declared.entry.Entry.{Entry}
 use Rattle.ifdb_history.specs.History.{HasRoot, AreEntriesOf, IsRight}
 use Rattle.ifdb_history.proofs.Flat.{root-append}
 use Rattle.ifdb_history.proofs.Entries.{entries_later}
-use Rattle.ifdb_db.specs.Reading.{read_line}
+use Rattle.ifdb_history.proofs.Over.{shut_on}
+use Rattle.ifdb_model.specs.Log.{Entry as LogEntry}
 use Rattle.ifdb_session.specs.declared.ending.Ending.{Ending}
 use Rattle.ifdb_session.specs.declared.ending.Ending.TheVariants as ends
-use Rattle.ifdb_session.specs.contracts.in_memory.InMemoryRecords.TheImpl as recording
-use Rattle.ifdb_session.specs.contracts.in_memory.InMemorySettles.TheImpl as waiting
+use Rattle.ifdb_session.specs.declared.host.SessionHost.{SessionHost}
+use Rattle.ifdb_session.specs.declared.records.Records as recorder
+use Rattle.ifdb_session.specs.declared.settles.Settles as settler
+use Rattle.ifdb_session.specs.Acknowledged.{Acknowledges, KnowsKept, sources_of}
 use Rattle.ifdb_session.specs.Hosts.{Serves}
 use Rattle.ifdb_session.specs.Links.{Served, Span}
+use Rattle.ifdb_session.specs.Starts.{start_of}
 use Rattle.ifdb_session.proofs.Serving.{served_later}
+use Rattle.ifdb_session.proofs.Sources.{sources_later}
 use Rattle.ifdb_service.specs.Doors.{Connection, Run, AreTurnsOf, IsLinked, AllLinked, IsRunIn}
-use Rattle.ifdb_service.specs.Workers.{MemoryHost}
 
 is_memory : (ending : Ending) → Dec (ending ≡ ends.OutOfMemory)
 is_memory ends.Bye = no (λ e. cc)
@@ -40,20 +45,42 @@ turns_later n h k (place ∷ rest) t p =
     (subst (λ l. HasRoot l n place) p.1 (root-append h p.0 n place t.0), entries_later n h k (place ∷ rest) p t.1)
 
 -- the turns that a session of a link took are what the pass has got
-turns_are : {X : Type 0} (ending : Ending) (limit n : ℕ) (old new : Pass X Entry) (s : Span) (one : Served ending limit n old new s)
+turns_are : {X : Type 0} (first : List LogEntry) (ending : Ending) (limit n : ℕ) (old new : Pass X Entry) (s : Span) (one : Served first ending limit n old new s)
     → AreTurnsOf n (history new) (one.place ∷ one.rest)
-turns_are ending limit n old new s one =
+turns_are first ending limit n old new s one =
     (one.first, subst (AreEntriesOf n (history new)) (append_cancel_left (places old) _ _ (sym one.adds.own ∙ one.own)) one.adds.of)
 
-module _ {K : Type 0} (sources : source.Ghosts K) (sinks : sink.Ghosts K) where
+-- what is known to be kept is known by whoever knows more
+acknowledges_wider : (ending : Ending) (P P' : List (List ℕ) → Type 0) (xs : List (List (List ℕ))) → ((x : List (List ℕ)) → P x → P' x) → Acknowledges ending P xs → Acknowledges ending P' xs
+acknowledges_wider ends.Unkept P P' xs wider all = (all.0, all.1, all.2.0, All-weaker P P' wider all.0 all.2.1)
+acknowledges_wider ends.Bye P P' xs wider all = All-weaker P P' wider xs all
+acknowledges_wider ends.End P P' xs wider all = All-weaker P P' wider xs all
+acknowledges_wider ends.LinkRead P P' xs wider all = All-weaker P P' wider xs all
+acknowledges_wider ends.LinkWrite P P' xs wider all = All-weaker P P' wider xs all
+acknowledges_wider ends.TooMuch P P' xs wider all = All-weaker P P' wider xs all
+acknowledges_wider ends.TooLong P P' xs wider all = All-weaker P P' wider xs all
+acknowledges_wider ends.OutOfMemory P P' xs wider all = All-weaker P P' wider xs all
+
+-- the laws of what a thread waits by
+pub record Laws {Q S : Type 0} (settlers : settler.Ghosts S Q) : Type 0 where
+  pub itself : (s : S) → settlers.goes_on s s
+  pub further : (r s t : S) → settlers.goes_on r s → settlers.goes_on s t → settlers.goes_on r t
+  pub kept : (s t : S) (n : ℕ) → settlers.goes_on s t → settlers.is_kept s n → settlers.is_kept t n
+  pub failed : (s t : S) → settlers.goes_on s t → settlers.has_failed s → settlers.has_failed t
+
+module _ {K Q S : Type 0} (sources : source.Ghosts K) (sinks : sink.Ghosts K) (recorders : recorder.Ghosts Q) (settlers : settler.Ghosts S Q) where
+  -- a connection was served so, by what a keeper knows
+  abbrev pub IsLinkedBy : S → ℕ → List Entry → Visit K → Connection → Type 0
+  IsLinkedBy keeper = IsLinked sources sinks recorders.first (KnowsKept recorders settlers keeper) (settlers.has_failed keeper)
+
   -- what a host did with one connection, by the turns that its pass has got
-  pub record Linked1 {R : Type 0} (a m : MemoryHost R K) (v : Visit K) (ending : Ending) : Type 0 where
+  pub record Linked1 {R : Type 0} (a m : SessionHost R K Q S) (v : Visit K) (ending : Ending) : Type 0 where
     pub connection : Connection
     pub same : connection.ending ≡ ending
-    pub linked : IsLinked sources sinks a.limit (history m.pass) v connection
+    pub linked : IsLinkedBy m.keeper a.limit (history m.pass) v connection
     pub own : places m.pass ≡ places a.pass ++ connection.turns
 
-  pub linked1 : {R : Type 0} (a m : MemoryHost R K) (v : Visit K) (s : Serves sources sinks recording.ghosts waiting.ghosts a v.came m v.went)
+  pub linked1 : {R : Type 0} (a m : SessionHost R K Q S) (v : Visit K) (s : Serves sources sinks recorders settlers a v.came m v.went)
       → Linked1 a m v s.service.ending
   linked1 {R} a m v s = by (is_memory s.service.ending) where
     by : Dec (s.service.ending ≡ ends.OutOfMemory) → Linked1 {R = R} a m v s.service.ending
@@ -63,10 +90,11 @@ module _ {K : Type 0} (sources : source.Ghosts K) (sinks : sink.Ghosts K) where
       linked = record {
         served = λ opened. absurd (opened none);
         turns = λ opened. absurd (opened none);
+        acknowledged = s.acknowledged;
         unserved = s.unserved;
         unopened = λ _. refl;
         causes = s.causes;
-        kept = s.unkept;
+        unkept = s.unkept;
       };
       own = s.unopened none ∙ sym (append-nil (places a.pass));
     }
@@ -76,39 +104,49 @@ module _ {K : Type 0} (sources : source.Ghosts K) (sinks : sink.Ghosts K) where
           same = refl;
           linked = record {
             served = λ _. one.served;
-            turns = λ _. turns_are s.service.ending a.limit s.service.number a.pass m.pass _ one;
+            turns = λ _. turns_are recorders.first s.service.ending a.limit s.service.number a.pass m.pass _ one;
+            acknowledged = s.acknowledged;
             unserved = s.unserved;
             unopened = λ none. absurd (opened none);
             causes = s.causes;
-            kept = s.unkept;
+            unkept = s.unkept;
           };
           own = one.own;
         }
 
-  linked_later : (limit : ℕ) (h k : List Entry) (v : Visit K) (c : Connection) → IsLinked sources sinks limit h v c → IsPrefix h k
-      → AllRight (IsRight read_line) k → IsLinked sources sinks limit k v c
-  linked_later limit h k v c l p right = record {
-    served = λ opened. served_later c.ending limit c.number h k _ (l.served opened) p right;
+-- what was said of connections still holds in a longer history, and by whoever knows more
+module _ {K : Type 0} (sources : source.Ghosts K) (sinks : sink.Ghosts K) (first : List LogEntry) (IsKept IsKept' : List (List ℕ) → Type 0) (HasFailed HasFailed' : Type 0)
+    (kept : (texts : List (List ℕ)) → IsKept texts → IsKept' texts) (failed : HasFailed → HasFailed') (h k : List Entry) (p : IsPrefix h k) (right : AllRight (IsRight (start_of first)) k) where
+  acknowledged_later : (ending : Ending) (n : ℕ) → sources_of first n k ≡ sources_of first n h → Acknowledges ending IsKept (sources_of first n h)
+      → Acknowledges ending IsKept' (sources_of first n k)
+  acknowledged_later ending n same all =
+      subst (Acknowledges ending IsKept') (sym same) (acknowledges_wider ending IsKept IsKept' (sources_of first n h) kept all)
+
+  linked_later : (limit : ℕ) (v : Visit K) (c : Connection) → IsLinked sources sinks first IsKept HasFailed limit h v c → IsLinked sources sinks first IsKept' HasFailed' limit k v c
+  linked_later limit v c l = record {
+    served = λ opened. served_later first c.ending limit c.number h k _ (l.served opened) p right;
     turns = λ opened. turns_later c.number h k c.turns (l.turns opened) p;
+    acknowledged = λ opened. acknowledged_later c.ending c.number
+        (sources_later first c.number h k p (shut_on (start_of first) c.number h k (l.served opened).0 p right).1) (l.acknowledged opened);
     unserved = l.unserved;
     unopened = l.unopened;
     causes = l.causes;
-    kept = l.kept;
+    unkept = λ held. failed (l.unkept held);
   }
 
-  pub all_later : (limit : ℕ) (h k : List Entry) (vs : List (Visit K)) (cs : List Connection) → AllLinked sources sinks limit h vs cs → IsPrefix h k
-      → AllRight (IsRight read_line) k → AllLinked sources sinks limit k vs cs
-  all_later limit h k [] [] l p right = tt
-  all_later limit h k [] (c ∷ cs) l p right = absurd l
-  all_later limit h k (v ∷ vs) [] l p right = absurd l
-  all_later limit h k (v ∷ vs) (c ∷ cs) l p right = (linked_later limit h k v c l.0 p right, all_later limit h k vs cs l.1 p right)
+  pub all_later : (limit : ℕ) (vs : List (Visit K)) (cs : List Connection) → AllLinked sources sinks first IsKept HasFailed limit h vs cs
+      → AllLinked sources sinks first IsKept' HasFailed' limit k vs cs
+  all_later limit [] [] l = tt
+  all_later limit [] (c ∷ cs) l = absurd l
+  all_later limit (v ∷ vs) [] l = absurd l
+  all_later limit (v ∷ vs) (c ∷ cs) l = (linked_later limit v c l.0, all_later limit vs cs l.1)
 
-  pub run_later : {D : Type 0} (doors : door.Ghosts D K) (limit : ℕ) (h k : List Entry) (r : Run D K) → IsRunIn doors sources sinks limit h r
-      → IsPrefix h k → AllRight (IsRight read_line) k → IsRunIn doors sources sinks limit k r
-  run_later doors limit h k r i p right = record {
+  pub run_later : {D : Type 0} (doors : door.Ghosts D K) (limit : ℕ) (r : Run D K) → IsRunIn sources sinks first IsKept HasFailed doors limit h r
+      → IsRunIn sources sinks first IsKept' HasFailed' doors limit k r
+  run_later doors limit r i = record {
     coming = i.coming;
     back = i.back;
-    linked = all_later limit h k r.visits r.connections i.linked p right;
+    linked = all_later limit r.visits r.connections i.linked;
     all = i.all;
     cause = i.cause;
   }

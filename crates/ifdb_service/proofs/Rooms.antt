@@ -1,4 +1,5 @@
 -- That a room may go to another thread, type by type: the checker's own search gives up on types that hold themselves.
+use denote.RattleType.{RattleType}
 use denote.Param.Send.{IsSend, IsSync, AllSend, AllSync, struct_send, struct_sync, recorded_send, recorded_sync, view_send, view_sync, sendable}
 use denote.Struct.Declared.{shape}
 use Rattle.std.proofs.Crossing.{Vec-send, Vec-sync, Arc-send}
@@ -23,7 +24,6 @@ use Rattle.ifdb_db.specs.contracts.db.Db as db
 use Rattle.ifdb_db.specs.contracts.db.Db.TheInside as in_db
 use Rattle.ifdb_db.specs.contracts.room.Room as room
 use Rattle.ifdb_db.specs.contracts.room.Room.TheInside as in_room
-use Rattle.ifdb_session.specs.contracts.in_memory.InMemory as in_memory
 use Rattle.ifdb_session.specs.contracts.shared.SharedRoom as shared_room
 
 -- what is held of a catalog, field by field
@@ -67,10 +67,10 @@ room_send : IsSend db.the_row → IsSend session.the_row → IsSend room.the_row
 room_send d s = view_send _ _ _ _ _ (recorded_send in_room.the_field.row _ _ in_room.the_type.to_one
     (struct_send (shape in_room.the_type) (heap.the_field_send, (d, (Vec-send session.the_row s, tt)))))
 
-pub shared_room_send : CatalogSends → CatalogSyncs → IsSend store.the_row → IsSend content.the_row → IsSend (shared_room.the_row in_memory.the_row)
-shared_room_send sends syncs s c =
+pub shared_room_send : (Q : RattleType) → CatalogSends → CatalogSyncs → IsSend store.the_row → IsSend content.the_row → IsSend Q → IsSend (shared_room.the_row Q)
+shared_room_send Q sends syncs s c q =
     let state = shared_state_send (public_send (catalog_send sends)) (public_sync (catalog_sync syncs)) in
     let r = room_send (db_send state s) (session_send (txn_send state c)) in
-    recorded_send (shared_room.the_field in_memory.the_row).row _ _ (shared_room.the_type in_memory.the_row).to_one
-    (struct_send (shape (shared_room.the_type in_memory.the_row))
+    recorded_send (shared_room.the_field Q).row _ _ (shared_room.the_type Q).to_one
+    (struct_send (shape (shared_room.the_type Q))
     (r, (search sendable depth 30, (search sendable depth 30, (search sendable depth 30, (search sendable depth 30, tt))))))

@@ -1,6 +1,5 @@
 // That a room may go to another thread.
 ghost use Rattle.std.specs.Thread.{IsSend, IsSync};
-ghost use Rattle.ifdb_session.specs.contracts.in_memory.InMemory as in_memory;
 ghost use Rattle.ifdb_session.specs.contracts.shared.SharedRoom as room;
 
 use ifdb_bound::{Schema, ViewDef};
@@ -10,9 +9,10 @@ use ifdb_value::Name;
 use indexmap::{IndexMap, IndexSet};
 use std::marker::{Send, Sync};
 
-/// A room may go to another thread. Does nothing: the checker finds it of the parts that hold themselves, and not of the whole.
-pub(crate) fn room_crosses()
-    ensures { IsSend (room.the_row in_memory.the_row) }
+/// A room may go to another thread, if what records its entries may. Does nothing: the checker finds it of the parts that hold
+/// themselves, and not of the whole.
+pub(crate) fn room_crosses<Q: Send>()
+    ensures { IsSend (room.the_row Q.row) }
 {
     sends::<IndexMap<Name, Credentials>>();
     sends::<IndexSet<Name>>();

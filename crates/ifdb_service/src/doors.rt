@@ -2,14 +2,16 @@
 ghost use Rattle.std.specs.Prelude.{◌≡◌, ◌<◌, ◌≤◌, ◌^◌, All, IfErr, IfOk, vec_len};
 ghost use Rattle.ifdb_turn.specs.Passes.{shares, BelongsTo, IsOrderly};
 ghost use Rattle.ifdb_history.specs.History.{IsRight};
-ghost use Rattle.ifdb_db.specs.Reading.{read_line};
+ghost use Rattle.ifdb_session.specs.Acknowledged.{KnowsKept};
 ghost use Rattle.ifdb_session.specs.Passes.{Sees};
+ghost use Rattle.ifdb_session.specs.Starts.{start_of};
 ghost use Rattle.ifdb_service.specs.Doors.{ServedAll};
+ghost use Rattle.ifdb_service.specs.Workers.{GoesOnWithout, HasMore};
 
-use crate::workers::{MemoryRoom, hire, more_faults, send};
+use crate::workers::{hire, more_faults, send};
 use ifdb_io::Door;
 use ifdb_pool::Worker;
-use ifdb_session::SessionHost;
+use ifdb_session::{Records, SessionHost, Settles, SharedRoom};
 use ifdb_turn::{Pass, Turnstile};
 use std::alloc::Global;
 use std::sync::Wait;
@@ -32,26 +34,38 @@ pub struct Unserved<D> {
 }
 
 /// Serves all connections of all doors, each door in a thread of its own, each connection by a session of the shared room, and
-/// returns when the last door is at its end or has failed. Each connection may send so many bytes. The pass needs more shares
-/// than there are doors, and has its shares again afterwards.
+/// returns when the last door is at its end or has failed. Each connection may send so many bytes. What its replies are answered
+/// from is kept before they are written, by the keeper. Pass and keeper need more shares than there are doors, and have their
+/// shares again afterwards; the keeper then knows what all workers were told.
 ///
 /// Takes the memory for the workers before any connection is taken; `Unserved` is want of it.
-pub fn serve_doors<R: Threads + Wait + Sync, D: Door + Send + Drop>(
+pub fn serve_doors<
+    R: Threads + Wait + Sync,
+    D: Door + Send + Drop,
+    Q: Records + Send,
+    S: Settles<Q> + Send + Drop,
+>(
     rt: &R,
     alloc: Global,
-    hall: &Turnstile<MemoryRoom>,
-    pass: &mut Pass<MemoryRoom>,
+    hall: &Turnstile<SharedRoom<Q>>,
+    pass: &mut Pass<SharedRoom<Q>>,
+    keeper: &mut S,
     doors: Vec<D>,
     limit: u64,
 ) -> Result<Ended<D>, Unserved<D>>
     requires pass { BelongsTo hall.now pass.old }
-    requires orderly { IsOrderly (IsRight read_line) pass.old }
+    requires orderly { IsOrderly (IsRight (start_of Q.first)) pass.old }
     requires shares { vec_len doors < shares pass.old }
+    requires keeper { S.Settles.ready keeper.old }
+    requires keeper_shares { HasMore S.Settles keeper.old (vec_len doors) }
     requires most { All (λ door. D.most door < 2 ^ 64) doors.items }
     requires limit { limit ≤ 2 ^ 40 }
-    ensures sees { Sees hall.now pass.old pass.new }
-    ensures unserved { IfErr result (λ e. (e.doors ≡ doors) × (pass.new ≡ pass.old)) }
-    ensures ended { IfOk result (λ e. ServedAll D.Door D.Link.Source D.Link.Sink limit
+    ensures sees { Sees Q.first hall.now pass.old pass.new }
+    ensures keeper { GoesOnWithout S.Settles keeper.old keeper.new 0 }
+    ensures unserved { IfErr result (λ e. (e.doors ≡ doors) × (pass.new ≡ pass.old)
+        × (keeper.new ≡ keeper.old)) }
+    ensures ended { IfOk result (λ e. ServedAll D.Link.Source D.Link.Sink Q.first
+        (KnowsKept Q.Records S.Settles keeper.new) (S.Settles.has_failed keeper.new) D.Door limit
         pass.old pass.new doors.items e.doors.items e.faults) }
 {
     let Ok(mut workers) = Vec::with_capacity(alloc, doors.len()) else {
@@ -60,7 +74,7 @@ pub fn serve_doors<R: Threads + Wait + Sync, D: Door + Send + Drop>(
     let Ok(mut back) = Vec::with_capacity(alloc, doors.len()) else {
         return Err(Unserved { doors });
     };
-    hire(rt, alloc, hall, pass, doors, limit, &mut workers);
+    hire(rt, alloc, hall, pass, keeper, doors, limit, &mut workers);
     send(rt, hall, limit, &mut workers);
     let mut faults = 0;
     for worker in workers {
@@ -72,10 +86,12 @@ pub fn serve_doors<R: Threads + Wait + Sync, D: Door + Send + Drop>(
         } = worker;
         let SessionHost {
             pass: own,
+            keeper: own_keeper,
             faults: bad,
             ..
         } = host;
         hall.join_pass(pass, own);
+        keeper.join(own_keeper);
         faults = more_faults(faults, bad, failed);
         let _ = back.push(door);
     }

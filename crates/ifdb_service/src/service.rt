@@ -1,5 +1,5 @@
 // The service of a site, from its doors to its summary.
-ghost use Rattle.std.specs.Prelude.{◌≡◌, ◌≤◌, IfOk};
+ghost use Rattle.std.specs.Prelude.{◌≡◌, ◌≤◌, [], IfOk};
 ghost use Rattle.ifdb_io.specs.Causes.{Rose};
 ghost use Rattle.ifdb_words.specs.Ranges.{IsService};
 ghost use Rattle.ifdb_service.specs.Site.{GivesNone, IsCut, IsDone, IsNewHall, IsUnserved};
@@ -8,7 +8,6 @@ use crate::ServiceEnd;
 use crate::doors::{Ended, Unserved, serve_doors};
 use crate::numbered_line::write_numbered;
 use crate::summary::write_summary;
-use crate::workers::MemoryRoom;
 use ifdb_io::{Failed, Sink, Site, SiteFault};
 use ifdb_session::{InMemory, OutOfMemory, SharedRoom};
 use ifdb_turn::{Pass, Turnstile};
@@ -16,6 +15,9 @@ use ifdb_words::Service;
 use std::alloc::Global;
 use std::sync::Wait;
 use std::thread::Threads;
+
+// A room that stands in memory alone.
+type MemoryRoom = SharedRoom<InMemory>;
 
 /// Serves the connections of a site: takes as many doors as the words ask for, says at which port on a line, serves each door in
 /// a thread of its own over one new room, and writes six lines about what was done. The doors go back to the site at every end.
@@ -60,7 +62,16 @@ pub fn serve<R: Threads + Wait + Sync, W: Sink, S: Site>(
         site.close(doors);
         return ServiceEnd::WriteFault;
     }
-    match serve_doors(rt, alloc, &hall, &mut pass, doors, service.limit) {
+    let mut keeper = InMemory;
+    match serve_doors(
+        rt,
+        alloc,
+        &hall,
+        &mut pass,
+        &mut keeper,
+        doors,
+        service.limit,
+    ) {
         Err(Unserved { doors }) => {
             hall.close(pass);
             site.close(doors);
@@ -79,7 +90,7 @@ pub fn serve<R: Threads + Wait + Sync, W: Sink, S: Site>(
 
 /// A turnstile round a new room, and its first pass.
 fn open_hall(alloc: Global) -> Result<(Turnstile<MemoryRoom>, Pass<MemoryRoom>), OutOfMemory>
-    ensures { IfOk result (λ t. IsNewHall t.0 t.1) }
+    ensures { IfOk result (λ t. IsNewHall [] t.0 t.1) }
 {
     match Turnstile::new(alloc, SharedRoom::opening(alloc, InMemory)?) {
         Ok(hall) => Ok(hall),

@@ -4,20 +4,23 @@ use Rattle.std.specs.Prelude.{nat_le, option_and_then, option_map, Result, Ok, E
 use Rattle.std.specs.Str.{bytes_eq}
 use Rattle.std.proofs.lemmas.Bool.Decides.{nat_tests}
 use Rattle.ifdb_words.specs.declared.command.Command.{Command}
-use Rattle.ifdb_words.specs.declared.command.Command.TheVariants.{Run}
+use Rattle.ifdb_words.specs.declared.command.Command.TheVariants.{Run, Serve}
+use Rattle.ifdb_words.specs.declared.host.Hosting.{Hosting}
 use Rattle.ifdb_words.specs.declared.keep.Keep.{Keep}
 use Rattle.ifdb_words.specs.declared.project.Project.{Project}
+use Rattle.ifdb_words.specs.declared.service.Service.{Service}
 use Rattle.ifdb_words.specs.FileName.{file_name_of}
 use Rattle.ifdb_words.specs.Generate.{counts_for, generation_in, is_flag, script_for, size_of}
+use Rattle.ifdb_words.specs.Host.{host_in, host_names, host_of, host_with}
 use Rattle.ifdb_words.specs.Keep.{keep_in, keep_names, keep_of, keep_with}
 use Rattle.ifdb_words.specs.Level.{level_of}
 use Rattle.ifdb_words.specs.Limit.{limit_in, limit_names, limit_of}
 use Rattle.ifdb_words.specs.Numbers.{up_to, needed_to, number_of, number_or, number_to}
 use Rattle.ifdb_words.specs.Options.{Use, uses_of, values_of}
 use Rattle.ifdb_words.specs.Project.{project_in, project_names, project_of, project_with}
-use Rattle.ifdb_words.specs.Ranges.{IsLimit, IsWithin}
+use Rattle.ifdb_words.specs.Ranges.{IsLimit, IsService, IsWithin}
 use Rattle.ifdb_words.specs.Run.{run_in}
-use Rattle.ifdb_words.specs.Serve.{links_of, port_of, serve_in, serve_names, serve_of, serve_with, workers_of}
+use Rattle.ifdb_words.specs.Serve.{links_of, port_of, serve_in, serve_names, serve_of, service_of, service_with, workers_of}
 use Rattle.ifdb_words.specs.Words.{command_in}
 use Rattle.ifdb_words.proofs.Basics.{none_some, some_is}
 
@@ -115,10 +118,10 @@ pub keep_in_range : {E : Type 0} (words : List (List ℕ)) (r : Result (Option K
 keep_in_range words (Ok k) is = subst (λ (k : Option Keep). IfSome k KeepsWithin) (sym is) (keep_words (uses_of keep_names words))
 keep_in_range words (Err e) is = tt
 
-serve_values : (values : List ℕ → Option (List ℕ)) → IsWithin (serve_of values)
-serve_values values = go (port_of values) (workers_of values) (links_of values) (limit_of values) refl refl refl refl
+service_values : (values : List ℕ → Option (List ℕ)) → IfSome (service_of values) IsService
+service_values values = go (port_of values) (workers_of values) (links_of values) (limit_of values) refl refl refl refl
   where
-    go : (p w l i : Option ℕ) → port_of values ≡ p → workers_of values ≡ w → links_of values ≡ l → limit_of values ≡ i → IsWithin (serve_with p w l i)
+    go : (p w l i : Option ℕ) → port_of values ≡ p → workers_of values ≡ w → links_of values ≡ l → limit_of values ≡ i → IfSome (service_with p w l i) IsService
     go None w l i ep ew el ei = tt
     go (Some p) None l i ep ew el ei = tt
     go (Some p) (Some w) None i ep ew el ei = tt
@@ -129,6 +132,33 @@ serve_values values = go (port_of values) (workers_of values) (links_of values) 
       links = default_in 1000000 1000000 (values (codes "links")) l (omega arith, omega arith) el;
       limit = limit_within values i ei;
     }
+
+serve_values : (values : List ℕ → Option (List ℕ)) → IsWithin (serve_of values)
+serve_values values = go (service_of values) (service_values values)
+  where
+    go : (service : Option Service) → IfSome service IsService → IsWithin (option_map Serve service)
+    go None within = tt
+    go (Some s) within = within
+
+abbrev HasService : Hosting → Type 0
+HasService h = IsService h.service
+
+host_values : (values : List ℕ → Option (List ℕ)) → IfSome (host_of values) HasService
+host_values values = go (option_and_then file_name_of (values (codes "file"))) (service_of values) (service_values values)
+  where
+    go : (file : Option (List ℕ)) (service : Option Service) → IfSome service IsService → IfSome (host_with file service) HasService
+    go None service within = tt
+    go (Some file) None within = tt
+    go (Some file) (Some service) within = within
+
+host_words : (uses : Option (List Use)) → IfSome (option_and_then (λ (uses : List Use). host_of (values_of uses)) uses) HasService
+host_words None = tt
+host_words (Some uses) = host_values (values_of uses)
+
+pub host_in_range : {E : Type 0} (words : List (List ℕ)) (r : Result (Option Hosting) E) → IfOk r (λ h. h ≡ host_in words)
+    → IfOk r (λ h. IfSome h (λ h. IsService h.service))
+host_in_range words (Ok h) is = subst (λ (h : Option Hosting). IfSome h HasService) (sym is) (host_words (uses_of host_names words))
+host_in_range words (Err e) is = tt
 
 -- what is asked for by the uses that were read
 by_uses : (of_values : (List ℕ → Option (List ℕ)) → Option Command) (uses : Option (List Use)) → ((values : List ℕ → Option (List ℕ)) → IsWithin (of_values values))

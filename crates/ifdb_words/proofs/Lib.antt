@@ -6,6 +6,7 @@ mod Ends
 mod Faults
 mod GoodWord
 mod Held
+mod HostOptions
 mod InRange
 mod KeepOptions
 mod Levels

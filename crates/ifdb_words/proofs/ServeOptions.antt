@@ -7,12 +7,14 @@ use Rattle.clap.specs.Simple.{Shape}
 use Rattle.clap.specs.declared.parser.matches.ArgMatches.{ArgMatches}
 use Rattle.clap.proofs.OnLiterals.{clap_on_literals}
 use Rattle.clap.proofs.FaultLemmas.{leaf_fault}
+use Rattle.std.specs.Prelude.{option_map}
 use Rattle.ifdb_words.specs.declared.command.Command.{Command}
+use Rattle.ifdb_words.specs.declared.command.Command.TheVariants.{Serve}
 use Rattle.ifdb_words.specs.Clap.{IsTaken, serve_app}
 use Rattle.ifdb_words.specs.Options.{Use, value_of, values_of}
 use Rattle.ifdb_words.specs.Numbers.{needed_to}
 use Rattle.ifdb_words.specs.Limit.{limit_of}
-use Rattle.ifdb_words.specs.Serve.{links_of, serve_in, serve_of, serve_with, workers_of}
+use Rattle.ifdb_words.specs.Serve.{links_of, serve_in, serve_of, service_with, workers_of}
 use Rattle.ifdb_words.proofs.Held.{shape}
 use Rattle.ifdb_words.proofs.Values.{serve_same}
 use Rattle.ifdb_words.proofs.Reader.{lacks}
@@ -55,7 +57,7 @@ without : (uses : List Use) → lacks options uses ≡ true → serve_of (values
 without uses lacking = go (value_of (codes "port") uses) (left_out (codes "port") uses lacking)
   where
     go : (port : Option Text) → port ≡ None
-        → serve_with (needed_to 65535 port) (workers_of (values_of uses)) (links_of (values_of uses)) (limit_of (values_of uses)) ≡ None
+        → option_map Serve (service_with (needed_to 65535 port) (workers_of (values_of uses)) (links_of (values_of uses)) (limit_of (values_of uses))) ≡ None
     go None none = refl
     go (Some text) none = absurd (true≢false (ap (λ (o : Option Text). is_some o) none))
 

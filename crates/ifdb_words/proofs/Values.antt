@@ -1,5 +1,6 @@
 -- Commands go by the values of their options alone.
 use Rattle.std.proofs.Common.{◌≡◌, refl, ℕ, List, Option, codes}
+use Rattle.ifdb_words.specs.Host.{host_of}
 use Rattle.ifdb_words.specs.Keep.{keep_of}
 use Rattle.ifdb_words.specs.Limit.{limit_of}
 use Rattle.ifdb_words.specs.Project.{project_of}
@@ -13,6 +14,9 @@ limit_same v w same = rw (same (codes "limit")) refl
 
 pub keep_same : (v w : Values) → ((name : List ℕ) → v name ≡ w name) → keep_of v ≡ keep_of w
 keep_same v w same = rw (same (codes "file"), same (codes "limit")) refl
+
+pub host_same : (v w : Values) → ((name : List ℕ) → v name ≡ w name) → host_of v ≡ host_of w
+host_same v w same = rw (same (codes "file"), same (codes "port"), same (codes "workers"), same (codes "links"), same (codes "limit")) refl
 
 pub project_same : (v w : Values) → ((name : List ℕ) → v name ≡ w name) → project_of v ≡ project_of w
 project_same v w same = rw (same (codes "tags"), same (codes "limit")) refl

@@ -24,6 +24,10 @@ abbrev pub serve_app : App
 serve_app = with_rule (with_rule (with_rule (with_rule (bare_app (codes "serve")) (option_of (codes "port") true))
     (option_of (codes "workers") false)) (option_of (codes "links") false)) (option_of (codes "limit") false)
 
+abbrev pub host_app : App
+host_app = with_rule (with_rule (with_rule (with_rule (with_rule (bare_app (codes "host")) (option_of (codes "file") true))
+    (option_of (codes "port") true)) (option_of (codes "workers") false)) (option_of (codes "links") false)) (option_of (codes "limit") false)
+
 abbrev pub project_app : App
 project_app = with_rule (with_rule (bare_app (codes "project")) (option_of (codes "tags") true)) (option_of (codes "limit") false)
 

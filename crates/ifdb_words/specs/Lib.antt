@@ -2,6 +2,7 @@ pub mod Clap
 pub mod FileName
 pub mod First
 pub mod Generate
+pub mod Host
 pub mod Keep
 pub mod Level
 pub mod Limit

@@ -4,6 +4,7 @@
 mod command;
 mod file_name;
 mod generate;
+mod host;
 mod keep;
 mod level;
 mod limit;
@@ -16,6 +17,7 @@ mod service;
 
 pub use command::{Command, Text, command_of};
 pub use file_name::FileName;
+pub use host::{Hosting, host_in};
 pub use keep::{Keep, keep_in};
 pub use level::Level;
 pub use limit::limit_in;

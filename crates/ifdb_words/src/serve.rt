@@ -2,7 +2,7 @@
 ghost use Rattle.std.specs.Prelude.{◌≡◌, IfOk, map, string_bytes};
 ghost use Rattle.clap.specs.Words.{app_of, found_of, first_value};
 ghost use Rattle.ifdb_words.specs.Clap.{serve_app};
-ghost use Rattle.ifdb_words.specs.Serve.{port_of, serve_in, serve_of, workers_of};
+ghost use Rattle.ifdb_words.specs.Serve.{port_of, serve_in, serve_of, service_of, workers_of};
 
 use crate::command::Command;
 use crate::limit::limit_of;
@@ -39,16 +39,23 @@ pub fn serve_in(alloc: Global, words: &[String]) -> Result<Option<Command>, OutO
 fn serve_of(matches: &ArgMatches) -> Option<Command>
     ensures { result ≡ serve_of (first_value (found_of matches.now)) }
 {
+    Some(Command::Serve(service_of(matches)?))
+}
+
+/// The service that the values of the options ask for.
+pub fn service_of(matches: &ArgMatches) -> Option<Service>
+    ensures { result ≡ service_of (first_value (found_of matches.now)) }
+{
     let port = port_of(matches)?;
     let workers = workers_of(matches)?;
     let links = number_or(MOST_LINKS, MOST_LINKS, matches.get_str("links"))?;
     let limit = limit_of(matches)?;
-    Some(Command::Serve(Service {
+    Some(Service {
         port,
         workers,
         links,
         limit,
-    }))
+    })
 }
 
 /// The port.

@@ -5,7 +5,7 @@ use Rattle.ifdb_service.proofs.Rooms.{CatalogSends, CatalogSyncs, shared_room_se
 use Rattle.ifdb_service.proofs.crossing.room_crosses.Goals as goal
 
 pub returns : goal.returns
-returns c =
+returns g c =
     let sends : CatalogSends = (
       heap.the_field_send,
       (
@@ -44,4 +44,4 @@ returns c =
         ),
       ),
     ) in
-    shared_room_send sends syncs (record { owned = c.sends-5.ensures.owned; leaving = λ k x w. tt }) (record { owned = c.sends-6.ensures.owned; leaving = λ k x w. tt })
+    shared_room_send _ sends syncs (record { owned = c.sends-5.ensures.owned; leaving = λ k x w. tt }) (record { owned = c.sends-6.ensures.owned; leaving = λ k x w. tt }) c.type_bounds.send-Q

@@ -1,37 +1,69 @@
 use Rattle.std.proofs.Common.{rules, refl, ◌≡◌, ◌∷◌, [], ◌++◌, ◌+◌, ◌∙◌, ap, length, length-append, arith}
-use Rattle.ifdb_service.proofs.Crew.{sent, joined, next_belongs, all_served, all_seen}
+use Rattle.ifdb_service.specs.Workers.{GoesOnWithout}
+use Rattle.ifdb_service.proofs.Crew.{sent, joined, next_joins, all_served, all_seen, all_back}
+use Rattle.ifdb_service.proofs.Links.{Laws}
 use Rattle.ifdb_service.proofs.doors.serve_doors.Goals as goal
+
+pub send-requires : goal.send-requires
+send-requires g c κs within = (c.args.keeper.now, c.hire.ensures.fresh)
 
 pub loop-worker-init : goal.loop-worker-init
 loop-worker-init g c =
+    let laws : Laws g.S.Settles = record { itself = g.met.S.Settles.goes_itself; further = g.met.S.Settles.goes_further; kept = g.met.S.Settles.stays_kept; failed = g.met.S.Settles.stays_failed } in
     let e = c.hire.ensures in
-    let j = sent g.D.Door c.args.hall.now c.args.limit g.D.Link.Source g.D.Link.Sink c.args.pass.now c.hire.new.pass c.args.doors.items _ c.hire.new.workers.items c.send.new.workers.items c.into_iter-worker-iterator.result.rest.items c.in-Ok-with_capacity.back.items
-    e.pass c.requires.orderly (search rules) e.history e.places e.doors e.fresh refl c.send.ensures (search rules) (search rules) in
+    let j = sent g.Q.Records g.S.Settles g.D.Door c.args.hall.now c.args.limit c.args.keeper.now g.D.Link.Source g.D.Link.Sink laws c.args.pass.now c.hire.new.pass c.hire.new.keeper c.args.doors.items _ c.hire.new.workers.items c.send.new.workers.items c.into_iter-worker-iterator.result.rest.items c.in-Ok-with_capacity.back.items
+    e.pass c.requires.orderly (search rules) e.history e.places e.keeper e.doors e.fresh refl c.send.ensures (search rules) (search rules) in
     (j, search rules)
 
 pub join_pass-requires-clause-from : goal.join_pass-requires-clause-from
-join_pass-requires-clause-from g c =
+join_pass-requires-clause-from g c κs within =
+    let laws : Laws g.S.Settles = record { itself = g.met.S.Settles.goes_itself; further = g.met.S.Settles.goes_further; kept = g.met.S.Settles.stays_kept; failed = g.met.S.Settles.stays_failed } in
     let gone : c.loop-worker.worker-iterator.rest.items ≡ c.in-Some.worker ∷ c.next.new.self.rest.items = search rules in
-    next_belongs g.D.Door c.args.hall.now c.args.limit g.D.Link.Source g.D.Link.Sink c.loop-worker.invariant.0.left _ _ c.in-Some.worker c.loop-worker.invariant.0.home gone
+    (next_joins g.Q.Records g.S.Settles g.D.Door c.args.hall.now c.args.limit c.args.keeper.now g.D.Link.Source g.D.Link.Sink laws c.loop-worker.invariant.0.left _ _ c.in-Some.worker c.loop-worker.invariant.0.home gone).belongs
+
+pub join-requires-clause-ready : goal.join-requires-clause-ready
+join-requires-clause-ready g c κs within = c.loop-worker.invariant.0.keeper_left.ready
+
+pub join-requires-clause-other : goal.join-requires-clause-other
+join-requires-clause-other g c κs within =
+    let laws : Laws g.S.Settles = record { itself = g.met.S.Settles.goes_itself; further = g.met.S.Settles.goes_further; kept = g.met.S.Settles.stays_kept; failed = g.met.S.Settles.stays_failed } in
+    let gone : c.loop-worker.worker-iterator.rest.items ≡ c.in-Some.worker ∷ c.next.new.self.rest.items = search rules in
+    (next_joins g.Q.Records g.S.Settles g.D.Door c.args.hall.now c.args.limit c.args.keeper.now g.D.Link.Source g.D.Link.Sink laws c.loop-worker.invariant.0.left _ _ c.in-Some.worker c.loop-worker.invariant.0.home gone).ready
+
+pub join-requires-clause-one : goal.join-requires-clause-one
+join-requires-clause-one g c κs within =
+    let laws : Laws g.S.Settles = record { itself = g.met.S.Settles.goes_itself; further = g.met.S.Settles.goes_further; kept = g.met.S.Settles.stays_kept; failed = g.met.S.Settles.stays_failed } in
+    let gone : c.loop-worker.worker-iterator.rest.items ≡ c.in-Some.worker ∷ c.next.new.self.rest.items = search rules in
+    let can = next_joins g.Q.Records g.S.Settles g.D.Door c.args.hall.now c.args.limit c.args.keeper.now g.D.Link.Source g.D.Link.Sink laws c.loop-worker.invariant.0.left _ _ c.in-Some.worker c.loop-worker.invariant.0.home gone in
+    (c.args.keeper.now, c.loop-worker.invariant.0.keeper_left.knows, can.knows)
 
 pub returns-clause-ended : goal.returns-clause-ended
 returns-clause-ended g c =
-    all_served g.D.Door c.args.hall.now c.args.limit g.D.Link.Source g.D.Link.Sink _ _ _ c.loop-worker.worker-iterator.rest.items _ _ c.loop-worker.invariant.0 (search rules)
+    let laws : Laws g.S.Settles = record { itself = g.met.S.Settles.goes_itself; further = g.met.S.Settles.goes_further; kept = g.met.S.Settles.stays_kept; failed = g.met.S.Settles.stays_failed } in
+    all_served g.Q.Records g.S.Settles g.D.Door c.args.hall.now c.args.limit c.args.keeper.now g.D.Link.Source g.D.Link.Sink laws _ _ _ _ c.loop-worker.worker-iterator.rest.items _ _ c.loop-worker.invariant.0 (search rules)
 
 pub returns-clause-sees : goal.returns-clause-sees
 returns-clause-sees g c =
-    all_seen g.D.Door c.args.hall.now c.args.limit g.D.Link.Source g.D.Link.Sink _ _ _ c.loop-worker.worker-iterator.rest.items _ _ c.loop-worker.invariant.0 (search rules)
+    let laws : Laws g.S.Settles = record { itself = g.met.S.Settles.goes_itself; further = g.met.S.Settles.goes_further; kept = g.met.S.Settles.stays_kept; failed = g.met.S.Settles.stays_failed } in
+    all_seen g.Q.Records g.S.Settles g.D.Door c.args.hall.now c.args.limit c.args.keeper.now g.D.Link.Source g.D.Link.Sink laws _ _ _ _ c.loop-worker.worker-iterator.rest.items _ _ c.loop-worker.invariant.0 (search rules)
+
+pub returns-clause-keeper : goal.returns-clause-keeper
+returns-clause-keeper g c =
+    let laws : Laws g.S.Settles = record { itself = g.met.S.Settles.goes_itself; further = g.met.S.Settles.goes_further; kept = g.met.S.Settles.stays_kept; failed = g.met.S.Settles.stays_failed } in
+    all_back g.Q.Records g.S.Settles g.D.Door c.args.hall.now c.args.limit c.args.keeper.now g.D.Link.Source g.D.Link.Sink laws _ _ _ _ c.loop-worker.worker-iterator.rest.items _ _ c.loop-worker.invariant.0 (search rules)
 
 pub loop-worker-preserved : goal.loop-worker-preserved
 loop-worker-preserved g c =
+    let laws : Laws g.S.Settles = record { itself = g.met.S.Settles.goes_itself; further = g.met.S.Settles.goes_further; kept = g.met.S.Settles.stays_kept; failed = g.met.S.Settles.stays_failed } in
     let e = c.join_pass.ensures in
+    let k = c.join.ensures in
     let gone : c.loop-worker.worker-iterator.rest.items ≡ c.in-Some.worker ∷ c.next.new.self.rest.items = search rules in
     let len : length c.loop-worker.worker-iterator.rest.items ≡ length c.next.new.self.rest.items + 1 = ap length gone ∙ omega arith in
     let room = c.loop-worker.invariant.1 in
     let more : c.push.new.self.items ≡ c.loop-worker.back.items ++ c.in-Some.worker.door ∷ [] = search rules in
     let longer : length c.push.new.self.items ≡ length c.loop-worker.back.items + 1 = ap length more ∙ length-append c.loop-worker.back.items (c.in-Some.worker.door ∷ []) in
     let kept = c.push.ensures.capacity in (
-      joined g.D.Door c.args.hall.now c.args.limit g.D.Link.Source g.D.Link.Sink _ c.loop-worker.pass _ _ c.in-Some.worker c.loop-worker.worker-iterator.rest.items _ c.loop-worker.back.items _ c.loop-worker.faults _
-          gone c.loop-worker.invariant.0 e.pass e.orderly e.begins e.from_begins e.places e.shares more (search rules),
+      joined g.Q.Records g.S.Settles g.D.Door c.args.hall.now c.args.limit c.args.keeper.now g.D.Link.Source g.D.Link.Sink laws _ c.loop-worker.pass _ c.loop-worker.keeper _ _ c.in-Some.worker c.loop-worker.worker-iterator.rest.items _ c.loop-worker.back.items _ c.loop-worker.faults _
+          gone c.loop-worker.invariant.0 e.pass e.orderly e.begins e.from_begins e.places e.shares k.ready k.goes_on k.other k.shares more (search rules),
       omega arith,
     )

@@ -1,21 +1,44 @@
-use Rattle.std.proofs.Common.{rules, ◌≡◌, ◌<◌, ◌+◌, ◌∷◌, [], ◌++◌, ◌∙◌, ap, length, vec_len, vec_capacity, arith}
+use Rattle.std.proofs.Common.{rules, refl, ◌≡◌, ◌<◌, ◌+◌, ◌∷◌, [], ◌++◌, ◌∙◌, ap, length, vec_len, vec_capacity, arith}
 use Rattle.ifdb_history.specs.History.{IsRight}
-use Rattle.ifdb_db.specs.Reading.{read_line}
-use Rattle.ifdb_service.proofs.Crew.{hired, pushed_so, split_orderly}
+use Rattle.ifdb_session.specs.Starts.{start_of}
+use Rattle.ifdb_service.proofs.Crew.{not_hired, can_split, hired, all_hired, pushed_so, split_orderly}
+use Rattle.ifdb_service.proofs.Links.{Laws}
 use Rattle.ifdb_service.proofs.workers.hire.Goals as goal
+
+pub loop-door-init : goal.loop-door-init
+loop-door-init g c =
+    let r = c.requires in
+    let laws : Laws g.S.Settles = record { itself = g.met.S.Settles.goes_itself; further = g.met.S.Settles.goes_further; kept = g.met.S.Settles.stays_kept; failed = g.met.S.Settles.stays_failed } in
+    not_hired g.Q.Records g.S.Settles g.D.Door c.args.hall.now c.args.limit c.args.keeper.now c.args.pass.now c.args.doors.items c.args.workers.now.items (vec_capacity c.args.workers.now)
+    laws r.pass r.keeper r.keeper_shares r.most r.none r.room
 
 pub begin-worker-requires-clause-orderly : goal.begin-worker-requires-clause-orderly
 begin-worker-requires-clause-orderly g c κs within =
     let e = c.split-own.ensures in
-    split_orderly (IsRight read_line) c.args.pass.now c.split-own.result c.requires.orderly (e.given_history ∙ c.loop-door.invariant.seen) e.given_places
+    split_orderly (IsRight (start_of g.Q.Records.first)) c.args.pass.now c.split-own.result c.requires.orderly (e.given_history ∙ c.loop-door.invariant.seen) e.given_places
+
+pub split-own_keeper-requires-clause-ready : goal.split-own_keeper-requires-clause-ready
+split-own_keeper-requires-clause-ready g c κs within = c.loop-door.invariant.keeper_left.ready
+
+pub split-own_keeper-requires-clause-shares : goal.split-own_keeper-requires-clause-shares
+split-own_keeper-requires-clause-shares g c κs within =
+    let left : c.loop-door.door-iterator.rest.items ≡ c.in-Some.door ∷ c.next.new.self.rest.items = search rules in
+    can_split g.Q.Records g.S.Settles g.D.Door c.args.hall.now c.args.limit c.args.keeper.now _ _ _ _ _ _ _ _ _ left c.loop-door.invariant
 
 pub loop-door-preserved : goal.loop-door-preserved
 loop-door-preserved g c =
     let e = c.split-own.ensures in
+    let k = c.split-own_keeper.ensures in
+    let laws : Laws g.S.Settles = record { itself = g.met.S.Settles.goes_itself; further = g.met.S.Settles.goes_further; kept = g.met.S.Settles.stays_kept; failed = g.met.S.Settles.stays_failed } in
     let left : c.loop-door.door-iterator.rest.items ≡ c.in-Some.door ∷ c.next.new.self.rest.items = search rules in
     let one : length c.loop-door.door-iterator.rest.items ≡ length c.next.new.self.rest.items + 1 = ap length left ∙ omega arith in
     let fits = c.loop-door.invariant.fits in
     let room : vec_len c.loop-door.workers < vec_capacity c.loop-door.workers = let lens = c.loop-door.workers.ok in omega arith in
     let more : c.push.new.self.items ≡ c.loop-door.workers.items ++ c.begin-worker.result ∷ [] = pushed_so c.push.result _ _ _ (c.push.ensures.succeeds room) c.push.ensures.items in
-    hired g.D.Door c.args.hall.now c.args.limit _ c.loop-door.pass _ _ _ _ c.in-Some.door _ c.next.new.self.rest.items _ _ c.begin-worker.result left c.loop-door.invariant e.left e.left_shares e.left_history e.left_places c.begin-worker.ensures.door
-    (λ _. c.begin-worker.ensures.fresh) more (search rules)
+    hired g.Q.Records g.S.Settles g.D.Door c.args.hall.now c.args.limit c.args.keeper.now _ c.loop-door.pass _ c.loop-door.keeper _ _ _ _ c.in-Some.door _ c.next.new.self.rest.items _ _ c.begin-worker.result
+    laws left c.loop-door.invariant e.left e.left_shares e.left_history e.left_places k.ready k.goes_on k.left c.begin-worker.ensures.door
+    (λ _. c.begin-worker.ensures.fresh c.args.keeper.now (laws.further _ _ _ c.loop-door.invariant.keeper_left.knows k.given)) more (search rules)
+
+pub returns-clause-keeper : goal.returns-clause-keeper
+returns-clause-keeper g c =
+    all_hired g.Q.Records g.S.Settles g.D.Door c.args.hall.now c.args.limit c.args.keeper.now _ _ _ _ c.loop-door.door-iterator.rest.items _ _ (search rules) c.loop-door.invariant

@@ -1,0 +1,12 @@
+use Rattle.std.proofs.Common.{map, string_bytes, subst}
+use Rattle.clap.specs.Words.{app_of}
+use Rattle.ifdb_words.specs.Clap.{IsTaken}
+use Rattle.ifdb_words.proofs.HostOptions.{host_taken}
+use Rattle.ifdb_words.proofs.host.host_in.Goals as goal
+
+pub returns-in-Some-clause-host : goal.returns-in-Some-clause-host
+returns-in-Some-clause-host c =
+    let app = app_of c.in_ok-command.command in
+    let words = map string_bytes c.args.words.now in
+    host_taken app words c.in-Some.matches c.host_of.result c.in_ok-command.ensures
+    (subst (IsTaken app words) c.in-Some.is c.in_ok-matches.ensures) c.host_of.ensures

@@ -1,0 +1,62 @@
+// The words behind `host`.
+ghost use Rattle.std.specs.Prelude.{◌≡◌, IfOk, IfSome, map, string_bytes};
+ghost use Rattle.clap.specs.Words.{app_of, found_of, first_value};
+ghost use Rattle.ifdb_words.specs.Clap.{host_app};
+ghost use Rattle.ifdb_words.specs.Host.{host_in, host_of};
+ghost use Rattle.ifdb_words.specs.Ranges.{IsService};
+
+use crate::file_name::{FileName, file_name_of};
+use crate::options::{bare_command, option, taken};
+use crate::serve::service_of;
+use crate::service::Service;
+use clap::ArgMatches;
+use std::alloc::{AllocError as OutOfMemory, Global};
+
+/// What `host` is asked for.
+#[derive(Drop)]
+pub struct Hosting {
+    /// The file that the database is in.
+    pub file: FileName,
+    /// How it is served.
+    pub service: Service,
+}
+
+/// What the words behind `host` ask for; `None` exactly where they aren't well formed. The only error is want of memory.
+#[tactic(auto, using(crate::proofs::HostOptions::free, crate::proofs::HostOptions::host_taken, crate::proofs::HostOptions::host_refused, crate::proofs::InRange::host_in_range))]
+pub fn host_in(alloc: Global, words: &[String]) -> Result<Option<Hosting>, OutOfMemory>
+    ensures host { IfOk result (λ host. host ≡ host_in (map string_bytes words.now)) }
+    ensures ranges { IfOk result (λ host. IfSome host (λ h. IsService h.service)) }
+{
+    let command = host_command(alloc)?;
+    match taken(command, words)? {
+        Some(matches) => host_of(alloc, &matches),
+        None => Ok(None),
+    }
+}
+
+/// What the values of the options ask for.
+fn host_of(alloc: Global, matches: &ArgMatches) -> Result<Option<Hosting>, OutOfMemory>
+    ensures { IfOk result (λ host. host ≡ host_of (first_value (found_of matches.now))) }
+{
+    let Some(word) = matches.get_str("file") else {
+        return Ok(None);
+    };
+    let Some(service) = service_of(matches) else {
+        return Ok(None);
+    };
+    match file_name_of(alloc, word)? {
+        Some(file) => Ok(Some(Hosting { file, service })),
+        None => Ok(None),
+    }
+}
+
+/// The command as clap knows it.
+fn host_command<'a>(alloc: Global) -> Result<clap::Command<'a>, OutOfMemory>
+    ensures { IfOk result (λ command. app_of command ≡ host_app) }
+{
+    let with_file = bare_command(alloc, "host").arg(option(alloc, "file", true))?;
+    let with_port = with_file.arg(option(alloc, "port", true))?;
+    let with_workers = with_port.arg(option(alloc, "workers", false))?;
+    let with_links = with_workers.arg(option(alloc, "links", false))?;
+    with_links.arg(option(alloc, "limit", false))
+}
