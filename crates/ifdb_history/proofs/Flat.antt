@@ -5,12 +5,12 @@ use Rattle.std.proofs.lemmas.List.Concat.{flat_map-append}
 use lib.ListN.{get_elem?}
 use Rattle.atomic_table.proofs.Lists.{at_longer}
 use Rattle.ifdb_model.specs.Step.{Reader}
-use Rattle.ifdb_model.specs.Run.{State, Step, opening, asks, leaves, run, replies}
+use Rattle.ifdb_model.specs.Run.{State, Step, asks, leaves, run, replies}
 use Rattle.ifdb_model.proofs.Runs.{run-append, replies-append}
 use Rattle.ifdb_history.specs.declared.entry.Entry.{Entry}
 use Rattle.ifdb_history.specs.declared.entry.Kind.{Kind}
 use Rattle.ifdb_history.specs.declared.entry.Kind.TheVariants as kind
-use Rattle.ifdb_history.specs.History.{work_steps, steps_of, flat, after, root_of, roots_from, HasRoot}
+use Rattle.ifdb_history.specs.History.{Start, first_state, work_steps, steps_of, flat, after, root_of, roots_from, HasRoot}
 use Rattle.ifdb_history.specs.Lines.{lines_at, lines_of, text_to, told_in, AllTell, IsTold}
 use Rattle.ifdb_history.proofs.Sessions.{one_more, as_many_at_line, as_many_at_leaving, as_many_at_work}
 
@@ -18,8 +18,8 @@ pub flat-append : (h k : List Entry) → flat (h ++ k) ≡ flat h ++ flat k
 flat-append [] k = refl
 flat-append (e ∷ h) k = ap (λ xs. steps_of e.kind ++ xs) (flat-append h k) ∙ sym (append_assoc (steps_of e.kind) (flat h) (flat k))
 
-pub after-append : (read : Reader) (h k : List Entry) → after read (h ++ k) ≡ run read (after read h) (flat k)
-after-append read h k = ap (run read opening) (flat-append h k) ∙ run-append read opening (flat h) (flat k)
+pub after-append : (start : Start) (h k : List Entry) → after start (h ++ k) ≡ run start.read (after start h) (flat k)
+after-append start h k = ap (run start.read (first_state start)) (flat-append h k) ∙ run-append start.read (first_state start) (flat h) (flat k)
 
 pub lines-append : (n : ℕ) (h k : List Entry) → lines_of n (h ++ k) ≡ lines_of n h ++ lines_of n k
 lines-append n [] k = refl
@@ -36,8 +36,8 @@ all_tell-append read n st (e ∷ h) k a b p q = (
   all_tell-append read n (run read st (steps_of e.kind)) h k p.1 b p.4 (subst (λ (s : State). AllTell read n s k b) (run-append read st (steps_of e.kind) (flat h)) q),
 )
 
-pub is_told-append : (read : Reader) (n : ℕ) (h k : List Entry) (a b : List ℕ) → IsTold read n h a → AllTell read n (after read h) k b → IsTold read n (h ++ k) (a ++ b)
-is_told-append read n h k a b = all_tell-append read n opening h k a b
+pub is_told-append : (start : Start) (n : ℕ) (h k : List Entry) (a b : List ℕ) → IsTold start n h a → AllTell start.read n (after start h) k b → IsTold start n (h ++ k) (a ++ b)
+is_told-append start n h k a b = all_tell-append start.read n (first_state start) h k a b
 
 pub told_in-append : (read : Reader) (n : ℕ) (st : State) (first more : List Step) → told_in read n st (first ++ more) ≡ told_in read n st first ++ told_in read n (run read st first) more
 told_in-append read n st first more =
@@ -84,5 +84,5 @@ run_count read st place (e ∷ h) =
     let d = length-append (root_of place e.kind) (roots_from (place + 1) h) in
     omega (arith, a, b, c, d)
 
-pub as_many_roots : (read : Reader) (h : List Entry) → length (after read h).sessions ≡ length (roots_from 0 h)
-as_many_roots read h = let e = run_count read opening 0 h in omega (arith, e)
+pub as_many_roots : (start : Start) (h : List Entry) → length (after start h).sessions ≡ length (roots_from 0 h)
+as_many_roots start h = let e = run_count start.read (first_state start) 0 h in omega (arith, e)

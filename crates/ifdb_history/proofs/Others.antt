@@ -19,7 +19,7 @@ use Rattle.ifdb_history.specs.declared.entry.Entry.{Entry}
 use Rattle.ifdb_history.specs.declared.entry.Kind.{Kind}
 use Rattle.ifdb_history.specs.declared.entry.Kind.TheVariants as kind
 use Rattle.ifdb_history.specs.declared.entry.Note.{Note}
-use Rattle.ifdb_history.specs.History.{note_step, work_steps, steps_of, flat, after, WasOpened, roots_from, HasRoot, IsRightKind, IsRight, Holds}
+use Rattle.ifdb_history.specs.History.{Start, note_step, work_steps, steps_of, flat, after, WasOpened, roots_from, HasRoot, IsRightKind, IsRight, Holds}
 use Rattle.ifdb_history.specs.Lines.{work_lines, lines_at, lines_of, told_in, Tells, AllTell, IsTold}
 use Rattle.ifdb_history.proofs.Sessions.{open_was, kept_at_opening, kept_at_line, kept_at_leaving, one_more, as_many_at_line, as_many_at_leaving, kept_at_work, was_at_work}
 use Rattle.ifdb_history.proofs.Flat.{told_in-append, after-append, lines-append, is_told-append, root-append}
@@ -87,9 +87,6 @@ module _ (read : Reader) where
   apart_told n st [] a = refl
   apart_told n st (e ∷ h) a = ([], [], refl, apart_tells n st e.kind a.0, apart_told n (run read st (steps_of e.kind)) h a.1)
 
-  pub told_longer : (n : ℕ) (h k : List Entry) → AreApart n k → (text : List ℕ) → IsTold read n h text → IsTold read n (h ++ k) text
-  told_longer n h k apart text t = subst (IsTold read n (h ++ k)) (append-nil text) (is_told-append read n h k text [] t (apart_told n (after read h) k apart))
-
   apart_session : (n : ℕ) (st : State) (x : Kind) → IsApart n x → WasOpened st n → session_of (run read st (steps_of x)) n ≡ session_of st n
   apart_session n st kind.Opened a w = kept_at_opening read st n w
   apart_session n st (kind.Asked m work line) a w =
@@ -128,52 +125,56 @@ module _ (read : Reader) where
       let parts = run-append read st (steps_of e.kind) (flat h) in
       subst (λ (t : State). (session_of t n ≡ session_of st n) × WasOpened t n) (sym parts) (more.0 ∙ here, more.1)
 
-  -- ---- no entry of others is of a session whose root is one of ours
+-- ---- no entry of others is of a session whose root is one of ours
 
-  not_ours : (h : List Entry) (n m place root : ℕ) (own : List ℕ) → HasRoot h n place → 0 < times place own → HasRoot h m root → times root own ≡ 0 → m ≢ n
-  not_ours h n m place root own at mine there none same =
-      let e : root ≡ place = some-injective root place (sym there ∙ ap (λ k. get_elem? (roots_from 0 h) (k - 1)) same ∙ at) in
-      let gone : times place own ≡ 0 = subst (λ k. times k own ≡ 0) e none in
-      omega (arith, gone, mine)
+not_ours : (h : List Entry) (n m place root : ℕ) (own : List ℕ) → HasRoot h n place → 0 < times place own → HasRoot h m root → times root own ≡ 0 → m ≢ n
+not_ours h n m place root own at mine there none same =
+    let e : root ≡ place = some-injective root place (sym there ∙ ap (λ k. get_elem? (roots_from 0 h) (k - 1)) same ∙ at) in
+    let gone : times place own ≡ 0 = subst (λ k. times k own ≡ 0) e none in
+    omega (arith, gone, mine)
+
+at_middle : (h : List Entry) (e : Entry) (k : List Entry) → get_elem? (h ++ e ∷ k) (length h) ≡ some e
+at_middle [] e k = refl
+at_middle (x ∷ h) e k = at_middle h e k
+
+module _ (start : Start) where
+  pub told_longer : (n : ℕ) (h k : List Entry) → AreApart n k → (text : List ℕ) → IsTold start n h text → IsTold start n (h ++ k) text
+  told_longer n h k apart text t = subst (IsTold start n (h ++ k)) (append-nil text) (is_told-append start n h k text [] t (apart_told start.read n (after start h) k apart))
 
   apart_root : (h : List Entry) (n place root : ℕ) (own : List ℕ) (x : Kind) → HasRoot h n place → 0 < times place own
-      → IsRightKind read h root x → times root own ≡ 0 → IsApart n x
+      → IsRightKind start h root x → times root own ≡ 0 → IsApart n x
   apart_root h n place root own kind.Opened at mine right away = tt
   apart_root h n place root own (kind.Asked m work line) at mine right away = not_ours h n m place root own at mine right.0.1 away
   apart_root h n place root own (kind.Looked m line) at mine right away = not_ours h n m place root own at mine right.0.1 away
   apart_root h n place root own (kind.Refused m line) at mine right away = not_ours h n m place root own at mine right.1 away
   apart_root h n place root own (kind.Left m work) at mine right away = not_ours h n m place root own at mine right.0.1 away
 
-  at_middle : (h : List Entry) (e : Entry) (k : List Entry) → get_elem? (h ++ e ∷ k) (length h) ≡ some e
-  at_middle [] e k = refl
-  at_middle (x ∷ h) e k = at_middle h e k
-
   others_apart : (n place : ℕ) (own : List ℕ) (h k : List Entry) → HasRoot h n place → 0 < times place own
-      → AllRight (IsRight read) (h ++ k) → NoRootsFrom (λ (e : Entry). e.root) (h ++ k) (length h) own → AreApart n k
+      → AllRight (IsRight start) (h ++ k) → NoRootsFrom (λ (e : Entry). e.root) (h ++ k) (length h) own → AreApart n k
   others_apart n place own h [] at mine right away = tt
   others_apart n place own h (e ∷ k) at mine right away =
       let is : (h ++ e ∷ []) ++ k ≡ h ++ e ∷ k = append_assoc h (e ∷ []) k in
       let long = length-append h (e ∷ []) in
       let here = apart_root h n place e.root own e.kind at mine (right h e (k, is)) (away (length h) e (omega arith) (at_middle h e k)) in (
         here,
-        others_apart n place own (h ++ e ∷ []) k (root-append h (e ∷ []) n place at) mine (subst (AllRight (IsRight read)) (sym is) right)
+        others_apart n place own (h ++ e ∷ []) k (root-append h (e ∷ []) n place at) mine (subst (AllRight (IsRight start)) (sym is) right)
             (subst (λ l. NoRootsFrom (λ (x : Entry). x.root) l (length (h ++ e ∷ [])) own) (sym is) (λ j x le there. away j x (omega (arith, le, long)) there)),
       )
 
   -- a longer history to which others alone added leaves the session, its lines and what it was told
-  pub kept_among_others : (h log : List Entry) (own : List ℕ) (n : ℕ) → Holds read h own n → IsPrefix h log
-      → AllRight (IsRight read) log → NoRootsFrom (λ (e : Entry). e.root) log (length h) own
-      → Holds read log own n × (lines_of n log ≡ lines_of n h) × ((text : List ℕ) → IsTold read n h text → IsTold read n log text)
-      × (session_of (after read log) n ≡ session_of (after read h) n)
+  pub kept_among_others : (h log : List Entry) (own : List ℕ) (n : ℕ) → Holds start h own n → IsPrefix h log
+      → AllRight (IsRight start) log → NoRootsFrom (λ (e : Entry). e.root) log (length h) own
+      → Holds start log own n × (lines_of n log ≡ lines_of n h) × ((text : List ℕ) → IsTold start n h text → IsTold start n log text)
+      × (session_of (after start log) n ≡ session_of (after start h) n)
   kept_among_others h log own n holds front right away =
       let k = front.0 in
       let apart = others_apart n holds.1.0 own h k holds.1.1 holds.1.2
-      (subst (AllRight (IsRight read)) (sym front.1) right)
+      (subst (AllRight (IsRight start)) (sym front.1) right)
       (subst (λ l. NoRootsFrom (λ (e : Entry). e.root) l (length h) own) (sym front.1) away) in
-      let same = apart_sessions n (after read h) k apart (open_was (after read h) n holds.0) in
-      let there : session_of (after read (h ++ k)) n ≡ session_of (after read h) n = ap (λ (st : State). session_of st n) (after-append read h k) ∙ same.0 in
-      subst (λ l. Holds read l own n × (lines_of n l ≡ lines_of n h) × ((text : List ℕ) → IsTold read n h text → IsTold read n l text)
-      × (session_of (after read l) n ≡ session_of (after read h) n)) front.1 (
+      let same = apart_sessions start.read n (after start h) k apart (open_was (after start h) n holds.0) in
+      let there : session_of (after start (h ++ k)) n ≡ session_of (after start h) n = ap (λ (st : State). session_of st n) (after-append start h k) ∙ same.0 in
+      subst (λ l. Holds start l own n × (lines_of n l ≡ lines_of n h) × ((text : List ℕ) → IsTold start n h text → IsTold start n l text)
+      × (session_of (after start l) n ≡ session_of (after start h) n)) front.1 (
         (ap (λ (s : Session). s.is_open) there ∙ holds.0, (holds.1.0, root-append h k n holds.1.0 holds.1.1, holds.1.2)),
         lines-append n h k ∙ ap (λ l. lines_of n h ++ l) (apart_lines n k apart) ∙ append-nil (lines_of n h),
         told_longer n h k apart,

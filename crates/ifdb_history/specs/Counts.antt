@@ -6,11 +6,11 @@ use Rattle.ifdb_wire.specs.declared.reply.Reply.TheVariants as reply
 use Rattle.ifdb_model.specs.Log.{commits_of, content_of}
 use Rattle.ifdb_model.specs.Session.{in_txn}
 use Rattle.ifdb_model.specs.Step.{Reader}
-use Rattle.ifdb_model.specs.Run.{State, session_of, opening, run, outcome_of}
+use Rattle.ifdb_model.specs.Run.{State, session_of, run, outcome_of}
 use Rattle.ifdb_history.specs.declared.entry.Entry.{Entry}
 use Rattle.ifdb_history.specs.declared.entry.Kind.{Kind}
 use Rattle.ifdb_history.specs.declared.entry.Kind.TheVariants as kind
-use Rattle.ifdb_history.specs.History.{work_steps, steps_of, after}
+use Rattle.ifdb_history.specs.History.{Start, first_state, work_steps, steps_of, after, added_in}
 
 -- the reply is a refusal
 abbrev pub is_refusal : Reply → Bool
@@ -34,17 +34,17 @@ refusals_from read st [] = 0
 refusals_from read st (e ∷ h) = refusal_of read st e.kind + refusals_from read (run read st (steps_of e.kind)) h
 
 -- how many sessions were opened
-abbrev pub sessions_in : Reader → List Entry → ℕ
-sessions_in read h = length (after read h).sessions
+abbrev pub sessions_in : Start → List Entry → ℕ
+sessions_in start h = length (after start h).sessions
 
--- how many commits there were, of transactions and of single statements
-abbrev pub commits_in : Reader → List Entry → ℕ
-commits_in read h = length (commits_of (after read h).log)
+-- how many commits the history added, of transactions and of single statements
+abbrev pub commits_in : Start → List Entry → ℕ
+commits_in start h = length (commits_of (added_in start h))
 
 -- how many COMMITs were refused
-abbrev pub refusals_in : Reader → List Entry → ℕ
-refusals_in read h = refusals_from read opening h
+abbrev pub refusals_in : Start → List Entry → ℕ
+refusals_in start h = refusals_from start.read (first_state start) h
 
--- how many rows there are, whoever sees them
-abbrev pub rows_in : Reader → List Entry → ℕ
-rows_in read h = length (content_of (after read h).log)
+-- how many rows there are, whoever sees them, with those that there were when it began
+abbrev pub rows_in : Start → List Entry → ℕ
+rows_in start h = length (content_of (after start h).log)

@@ -1,17 +1,27 @@
 -- decides: the service
--- The history of a served room, as steps of the machine. Lines are read by `read`.
-use Rattle.std.specs.Prelude.{◌≡◌, ℕ, ◌+◌, ◌-◌, ◌<◌, ◌≤◌, true, false, List, [], ◌∷◌, ◌++◌, length, map, if◌then◌else◌}
+-- The history of a served room, as steps of the machine, over the log that there was when it began.
+use Rattle.std.specs.Prelude.{◌≡◌, ℕ, ◌+◌, ◌-◌, ◌<◌, ◌≤◌, true, false, List, [], ◌∷◌, ◌++◌, length, map, drop, if◌then◌else◌}
 use mathlib.Core.Option.{some, none}
 use mathlib.Core.Option as maybe
 use lib.ListN.{get_elem?}
 use Rattle.ifdb_turn.specs.Places.{times}
+use Rattle.ifdb_model.specs.Log.{Entry as LogEntry}
 use Rattle.ifdb_model.specs.Session.{in_txn}
 use Rattle.ifdb_model.specs.Step.{Reader}
-use Rattle.ifdb_model.specs.Run.{State, session_of, Step, opens, asks, refused, leaves, opening, next, run}
+use Rattle.ifdb_model.specs.Run.{State, session_of, Step, opens, asks, refused, leaves, next, run}
 use Rattle.ifdb_history.specs.declared.entry.Entry.{Entry}
 use Rattle.ifdb_history.specs.declared.entry.Kind.{Kind}
 use Rattle.ifdb_history.specs.declared.entry.Note.{Note}
 use Rattle.ifdb_history.specs.declared.entry.Kind.TheVariants as kind
+
+-- where a history begins: how lines are read, and the log that there is
+pub record Start : Type 0 where
+  pub read : Reader
+  pub log : List LogEntry
+
+-- the state there: no session was opened yet
+abbrev pub first_state : Start → State
+first_state start = record { log = start.log; sessions = [] }
 
 -- the step of a line that a session asked in its transaction, away from the room
 abbrev pub note_step : ℕ → Note → Step
@@ -35,8 +45,12 @@ flat [] = []
 flat (e ∷ h) = steps_of e.kind ++ flat h
 
 -- the state after a history
-abbrev pub after : Reader → List Entry → State
-after read h = run read opening (flat h)
+abbrev pub after : Start → List Entry → State
+after start h = run start.read (first_state start) (flat h)
+
+-- what a history added to the log
+abbrev pub added_in : Start → List Entry → List LogEntry
+added_in start h = drop (length start.log) (after start h).log
 
 -- ---- whose entries they are
 
@@ -81,25 +95,25 @@ abbrev pub OnlyLooks : Reader → State → ℕ → List ℕ → Type 0
 OnlyLooks read st n line = next read st (asks n line) ≡ st
 
 -- the session is open and was opened at this place
-abbrev pub IsAt : Reader → List Entry → ℕ → ℕ → Type 0
-IsAt read h n root = IsOpen (after read h) n × HasRoot h n root
+abbrev pub IsAt : Start → List Entry → ℕ → ℕ → Type 0
+IsAt start h n root = IsOpen (after start h) n × HasRoot h n root
 
 -- A turn may come right after the history: it opens a session, which is its own root, or it is of an open session and names
 -- the place where that was opened. The lines that it brings along are of that session's open transaction, and a line that is
 -- answered after the turn only looks.
-abbrev pub IsRightKind : Reader → List Entry → ℕ → Kind → Type 0
-IsRightKind read h root kind.Opened = root ≡ length h
-IsRightKind read h root (kind.Asked n work line) = IsAt read h n root × IsWork read (after read h) n work
-IsRightKind read h root (kind.Looked n line) = IsAt read h n root × OnlyLooks read (after read h) n line
-IsRightKind read h root (kind.Refused n line) = IsAt read h n root
-IsRightKind read h root (kind.Left n work) = IsAt read h n root × IsWork read (after read h) n work
+abbrev pub IsRightKind : Start → List Entry → ℕ → Kind → Type 0
+IsRightKind start h root kind.Opened = root ≡ length h
+IsRightKind start h root (kind.Asked n work line) = IsAt start h n root × IsWork start.read (after start h) n work
+IsRightKind start h root (kind.Looked n line) = IsAt start h n root × OnlyLooks start.read (after start h) n line
+IsRightKind start h root (kind.Refused n line) = IsAt start h n root
+IsRightKind start h root (kind.Left n work) = IsAt start h n root × IsWork start.read (after start h) n work
 
-abbrev pub IsRight : Reader → List Entry → Entry → Type 0
-IsRight read h e = IsRightKind read h e.root e.kind
+abbrev pub IsRight : Start → List Entry → Entry → Type 0
+IsRight start h e = IsRightKind start h e.root e.kind
 
 -- the session is open, and the turn that opened it is among these places
-abbrev pub Holds : Reader → List Entry → List ℕ → ℕ → Type 0
-Holds read h own n = IsOpen (after read h) n × ((place : ℕ) × HasRoot h n place × (0 < times place own))
+abbrev pub Holds : Start → List Entry → List ℕ → ℕ → Type 0
+Holds start h own n = IsOpen (after start h) n × ((place : ℕ) × HasRoot h n place × (0 < times place own))
 
 -- ---- the entries that turns add
 

@@ -3,12 +3,12 @@
 use Rattle.std.specs.Prelude.{◌≡◌, ◌⊎◌, ℕ, ◌==◌, List, [], ◌∷◌, ◌++◌, flat_map, map, None, if◌then◌else◌}
 use Rattle.ifdb_wire.specs.Text.{reply_text}
 use Rattle.ifdb_model.specs.Step.{Reader}
-use Rattle.ifdb_model.specs.Run.{State, Step, Told, asks, refused, opening, run, replies}
+use Rattle.ifdb_model.specs.Run.{State, Step, Told, asks, refused, run, replies}
 use Rattle.ifdb_history.specs.declared.entry.Entry.{Entry}
 use Rattle.ifdb_history.specs.declared.entry.Kind.{Kind}
 use Rattle.ifdb_history.specs.declared.entry.Kind.TheVariants as kind
 use Rattle.ifdb_history.specs.declared.entry.Note.{Note}
-use Rattle.ifdb_history.specs.History.{work_steps, steps_of, after}
+use Rattle.ifdb_history.specs.History.{Start, first_state, work_steps, steps_of, after}
 
 -- the lines of the work of a transaction
 abbrev pub work_lines : List Note → List (List ℕ)
@@ -52,8 +52,8 @@ AllTell read n st (e ∷ h) text =
     × Tells read n st e.kind first × AllTell read n (run read st (steps_of e.kind)) h rest
 
 -- and a history does
-abbrev pub IsTold : Reader → ℕ → List Entry → List ℕ → Type 0
-IsTold read n h text = AllTell read n opening h text
+abbrev pub IsTold : Start → ℕ → List Entry → List ℕ → Type 0
+IsTold start n h text = AllTell start.read n (first_state start) h text
 
 -- ---- with lines that no turn has brought along yet
 
@@ -62,6 +62,6 @@ abbrev pub lines_with : ℕ → List Entry → List Note → List (List ℕ)
 lines_with n h work = lines_of n h ++ work_lines work
 
 -- and it was told this
-abbrev pub IsToldWith : Reader → ℕ → List Entry → List Note → List ℕ → Type 0
-IsToldWith read n h work text =
-    (before : List ℕ) × IsTold read n h before × (text ≡ before ++ told_in read n (after read h) (work_steps n work))
+abbrev pub IsToldWith : Start → ℕ → List Entry → List Note → List ℕ → Type 0
+IsToldWith start n h work text =
+    (before : List ℕ) × IsTold start n h before × (text ≡ before ++ told_in start.read n (after start h) (work_steps n work))

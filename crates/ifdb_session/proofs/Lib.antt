@@ -13,3 +13,4 @@ pub mod Recording
 pub mod Noting
 pub mod Sources
 pub mod Settled
+pub mod Queueing

@@ -1,17 +1,18 @@
 -- What is recorded of a history.
 use Rattle.std.specs.Prelude.{◌≡◌, ℕ, ◌<◌, ◌≤◌, List, ◌++◌, length, map, option_to_list}
 use Rattle.ifdb_redo.specs.Spelling.{text}
-use Rattle.ifdb_model.specs.Run.{opening}
 use Rattle.ifdb_restore.specs.Redone.{records}
 use Rattle.ifdb_db.specs.Noting.{Noted, text_of}
 use Rattle.ifdb_db.specs.Reading.{read_line}
 use Rattle.ifdb_history.specs.declared.entry.Entry.{Entry}
-use Rattle.ifdb_history.specs.History.{flat}
+use Rattle.ifdb_history.specs.History.{first_state, flat}
 use Rattle.ifdb_session.specs.declared.records.Records as recorder
+use Rattle.ifdb_model.specs.Log.{Entry as LogEntry}
+use Rattle.ifdb_session.specs.Starts.{start_of}
 
 -- the texts of the records of a history's steps, in their order
-abbrev pub texts_of : List Entry → List (List ℕ)
-texts_of h = map text (records read_line opening (flat h))
+abbrev pub texts_of : List LogEntry → List Entry → List (List ℕ)
+texts_of first h = map text (records read_line (first_state (start_of first)) (flat h))
 
 -- the text that a note holds, if it holds one
 abbrev pub texts_in : Noted → List (List ℕ)

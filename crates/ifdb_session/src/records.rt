@@ -1,8 +1,12 @@
 // What records the entries of a room.
+ghost use Rattle.ifdb_model.specs.Log.{Entry};
 ghost use Rattle.std.specs.Prelude.{◌≡◌, ◌<◌, ◌≤◌, ◌++◌, ◌∷◌, [], ℕ, List, None, IfSome, length};
 
 /// What records the entries that turns add to the log of a room, as texts, in their order.
 pub trait Records {
+    /// The log that there was before the first record.
+    ghost first: { List Entry };
+
     /// These texts were recorded.
     ghost has: { Self → List (List ℕ) → Type 0 };
 

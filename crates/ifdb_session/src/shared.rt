@@ -4,12 +4,15 @@ ghost use Rattle.ifdb_wire.specs.Text.{memory_text, reply_text};
 ghost use Rattle.ifdb_model.specs.Run.{asks, leaves, opens};
 ghost use Rattle.ifdb_db.specs.Looks.{IsLookOf};
 ghost use Rattle.ifdb_db.specs.Noting.{IsNotedIn};
+ghost use Rattle.ifdb_db.specs.Room.{StandsFor};
 ghost use Rattle.ifdb_db.specs.RoomSteps.{GoesBy, IsReplyTo};
+ghost use Rattle.ifdb_history.specs.History.{first_state};
 ghost use Rattle.ifdb_history.specs.declared.entry.Kind.TheVariants.{Opened as OpenedKind, Left as LeftKind};
 ghost use Rattle.ifdb_session.specs.Counts.{counts_of, IsGlance};
 ghost use Rattle.ifdb_session.specs.Endings.{capped};
-ghost use Rattle.ifdb_session.specs.Records.{Forgets, HasRoom, texts_in};
+ghost use Rattle.ifdb_session.specs.Records.{Forgets, HasRoom, texts_in, texts_of};
 ghost use Rattle.ifdb_session.specs.Standing.{StandsForHistory};
+ghost use Rattle.ifdb_session.specs.Starts.{start_of};
 ghost use Rattle.ifdb_session.specs.Turns.{CountsTurn, HasCounted, IsAsked, IsCount, IsNextNumber, MayBeBack, with_lent};
 
 use crate::counts::{Counts, Glance, counted};
@@ -55,7 +58,7 @@ pub(crate) enum Asked {
 }
 
 impl<Q: Records> Object for SharedRoom<Q> {
-    ghost use Rattle.ifdb_db.specs.Reading.{read_line};
+    ghost use Rattle.ifdb_session.specs.Starts.{start_of};
     ghost use Rattle.ifdb_history.specs.History.{IsRight};
     ghost use Rattle.ifdb_session.specs.Standing.{StandsForHistory, root_of};
 
@@ -63,7 +66,7 @@ impl<Q: Records> Object for SharedRoom<Q> {
 
     ghost stands = { StandsForHistory Q.Records };
 
-    ghost right = { IsRight read_line };
+    ghost right = { IsRight (start_of Q.first) };
 
     ghost root = { root_of };
 }
@@ -71,7 +74,8 @@ impl<Q: Records> Object for SharedRoom<Q> {
 impl<Q: Records + Drop> SharedRoom<Q> {
     /// The opening: the public state before the first change, no rows, no sessions, and no records.
     pub fn opening(alloc: Global, records: Q) -> Result<SharedRoom<Q>, OutOfMemory>
-        requires { Q.has records [] }
+        requires none { Q.first ≡ [] }
+        requires records { Q.has records [] }
         ensures { IfOk result (λ shared. StandsForHistory Q.Records shared []) }
     {
         Ok(SharedRoom {
@@ -85,9 +89,25 @@ impl<Q: Records + Drop> SharedRoom<Q> {
 }
 
 impl<Q: Records> SharedRoom<Q> {
+    /// A room of which nobody's session is open: it stands for the log that there was before the first record.
+    pub fn resumed(room: Room, records: Q) -> SharedRoom<Q>
+        requires stands { StandsFor room (first_state (start_of Q.first)) }
+        requires none { Q.has records [] }
+        ensures { StandsForHistory Q.Records result [] }
+    {
+        SharedRoom {
+            room,
+            records,
+            entries: 0,
+            commits: 0,
+            refused: 0,
+        }
+    }
+
     /// What the history comes to.
     pub fn counts(&self) -> Counts
-        ensures { (h : List Entry) → StandsForHistory Q.Records self.now h → result ≡ counts_of h }
+        ensures { (h : List Entry) → StandsForHistory Q.Records self.now h
+            → result ≡ counts_of Q.first h }
     {
         Counts {
             sessions: self.room.sessions(),
@@ -96,6 +116,15 @@ impl<Q: Records> SharedRoom<Q> {
             refused: self.refused,
             rows: rows_in(&self.room),
         }
+    }
+
+    /// What recorded the entries: it has the texts of the history's records.
+    pub fn into_records(self) -> Q
+        ensures { (h : List Entry) → StandsForHistory Q.Records self h
+            → Q.has result (texts_of Q.first h) }
+    {
+        let SharedRoom { records, .. } = self;
+        records
     }
 
     /// Opens the next session, and gives its number. `OutOfMemory` changes nothing.
