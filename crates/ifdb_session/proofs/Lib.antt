@@ -13,3 +13,5 @@ pub mod Recording
 pub mod Noting
 pub mod Sources
 pub mod Settled
+pub mod Queueing
+pub mod Sharing

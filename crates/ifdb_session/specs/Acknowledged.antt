@@ -8,6 +8,7 @@ use Rattle.ifdb_session.specs.declared.ending.Ending.TheVariants as ends
 use Rattle.ifdb_session.specs.declared.records.Records as recorder
 use Rattle.ifdb_session.specs.declared.settles.Settles as settler
 use Rattle.ifdb_session.specs.Records.{texts_of}
+use Rattle.ifdb_model.specs.Log.{Entry as LogEntry}
 
 -- the turn answers a line of the session
 abbrev pub answers : ℕ → Kind → Bool
@@ -19,19 +20,19 @@ answers n (kind.Left m work) = false
 
 -- What each turn that answers the session has seen, in their order: the texts of all records up to it. A history goes on behind
 -- another.
-abbrev pub sources_from : ℕ → List Entry → List Entry → List (List (List ℕ))
-sources_from n before [] = []
-sources_from n before (e ∷ h) =
-    (if answers n e.kind then texts_of (before ++ e ∷ []) ∷ [] else []) ++ sources_from n (before ++ e ∷ []) h
+abbrev pub sources_from : List LogEntry → ℕ → List Entry → List Entry → List (List (List ℕ))
+sources_from first n before [] = []
+sources_from first n before (e ∷ h) =
+    (if answers n e.kind then texts_of first (before ++ e ∷ []) ∷ [] else []) ++ sources_from first n (before ++ e ∷ []) h
 
 -- so it is with a whole history
-abbrev pub sources_of : ℕ → List Entry → List (List (List ℕ))
-sources_of n h = sources_from n [] h
+abbrev pub sources_of : List LogEntry → ℕ → List Entry → List (List (List ℕ))
+sources_of first n h = sources_from first n [] h
 
 -- a line is answered by a turn, which counts what was recorded up to it; or it takes no turn that answers
-abbrev pub IsSourced : (List (List ℕ) → ℕ) → ℕ → List Entry → List Entry → Option ℕ → Type 0
-IsSourced count_of n h k None = sources_of n k ≡ sources_of n h
-IsSourced count_of n h k (Some count) = (sources_of n k ≡ sources_of n h ++ texts_of k ∷ []) × (count ≡ count_of (texts_of k))
+abbrev pub IsSourced : List LogEntry → (List (List ℕ) → ℕ) → ℕ → List Entry → List Entry → Option ℕ → Type 0
+IsSourced first count_of n h k None = sources_of first n k ≡ sources_of first n h
+IsSourced first count_of n h k (Some count) = (sources_of first n k ≡ sources_of first n h ++ texts_of first k ∷ []) × (count ≡ count_of (texts_of first k))
 
 -- all but the last of these is kept
 abbrev pub LacksLast : (List (List ℕ) → Type 0) → List (List (List ℕ)) → Type 0
@@ -55,15 +56,15 @@ module _ {Q S : Type 0} (recorders : recorder.Ghosts Q) (settlers : settler.Ghos
 
   -- so it is with all that the written replies to a session were answered from, where its link ended so
   abbrev pub IsAcknowledged : Ending → ℕ → List Entry → S → Type 0
-  IsAcknowledged ending n h keeper = Acknowledges ending (KnowsKept keeper) (sources_of n h)
+  IsAcknowledged ending n h keeper = Acknowledges ending (KnowsKept keeper) (sources_of recorders.first n h)
 
   -- so it is with all that a session was answered from
   abbrev pub AllKept : ℕ → List Entry → S → Type 0
-  AllKept n h keeper = All (KnowsKept keeper) (sources_of n h)
+  AllKept n h keeper = All (KnowsKept keeper) (sources_of recorders.first n h)
 
   -- so it is with all but what the last reply was answered from
   abbrev pub AllButLastKept : ℕ → List Entry → S → Type 0
-  AllButLastKept n h keeper = LacksLast (KnowsKept keeper) (sources_of n h)
+  AllButLastKept n h keeper = LacksLast (KnowsKept keeper) (sources_of recorders.first n h)
 
   -- if so many are told of, they are known to be kept
   abbrev pub IsKeptIf : S → Option ℕ → Type 0

@@ -7,7 +7,6 @@ use Rattle.ifdb_wire.specs.declared.reply.Reply.TheVariants as reply
 use Rattle.ifdb_model.specs.Log.{Entry as LogEntry, changes, commits}
 use Rattle.ifdb_model.specs.Step.{Reader}
 use Rattle.ifdb_model.specs.Run.{State, run, outcome_of}
-use Rattle.ifdb_db.specs.Reading.{read_line}
 use Rattle.ifdb_db.specs.Room.{Hall, client_in}
 use Rattle.ifdb_history.specs.declared.entry.Entry.{Entry}
 use Rattle.ifdb_history.specs.declared.entry.Kind.{Kind}
@@ -17,15 +16,16 @@ use Rattle.ifdb_history.specs.Counts.{is_refusal, refuses_commit, sessions_in, c
 use Rattle.ifdb_session.specs.declared.counts.Counts.{Counts}
 use Rattle.ifdb_session.specs.declared.counts.Glance.{Glance}
 use Rattle.ifdb_session.specs.Endings.{capped}
+use Rattle.ifdb_session.specs.Starts.{start_of}
 
 -- what is counted of a history
-abbrev pub counts_of : List Entry → Counts
-counts_of h = record {
-  sessions = capped (sessions_in read_line h);
+abbrev pub counts_of : List LogEntry → List Entry → Counts
+counts_of first h = record {
+  sessions = capped (sessions_in (start_of first) h);
   entries = capped (length h);
-  commits = capped (commits_in read_line h);
-  refused = capped (refusals_in read_line h);
-  rows = capped (rows_in read_line h);
+  commits = capped (commits_in (start_of first) h);
+  refused = capped (refusals_in (start_of first) h);
+  rows = capped (rows_in (start_of first) h);
 }
 
 -- a count, and one more if it is so; it stops at its last value

@@ -6,7 +6,6 @@ use Rattle.ifdb_io.specs.declared.outside.Source as source
 use Rattle.ifdb_io.specs.declared.outside.Sink as sink
 use Rattle.ifdb_turn.specs.Passes.{history, places, BelongsTo, IsOrderly}
 use Rattle.ifdb_history.specs.History.{IsRight}
-use Rattle.ifdb_db.specs.Reading.{read_line}
 use Rattle.ifdb_session.specs.declared.ending.Ending.{Ending}
 use Rattle.ifdb_session.specs.declared.ending.Ending.TheVariants as ends
 use Rattle.ifdb_session.specs.declared.host.SessionHost.{SessionHost}
@@ -16,12 +15,13 @@ use Rattle.ifdb_session.specs.Acknowledged.{IsAcknowledged}
 use Rattle.ifdb_session.specs.Endings.{fault_of, capped}
 use Rattle.ifdb_session.specs.Passes.{Sees}
 use Rattle.ifdb_session.specs.Links.{Span, Served}
+use Rattle.ifdb_session.specs.Starts.{start_of}
 
 -- the host's pass is its own, is at the turnstile and has no turn, its limit is in range, and it may wait
-pub record IsHostReady {R K Q S : Type 0} (settlers : settler.Ghosts S Q) (h : SessionHost R K Q S) : Type 0 where
+pub record IsHostReady {R K Q S : Type 0} (recorders : recorder.Ghosts Q) (settlers : settler.Ghosts S Q) (h : SessionHost R K Q S) : Type 0 where
   pub keeper : settlers.ready h.keeper
   pub belongs : BelongsTo h.hall.now h.pass
-  pub orderly : IsOrderly (IsRight read_line) h.pass
+  pub orderly : IsOrderly (IsRight (start_of recorders.first)) h.pass
   pub limit : h.limit ≤ 2 ^ 40
 
 -- how a connection was served: how it ended, and its session's number, if it has one
@@ -50,10 +50,11 @@ module _ {K : Type 0} (sources : source.Ghosts K) (sinks : sink.Ghosts K) where
   pub record Serves {R Q S : Type 0} (recorders : recorder.Ghosts Q) (settlers : settler.Ghosts S Q) (h : SessionHost R K Q S) (came : K) (h' : SessionHost R K Q S) (went : K) : Type 0 where
     pub hall : h'.hall ≡ h.hall
     pub limit : h'.limit ≡ h.limit
-    pub sees : Sees h.hall.now h.pass h'.pass
+    pub sees : Sees recorders.first h.hall.now h.pass h'.pass
     pub keeper : settlers.goes_on h.keeper h'.keeper
+    pub shares : (n : ℕ) → settlers.has_shares h.keeper n → settlers.has_shares h'.keeper n
     pub service : Service
-    pub served : service.ending ≢ ends.OutOfMemory → Served service.ending h.limit service.number h.pass h'.pass (span_of came went)
+    pub served : service.ending ≢ ends.OutOfMemory → Served recorders.first service.ending h.limit service.number h.pass h'.pass (span_of came went)
     pub unserved : service.ending ≡ ends.OutOfMemory → went ≡ came
     pub unopened : service.ending ≡ ends.OutOfMemory → places h'.pass ≡ places h.pass
     pub causes : HasCauses service.ending came went

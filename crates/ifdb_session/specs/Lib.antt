@@ -1,3 +1,5 @@
+pub mod Starts
+pub mod Texts
 pub mod Counts
 pub mod Standing
 pub mod Turns
@@ -10,5 +12,8 @@ pub mod Talk
 pub mod Endings
 pub mod Records
 pub mod Acknowledged
+pub mod Keepers
+pub mod Durable
+pub mod Knowing
 pub mod Hosts
 pub mod Cleared

@@ -9,7 +9,6 @@ use Rattle.ifdb_wire.specs.declared.reply.Reply.TheVariants as reply
 use Rattle.ifdb_wire.specs.Text.{reply_text}
 use Rattle.ifdb_turn.specs.declared.turnstile.Pass.{Pass}
 use Rattle.ifdb_turn.specs.Passes.{history, places}
-use Rattle.ifdb_db.specs.Reading.{read_line}
 use Rattle.ifdb_session.specs.Closings.{Closes}
 use Rattle.ifdb_session.specs.Passes.{Adds}
 use Rattle.ifdb_history.specs.declared.entry.Entry.{Entry}
@@ -17,6 +16,8 @@ use Rattle.ifdb_history.specs.History.{after, IsShut, HasRoot}
 use Rattle.ifdb_history.specs.Lines.{lines_of, IsTold}
 use Rattle.ifdb_session.specs.declared.ending.Ending.{Ending}
 use Rattle.ifdb_session.specs.declared.ending.Ending.TheVariants as ends
+use Rattle.ifdb_model.specs.Log.{Entry as LogEntry}
+use Rattle.ifdb_session.specs.Starts.{start_of}
 
 -- a line and its newline
 abbrev pub with_newline : List ℕ → List ℕ
@@ -92,17 +93,17 @@ Ends ends.TooLong limit lines texts s =
 Ends ends.OutOfMemory limit lines texts s = ⊥
 
 -- a link was served by session n of this history, which is over
-abbrev pub IsServed : Ending → ℕ → ℕ → List Entry → Span → Type 0
-IsServed ending limit n h s =
-    IsShut (after read_line h) n × Closes ending n h
-    × ((texts : List ℕ) × IsTold read_line n h texts × Ends ending limit (lines_of n h) texts s)
+abbrev pub IsServed : List LogEntry → Ending → ℕ → ℕ → List Entry → Span → Type 0
+IsServed first ending limit n h s =
+    IsShut (after (start_of first) h) n × Closes ending n h
+    × ((texts : List ℕ) × IsTold (start_of first) n h texts × Ends ending limit (lines_of n h) texts s)
 
 -- What the service of a link did to the pass, where it opened session n: that was its first turn, and each of its turns was the
 -- session's.
-pub record Served {X : Type 0} (ending : Ending) (limit n : ℕ) (old new : Pass X Entry) (s : Span) : Type 0 where
+pub record Served {X : Type 0} (before : List LogEntry) (ending : Ending) (limit n : ℕ) (old new : Pass X Entry) (s : Span) : Type 0 where
   pub place : ℕ
   pub rest : List ℕ
   pub first : HasRoot (history new) n place
   pub own : places new ≡ places old ++ place ∷ rest
   pub adds : Adds n old new
-  pub served : IsServed ending limit n (history new) s
+  pub served : IsServed before ending limit n (history new) s

@@ -14,9 +14,10 @@ use Rattle.ifdb_history.specs.Lines.{lines_with, IsToldWith}
 use Rattle.ifdb_db.specs.Client.{Client, session_at}
 use Rattle.ifdb_db.specs.Lent.{IsLent, Answers, EndsTransaction}
 use Rattle.ifdb_db.specs.Looks.{Looking, Shows}
-use Rattle.ifdb_db.specs.Reading.{read_line}
 use Rattle.ifdb_db.specs.Room.{IsOver}
 use Rattle.ifdb_session.specs.declared.seat.Seat.{Seat}
+use Rattle.ifdb_model.specs.Log.{Entry as LogEntry}
+use Rattle.ifdb_session.specs.Starts.{start_of}
 
 -- what a reader had read, and whether it was refused
 abbrev pub note_of : Reading × Bool → Note
@@ -34,8 +35,8 @@ abbrev pub lines_in : List Entry → Seat → List (List ℕ)
 lines_in h s = lines_with s.number h (work_of s)
 
 -- and it was told these bytes
-abbrev pub IsToldIn : List Entry → Seat → List ℕ → Type 0
-IsToldIn h s text = IsToldWith read_line s.number h (work_of s) text
+abbrev pub IsToldIn : List LogEntry → List Entry → Seat → List ℕ → Type 0
+IsToldIn first h s text = IsToldWith (start_of first) s.number h (work_of s) text
 
 -- ---- the entries of a turn that brings work along
 
@@ -68,26 +69,26 @@ IsWorked [] c e = e ≡ c
 IsWorked (w ∷ work) c e = (d : Client) × (text : List ℕ) × IsToldAs w.is_refused w.line c d text × IsWorked work d e
 
 -- a session was lent as the history leaves it, and came to c by this work
-pub record Works (h : List Entry) (n : ℕ) (work : List Note) (c : Client) : Type 0 where
+pub record Works (first : List LogEntry) (h : List Entry) (n : ℕ) (work : List Note) (c : Client) : Type 0 where
   pub begun : Client
-  pub session : session_of (after read_line h) n ≡ session_at begun
-  pub over : IsOver (after read_line h).log begun.txn
+  pub session : session_of (after (start_of first) h) n ≡ session_at begun
+  pub over : IsOver (after (start_of first) h).log begun.txn
   pub lent : IsLent begun
   pub worked : IsWorked work begun c
 
 -- so it is with a session that is lent; one in the room has no work
-abbrev pub WorksIf : List Entry → ℕ → List Note → Option Client → Type 0
-WorksIf h n work None = work ≡ []
-WorksIf h n work (Some c) = Works h n work c
+abbrev pub WorksIf : List LogEntry → List Entry → ℕ → List Note → Option Client → Type 0
+WorksIf first h n work None = work ≡ []
+WorksIf first h n work (Some c) = Works first h n work c
 
 -- the session of a seat is open, and its seat is as the history and its work say
-pub record IsSeated (h : List Entry) (own : List ℕ) (s : Seat) : Type 0 where
-  pub holds : Holds read_line h own s.number
-  pub works : WorksIf h s.number (work_of s) s.lent
+pub record IsSeated (first : List LogEntry) (h : List Entry) (own : List ℕ) (s : Seat) : Type 0 where
+  pub holds : Holds (start_of first) h own s.number
+  pub works : WorksIf first h s.number (work_of s) s.lent
 
 -- it is over, and no work is left
-pub record IsGone (h : List Entry) (s : Seat) : Type 0 where
-  pub shut : IsShut (after read_line h) s.number
+pub record IsGone (first : List LogEntry) (h : List Entry) (s : Seat) : Type 0 where
+  pub shut : IsShut (after (start_of first) h) s.number
   pub none : work_of s ≡ []
 
 -- ---- a line that is asked of a seat alone

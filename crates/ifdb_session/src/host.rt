@@ -35,7 +35,7 @@ impl<'a, R: Wait, K: Link, Q: Records, S: Settles<Q>> Host for SessionHost<'a, R
 
     type Link = K;
 
-    ghost ready = { IsHostReady S.Settles };
+    ghost ready = { IsHostReady Q.Records S.Settles };
 
     ghost serves = { Serves K.Source K.Sink Q.Records S.Settles };
 

@@ -1,5 +1,5 @@
 // A service that stands in memory alone.
-ghost use Rattle.std.specs.Prelude.{⊤};
+ghost use Rattle.std.specs.Prelude.{⊤, []};
 
 use crate::{Records, Settles, SharedRoom};
 use ifdb_io::Failed;
@@ -11,6 +11,8 @@ use std::sync::Wait;
 pub struct InMemory;
 
 impl Records for InMemory {
+    ghost first = { [] };
+
     ghost has = { λ _ _. ⊤ };
 
     ghost fits = { λ _ _. ⊤ };
@@ -37,6 +39,8 @@ impl Settles<InMemory> for InMemory {
 
     ghost goes_on = { λ _ _. ⊤ };
 
+    ghost has_shares = { λ _ _. ⊤ };
+
     fn settle<R: Wait>(
         &mut self,
         _rt: &R,
@@ -46,6 +50,12 @@ impl Settles<InMemory> for InMemory {
     ) -> Result<(), Failed> {
         Ok(())
     }
+
+    fn split(&mut self) -> InMemory {
+        InMemory
+    }
+
+    fn join(&mut self, _other: InMemory) {}
 
     ghost goes_itself = { λ _. tt };
 

@@ -3,6 +3,7 @@
 
 mod cleared;
 mod counts;
+mod durable;
 mod ending;
 mod host;
 mod in_memory;
@@ -15,6 +16,7 @@ mod turns;
 
 pub use cleared::cleared_stay_inside;
 pub use counts::Counts;
+pub use durable::{Begins, Durable};
 pub use ending::Ending;
 pub use host::SessionHost;
 pub use in_memory::InMemory;

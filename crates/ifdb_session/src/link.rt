@@ -5,11 +5,12 @@ ghost use Rattle.ifdb_io.specs.Causes.{HasCause, Rose, WritesShort};
 ghost use Rattle.ifdb_turn.specs.Passes.{history, places, BelongsTo, IsOrderly, NoForeignRoots};
 ghost use Rattle.ifdb_wire.specs.Text.{reply_text};
 ghost use Rattle.ifdb_history.specs.History.{IsRight};
-ghost use Rattle.ifdb_db.specs.Reading.{read_line};
+ghost use Rattle.ifdb_session.specs.Starts.{start_of};
 ghost use Rattle.ifdb_session.specs.Passes.{Sees, Adds, Asks, TakesNoTurn};
 ghost use Rattle.ifdb_session.specs.Seats.{lines_in, IsSeated, IsToldIn};
 ghost use Rattle.ifdb_session.specs.Links.{Served};
 ghost use Rattle.ifdb_session.specs.Acknowledged.{AllButLastKept, AllKept, IsAcknowledged, IsKeptIf, IsSourced};
+ghost use Rattle.ifdb_session.specs.Keepers.{StaysReady};
 ghost use Rattle.ifdb_session.specs.Standing.{root_of};
 ghost use Rattle.ifdb_session.specs.Talk.{IsTalked};
 
@@ -59,13 +60,13 @@ pub fn serve_link<R: Wait, K: Link, Q: Records, S: Settles<Q>>(
     limit: u64,
 ) -> Ending
     requires pass { BelongsTo hall.now pass.old }
-    requires orderly { IsOrderly (IsRight read_line) pass.old }
+    requires orderly { IsOrderly (IsRight (start_of Q.first)) pass.old }
     requires limit { limit ≤ 2 ^ 40 }
     requires keeper { S.ready keeper.old }
-    ensures sees { Sees hall.now pass.old pass.new }
-    ensures keeper { S.ready keeper.new × S.goes_on keeper.old keeper.new }
+    ensures sees { Sees Q.first hall.now pass.old pass.new }
+    ensures keeper { StaysReady S.Settles keeper.old keeper.new }
     ensures served { result ≢ Ending.OutOfMemory
-        → (n : ℕ) × Served result limit n pass.old pass.new (record {
+        → (n : ℕ) × Served Q.first result limit n pass.old pass.new (record {
           left = K.left link.old;
           left_now = K.left link.new;
           written = K.written link.old;
@@ -120,10 +121,10 @@ fn talk<R: Wait, K: Link, Q: Records, S: Settles<Q>>(
     link: &mut K,
 ) -> Talked
     requires pass { BelongsTo hall.now pass.old }
-    requires orderly { IsOrderly (IsRight read_line) pass.old }
-    requires seated { IsSeated (history pass.old) (places pass.old) seat.old }
+    requires orderly { IsOrderly (IsRight (start_of Q.first)) pass.old }
+    requires seated { IsSeated Q.first (history pass.old) (places pass.old) seat.old }
     requires no_lines { lines_in (history pass.old) seat.old ≡ [] }
-    requires no_texts { IsToldIn (history pass.old) seat.old [] }
+    requires no_texts { IsToldIn Q.first (history pass.old) seat.old [] }
     requires reader { reader.old ≡ record {
       text = [];
       held = [];
@@ -133,14 +134,14 @@ fn talk<R: Wait, K: Link, Q: Records, S: Settles<Q>>(
       over = false;
     } }
     requires keeper { S.ready keeper.old }
-    ensures sees { Sees hall.now pass.old pass.new }
+    ensures sees { Sees Q.first hall.now pass.old pass.new }
     ensures adds { Adds seat.old.number pass.old pass.new }
     ensures number { seat.new.number ≡ seat.old.number }
-    ensures keeper { S.ready keeper.new × S.goes_on keeper.old keeper.new }
+    ensures keeper { StaysReady S.Settles keeper.old keeper.new }
     ensures acknowledged { IsAcknowledged Q.Records S.Settles
         result.ending seat.old.number (history pass.new) keeper.new }
     ensures unkept { result.ending ≡ Ending.Unkept → S.has_failed keeper.new }
-    ensures talked { IsTalked (history pass.new) (places pass.new) seat.new reader.old.limit
+    ensures talked { IsTalked Q.first (history pass.new) (places pass.new) seat.new reader.old.limit
         (record {
           left = K.left link.old;
           left_now = K.left link.new;
@@ -225,12 +226,12 @@ fn answer<R: Wait, K: Link, Q: Records, S: Settles<Q>>(
     link: &mut K,
 ) -> Answered
     requires pass { BelongsTo hall.now pass.old }
-    requires orderly { IsOrderly (IsRight read_line) pass.old }
-    requires seated { IsSeated (history pass.old) (places pass.old) seat.old }
+    requires orderly { IsOrderly (IsRight (start_of Q.first)) pass.old }
+    requires seated { IsSeated Q.first (history pass.old) (places pass.old) seat.old }
     requires keeper { S.ready keeper.old }
-    ensures asks { Asks hall.now reader.now.text out.new.text
+    ensures asks { Asks Q.first hall.now reader.now.text out.new.text
         pass.old pass.new seat.old seat.new result.is_open }
-    ensures keeper { S.ready keeper.new × S.goes_on keeper.old keeper.new }
+    ensures keeper { StaysReady S.Settles keeper.old keeper.new }
     ensures kept { result.is_kept ≡ true
         → AllKept Q.Records S.Settles seat.old.number (history pass.old) keeper.old
         → AllKept Q.Records S.Settles seat.old.number (history pass.new) keeper.new }
@@ -274,10 +275,10 @@ fn settle_if<R: Wait, Q: Records, S: Settles<Q>>(
     count: Option<u64>,
 ) -> Result<(), Failed>
     requires pass { BelongsTo hall.now pass.old }
-    requires orderly { IsOrderly (IsRight read_line) pass.old }
+    requires orderly { IsOrderly (IsRight (start_of Q.first)) pass.old }
     requires keeper { S.ready keeper.old }
-    ensures keeper { S.ready keeper.new × S.goes_on keeper.old keeper.new }
-    ensures sees { Sees hall.now pass.old pass.new }
+    ensures keeper { StaysReady S.Settles keeper.old keeper.new }
+    ensures sees { Sees Q.first hall.now pass.old pass.new }
     ensures places { places pass.new ≡ places pass.old }
     ensures away { NoForeignRoots root_of pass.old pass.new }
     ensures kept { OnOk result (IsKeptIf Q.Records S.Settles keeper.new count) }
@@ -300,11 +301,11 @@ fn ask<R: Wait, Q: Records>(
     out: &mut Out,
 ) -> Outcome
     requires pass { BelongsTo hall.now pass.old }
-    requires orderly { IsOrderly (IsRight read_line) pass.old }
-    requires seated { IsSeated (history pass.old) (places pass.old) seat.old }
-    ensures asks { Asks hall.now reader.now.text out.new.text
+    requires orderly { IsOrderly (IsRight (start_of Q.first)) pass.old }
+    requires seated { IsSeated Q.first (history pass.old) (places pass.old) seat.old }
+    ensures asks { Asks Q.first hall.now reader.now.text out.new.text
         pass.old pass.new seat.old seat.new result.is_open }
-    ensures sourced { IsSourced Q.count_of seat.old.number
+    ensures sourced { IsSourced Q.first Q.count_of seat.old.number
         (history pass.old) (history pass.new) result.count }
     ensures alone { TakesNoTurn reader.now.text seat.old.lent pass.old pass.new }
 {

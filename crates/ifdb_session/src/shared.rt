@@ -1,15 +1,19 @@
 // The room that connections share.
 ghost use Rattle.std.specs.Prelude.{◌≡◌, ◌++◌, ℕ, [], false, List, None, IfErr, IfOk, IfSome, IsSome, OnErr, OnOk, length};
+ghost use Rattle.ifdb_redo.specs.declared.record.RedoRecord.{RedoRecord};
 ghost use Rattle.ifdb_wire.specs.Text.{memory_text, reply_text};
 ghost use Rattle.ifdb_model.specs.Run.{asks, leaves, opens};
 ghost use Rattle.ifdb_db.specs.Looks.{IsLookOf};
 ghost use Rattle.ifdb_db.specs.Noting.{IsNotedIn};
+ghost use Rattle.ifdb_db.specs.Room.{StandsFor};
 ghost use Rattle.ifdb_db.specs.RoomSteps.{GoesBy, IsReplyTo};
+ghost use Rattle.ifdb_history.specs.History.{first_state};
 ghost use Rattle.ifdb_history.specs.declared.entry.Kind.TheVariants.{Opened as OpenedKind, Left as LeftKind};
 ghost use Rattle.ifdb_session.specs.Counts.{counts_of, IsGlance};
 ghost use Rattle.ifdb_session.specs.Endings.{capped};
-ghost use Rattle.ifdb_session.specs.Records.{Forgets, HasRoom, texts_in};
+ghost use Rattle.ifdb_session.specs.Records.{Forgets, HasRoom, records_in, records_of};
 ghost use Rattle.ifdb_session.specs.Standing.{StandsForHistory};
+ghost use Rattle.ifdb_session.specs.Starts.{start_of};
 ghost use Rattle.ifdb_session.specs.Turns.{CountsTurn, HasCounted, IsAsked, IsCount, IsNextNumber, MayBeBack, with_lent};
 
 use crate::counts::{Counts, Glance, counted};
@@ -55,7 +59,7 @@ pub(crate) enum Asked {
 }
 
 impl<Q: Records> Object for SharedRoom<Q> {
-    ghost use Rattle.ifdb_db.specs.Reading.{read_line};
+    ghost use Rattle.ifdb_session.specs.Starts.{start_of};
     ghost use Rattle.ifdb_history.specs.History.{IsRight};
     ghost use Rattle.ifdb_session.specs.Standing.{StandsForHistory, root_of};
 
@@ -63,31 +67,43 @@ impl<Q: Records> Object for SharedRoom<Q> {
 
     ghost stands = { StandsForHistory Q.Records };
 
-    ghost right = { IsRight read_line };
+    ghost right = { IsRight (start_of Q.first) };
 
     ghost root = { root_of };
 }
 
 impl<Q: Records + Drop> SharedRoom<Q> {
-    /// The opening: the public state before the first change, no rows, no sessions, and no records.
+    /// The opening: the public state before the first change, no rows, no sessions, and no records. There was no log before.
     pub fn opening(alloc: Global, records: Q) -> Result<SharedRoom<Q>, OutOfMemory>
-        requires { Q.has records [] }
+        requires none { Q.first ≡ [] }
+        requires records { Q.has records [] }
         ensures { IfOk result (λ shared. StandsForHistory Q.Records shared []) }
     {
-        Ok(SharedRoom {
-            room: Room::opening(alloc)?,
-            records,
-            entries: 0,
-            commits: 0,
-            refused: 0,
-        })
+        let room = Room::opening(alloc)?;
+        Ok(SharedRoom::resumed(room, records))
     }
 }
 
 impl<Q: Records> SharedRoom<Q> {
+    /// A room that stands for the log that there was, without sessions, behind which nothing was recorded. Takes no memory.
+    pub fn resumed(room: Room, records: Q) -> SharedRoom<Q>
+        requires stands { StandsFor room (first_state (start_of Q.first)) }
+        requires none { Q.has records [] }
+        ensures { StandsForHistory Q.Records result [] }
+    {
+        SharedRoom {
+            room,
+            records,
+            entries: 0,
+            commits: 0,
+            refused: 0,
+        }
+    }
+
     /// What the history comes to.
     pub fn counts(&self) -> Counts
-        ensures { (h : List Entry) → StandsForHistory Q.Records self.now h → result ≡ counts_of h }
+        ensures { (h : List Entry) → StandsForHistory Q.Records self.now h
+            → result ≡ counts_of Q.first h }
     {
         Counts {
             sessions: self.room.sessions(),
@@ -96,6 +112,15 @@ impl<Q: Records> SharedRoom<Q> {
             refused: self.refused,
             rows: rows_in(&self.room),
         }
+    }
+
+    /// What recorded the entries: it has the records of the history.
+    pub fn into_records(self) -> Q
+        ensures { (h : List Entry) → StandsForHistory Q.Records self h
+            → Q.has result (records_of Q.first h) }
+    {
+        let SharedRoom { records, .. } = self;
+        records
     }
 
     /// Opens the next session, and gives its number. `OutOfMemory` changes nothing.
@@ -231,8 +256,8 @@ impl<Q: Records> SharedRoom<Q> {
 fn record<Q: Records>(records: &mut Q, note: Note)
     requires room { IfSome note.limit (HasRoom Q.Records records.old) }
     requires none { note.limit ≡ None → Forgets Q.Records records.old }
-    ensures recorded { (texts : List (List ℕ))
-        → Q.has records.old texts → Q.has records.new (texts ++ texts_in note) }
+    ensures recorded { (rs : List RedoRecord)
+        → Q.has records.old rs → Q.has records.new (rs ++ records_in note) }
     ensures none { note.limit ≡ None → Forgets Q.Records records.new }
 {
     if let Some(text) = note.into_text() {

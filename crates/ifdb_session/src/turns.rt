@@ -2,7 +2,7 @@
 ghost use Rattle.std.specs.Prelude.{◌≡◌, ℕ, List, true, IfOk, OnErr, Some};
 ghost use Rattle.ifdb_turn.specs.Passes.{history, places, BelongsTo};
 ghost use Rattle.ifdb_turn.specs.Turns.{object_of, pass_of, IsTurn, Adds as AddsEntry};
-ghost use Rattle.ifdb_db.specs.Reading.{read_line};
+ghost use Rattle.ifdb_session.specs.Starts.{start_of};
 ghost use Rattle.ifdb_history.specs.History.{after, entry_of, opening_entry, IsRight, IsShut};
 ghost use Rattle.ifdb_history.specs.Lines.{lines_of, IsTold};
 ghost use Rattle.ifdb_history.specs.declared.entry.Kind.TheVariants.{Looked as LookedKind, Refused as RefusedKind};
@@ -32,8 +32,8 @@ pub(crate) fn open<R: Wait, Q: Records>(
     pass: &mut Pass<SharedRoom<Q>>,
 ) -> Result<u64, OutOfMemory>
     requires pass { BelongsTo hall.now pass.old }
-    ensures sees { Sees hall.now pass.old pass.new }
-    ensures new { IfOk result (λ n. IsNew n pass.old pass.new) }
+    ensures sees { Sees Q.first hall.now pass.old pass.new }
+    ensures new { IfOk result (λ n. IsNew Q.first n pass.old pass.new) }
     ensures none { OnErr result (places pass.new ≡ places pass.old) }
 {
     let mut turn = hall.enter(rt, pass);
@@ -66,10 +66,10 @@ pub(crate) fn ask_in_turn<R: Wait, Q: Records>(
     out: &mut Out,
 ) -> Outcome
     requires pass { BelongsTo hall.now pass.old }
-    requires seated { IsSeated (history pass.old) (places pass.old) seat.old }
-    ensures asks { Asks hall.now reader.now.text out.new.text
+    requires seated { IsSeated Q.first (history pass.old) (places pass.old) seat.old }
+    ensures asks { Asks Q.first hall.now reader.now.text out.new.text
         pass.old pass.new seat.old seat.new result.is_open }
-    ensures sourced { IsSourced Q.count_of seat.old.number
+    ensures sourced { IsSourced Q.first Q.count_of seat.old.number
         (history pass.old) (history pass.new) result.count }
 {
     let n = seat.number;
@@ -122,16 +122,16 @@ pub(crate) fn leave<R: Wait, Q: Records>(
     seat: Seat,
 )
     requires pass { BelongsTo hall.now pass.old }
-    requires seated { IsSeated (history pass.old) (places pass.old) seat }
-    ensures sees { Sees hall.now pass.old pass.new }
+    requires seated { IsSeated Q.first (history pass.old) (places pass.old) seat }
+    ensures sees { Sees Q.first hall.now pass.old pass.new }
     ensures adds { Adds seat.number pass.old pass.new }
-    ensures over { IsShut (after read_line (history pass.new)) seat.number }
+    ensures over { IsShut (after (start_of Q.first) (history pass.new)) seat.number }
     ensures left { HasLeft seat.number (history pass.new) }
-    ensures sourced { sources_of seat.number (history pass.new)
-        ≡ sources_of seat.number (history pass.old) }
+    ensures sourced { sources_of Q.first seat.number (history pass.new)
+        ≡ sources_of Q.first seat.number (history pass.old) }
     ensures lines { lines_of seat.number (history pass.new) ≡ lines_in (history pass.old) seat }
-    ensures texts { (text : List ℕ) → IsToldIn (history pass.old) seat text
-        → IsTold read_line seat.number (history pass.new) text }
+    ensures texts { (text : List ℕ) → IsToldIn Q.first (history pass.old) seat text
+        → IsTold (start_of Q.first) seat.number (history pass.new) text }
 {
     let Seat {
         number,
@@ -148,7 +148,7 @@ pub(crate) fn leave<R: Wait, Q: Records>(
 fn done_bare<Q: Records>(turn: Turn<'_, SharedRoom<Q>>)
     requires turn { IsTurn turn }
     requires stands { StandsForHistory Q.Records (object_of turn) (history (pass_of turn)) }
-    ensures { EndsBare turn.entry turn.exit.0.now }
+    ensures { EndsBare Q.first turn.entry turn.exit.0.now }
 {
     turn.leave();
 }
@@ -157,8 +157,8 @@ fn done_bare<Q: Records>(turn: Turn<'_, SharedRoom<Q>>)
 fn done_opened<Q: Records, N: NamedEntry<Entry>>(turn: Turn<'_, SharedRoom<Q>>)
     requires turn { IsTurn turn }
     requires entry { let e = opening_entry (history (pass_of turn)) in
-        (N.entry ≡ Some e) × AddsEntry (StandsForHistory Q.Records) (IsRight read_line) root_of turn e }
-    ensures { EndsWith turn.entry turn.exit.0.now (opening_entry (history (pass_of turn.entry))) }
+        (N.entry ≡ Some e) × AddsEntry (StandsForHistory Q.Records) (IsRight (start_of Q.first)) root_of turn e }
+    ensures { EndsWith Q.first turn.entry turn.exit.0.now (opening_entry (history (pass_of turn.entry))) }
 {
     turn.done::<N>();
 }
@@ -172,8 +172,8 @@ fn done_asked<Q: Records, N: NamedEntry<Entry>>(
 )
     requires turn { IsTurn turn }
     requires entry { let e = asked_entry (history (pass_of turn)) n work.now.items line.now in
-        (N.entry ≡ Some e) × AddsEntry (StandsForHistory Q.Records) (IsRight read_line) root_of turn e }
-    ensures { EndsOf turn.entry turn.exit.0.now n (asked_kind n work.now.items line.now) }
+        (N.entry ≡ Some e) × AddsEntry (StandsForHistory Q.Records) (IsRight (start_of Q.first)) root_of turn e }
+    ensures { EndsOf Q.first turn.entry turn.exit.0.now n (asked_kind n work.now.items line.now) }
 {
     turn.done::<N>();
 }
@@ -182,8 +182,8 @@ fn done_asked<Q: Records, N: NamedEntry<Entry>>(
 fn done_looked<Q: Records, N: NamedEntry<Entry>>(turn: Turn<'_, SharedRoom<Q>>, n: u64, line: &[u8])
     requires turn { IsTurn turn }
     requires entry { let e = entry_of (history (pass_of turn)) n (LookedKind n line.now) in
-        (N.entry ≡ Some e) × AddsEntry (StandsForHistory Q.Records) (IsRight read_line) root_of turn e }
-    ensures { EndsOf turn.entry turn.exit.0.now n (LookedKind n line.now) }
+        (N.entry ≡ Some e) × AddsEntry (StandsForHistory Q.Records) (IsRight (start_of Q.first)) root_of turn e }
+    ensures { EndsOf Q.first turn.entry turn.exit.0.now n (LookedKind n line.now) }
 {
     turn.done::<N>();
 }
@@ -196,8 +196,8 @@ fn done_refused<Q: Records, N: NamedEntry<Entry>>(
 )
     requires turn { IsTurn turn }
     requires entry { let e = entry_of (history (pass_of turn)) n (RefusedKind n line.now) in
-        (N.entry ≡ Some e) × AddsEntry (StandsForHistory Q.Records) (IsRight read_line) root_of turn e }
-    ensures { EndsOf turn.entry turn.exit.0.now n (RefusedKind n line.now) }
+        (N.entry ≡ Some e) × AddsEntry (StandsForHistory Q.Records) (IsRight (start_of Q.first)) root_of turn e }
+    ensures { EndsOf Q.first turn.entry turn.exit.0.now n (RefusedKind n line.now) }
 {
     turn.done::<N>();
 }
@@ -210,8 +210,8 @@ fn done_left<Q: Records, N: NamedEntry<Entry>>(
 )
     requires turn { IsTurn turn }
     requires entry { let e = left_entry (history (pass_of turn)) n work.now.items in
-        (N.entry ≡ Some e) × AddsEntry (StandsForHistory Q.Records) (IsRight read_line) root_of turn e }
-    ensures { EndsOf turn.entry turn.exit.0.now n (left_kind n work.now.items) }
+        (N.entry ≡ Some e) × AddsEntry (StandsForHistory Q.Records) (IsRight (start_of Q.first)) root_of turn e }
+    ensures { EndsOf Q.first turn.entry turn.exit.0.now n (left_kind n work.now.items) }
 {
     turn.done::<N>();
 }
