@@ -12,7 +12,7 @@ use Rattle.ifdb_wire.specs.Text.{memory_text, reply_text}
 use Rattle.ifdb_model.specs.Log.{Entry as LogEntry, changes, commits, commits_of}
 use Rattle.ifdb_model.specs.Session.{Txn, Session, no_session, in_txn}
 use Rattle.ifdb_model.specs.Step.{Reader, Outcome, refuses, ask}
-use Rattle.ifdb_model.specs.Run.{State, session_of, outcome_of, with_outcome, asks, leaves, opening, next, run}
+use Rattle.ifdb_model.specs.Run.{State, session_of, outcome_of, with_outcome, asks, leaves, next, run}
 use Rattle.ifdb_model.proofs.Runs.{run-append}
 use Rattle.ifdb_laws.proofs.Shapes.{Shape, stayed, greeted_as, relabelled_to, begun, ended, published, joined, wrote, done, shape}
 use Rattle.ifdb_db.specs.Client.{Open, Client, txn_at}
@@ -25,25 +25,22 @@ use Rattle.ifdb_history.specs.declared.entry.Entry.{Entry}
 use Rattle.ifdb_history.specs.declared.entry.Kind.{Kind}
 use Rattle.ifdb_history.specs.declared.entry.Kind.TheVariants as kind
 use Rattle.ifdb_history.specs.Counts.{is_refusal, refusal_of, refusals_from, refusals_in, commits_in}
-use Rattle.ifdb_history.specs.History.{steps_of, flat, after}
+use Rattle.ifdb_history.specs.History.{Start, first_state, steps_of, flat, after}
 use Rattle.ifdb_history.proofs.Sessions.{open_was}
+use Rattle.ifdb_history.proofs.Logs.{commits_of-append, commits_added}
 use Rattle.ifdb_session.specs.declared.counts.Glance.{Glance}
 use Rattle.ifdb_session.specs.declared.records.Records as recorder
 use Rattle.ifdb_session.specs.declared.shared.SharedRoom.{SharedRoom}
 use Rattle.ifdb_session.specs.Counts.{counted, is_commit, commits_at, refuses_at, is_count, IsGlance, has_committed, has_refused}
 use Rattle.ifdb_session.specs.Endings.{capped}
-use Rattle.ifdb_session.specs.Records.{texts_of}
+use Rattle.ifdb_session.specs.Records.{records_of}
 use Rattle.ifdb_session.specs.Standing.{StandsForHistory}
+use Rattle.ifdb_session.specs.Starts.{start_of}
 use Rattle.ifdb_session.specs.declared.shared.Asked.{Asked}
 use Rattle.ifdb_session.specs.declared.shared.Asked.TheVariants as asked
 use Rattle.ifdb_session.specs.Turns.{IsAnswered, IsAsked, IsCount, IsLentAfter, IsLentBy, IsLeftOpen, HasCounted, CountsTurn}
 
 -- ---- a history and one more entry
-
-commits_of-append : (xs ys : List LogEntry) → length (commits_of (xs ++ ys)) ≡ length (commits_of xs) + length (commits_of ys)
-commits_of-append [] ys = omega arith
-commits_of-append (changes c ∷ xs) ys = commits_of-append xs ys
-commits_of-append (commits ws ∷ xs) ys = let e = commits_of-append xs ys in omega (arith, e)
 
 -- what a line adds
 one_commit : (added : Option LogEntry) → length (commits_of (option_to_list added)) ≡ cond (is_commit added) 1 0
@@ -68,11 +65,6 @@ module _ (read : Reader) where
     by true = omega arith
     by false = omega arith
 
-  -- the log after a history, and after one entry more, which leads to a state
-  pub commits_more : (h : List Entry) (e : Entry) (st : State) (is_commit : Bool) → after read (h ++ e ∷ []) ≡ st
-      → length (commits_of st.log) ≡ length (commits_of (after read h).log) + cond is_commit 1 0 → commits_in read (h ++ e ∷ []) ≡ commits_in read h + cond is_commit 1 0
-  commits_more h e st is_commit is more = ap (λ (z : State). length (commits_of z.log)) is ∙ more
-
   refusals_from-append : (st : State) (h k : List Entry) → refusals_from read st (h ++ k) ≡ refusals_from read st h + refusals_from read (run read st (flat h)) k
   refusals_from-append st [] k = omega arith
   refusals_from-append st (e ∷ h) k =
@@ -87,11 +79,25 @@ module _ (read : Reader) where
   one_refusal st (kind.Refused n line) = refl
   one_refusal st (kind.Left n work) = refl
 
-  pub refusals_more : (h : List Entry) (e : Entry) → refusals_in read (h ++ e ∷ []) ≡ refusals_in read h + cond (refuses_at read (after read h) e.kind) 1 0
+module _ (start : Start) where
+  -- the log after a history, and after one entry more, which leads to a state
+  pub commits_more : (h : List Entry) (e : Entry) (st : State) (is_commit : Bool) → after start (h ++ e ∷ []) ≡ st
+      → length (commits_of st.log) ≡ length (commits_of (after start h).log) + cond is_commit 1 0 → commits_in start (h ++ e ∷ []) ≡ commits_in start h + cond is_commit 1 0
+  commits_more h e st is_commit is more =
+      let before = commits_added start h in
+      let now = commits_added start (h ++ e ∷ []) in
+      let there = ap (λ (z : State). length (commits_of z.log)) is in
+      omega (arith, before, now, there, more)
+
+  pub refusals_more : (h : List Entry) (e : Entry) → refusals_in start (h ++ e ∷ []) ≡ refusals_in start h + cond (refuses_at start.read (after start h) e.kind) 1 0
   refusals_more h e =
-      let a = refusals_from-append opening h (e ∷ []) in
-      let b = one_refusal (after read h) e.kind in
+      let a = refusals_from-append start.read (first_state start) h (e ∷ []) in
+      let b = one_refusal start.read (after start h) e.kind in
       omega (arith, a, b)
+
+  -- there is none yet
+  no_commits : commits_in start [] ≡ 0
+  no_commits = let first = commits_added start [] in omega (arith, first)
 
 -- ---- the counts go along
 
@@ -100,15 +106,26 @@ capped_more n m k true e f = omega (arith, e, f)
 capped_more n m k false e f = omega (arith, e, f)
 
 -- the room stands for one entry more, where the turn was counted as what it is and recorded what it did
-pub stands_more : {Q : Type 0} (recorders : recorder.Ghosts Q) (old new : SharedRoom Q) (h : List Entry) (e : Entry) (is_commit is_refused : Bool) → StandsForHistory recorders old h → StandsFor new.room (after read_line (h ++ e ∷ []))
-    → commits_in read_line (h ++ e ∷ []) ≡ commits_in read_line h + cond is_commit 1 0 → refuses_at read_line (after read_line h) e.kind ≡ is_refused
-    → HasCounted old new is_commit is_refused → recorders.has new.records (texts_of (h ++ e ∷ [])) → StandsForHistory recorders new (h ++ e ∷ [])
+pub stands_more : {Q : Type 0} (recorders : recorder.Ghosts Q) (old new : SharedRoom Q) (h : List Entry) (e : Entry) (is_commit is_refused : Bool) → StandsForHistory recorders old h → StandsFor new.room (after (start_of recorders.first) (h ++ e ∷ []))
+    → commits_in (start_of recorders.first) (h ++ e ∷ []) ≡ commits_in (start_of recorders.first) h + cond is_commit 1 0 → refuses_at read_line (after (start_of recorders.first) h) e.kind ≡ is_refused
+    → HasCounted old new is_commit is_refused → recorders.has new.records (records_of recorders.first (h ++ e ∷ [])) → StandsForHistory recorders new (h ++ e ∷ [])
 stands_more recorders old new h e is_commit is_refused stands room more refuses told recorded = record {
   room = room;
   entries = told.entries ∙ capped_more old.entries (length h) (length (h ++ e ∷ [])) true stands.entries (length-append h (e ∷ []));
   commits = told.commits ∙ capped_more old.commits _ _ is_commit stands.commits more;
-  refused = told.refused ∙ capped_more old.refused _ _ is_refused stands.refused (refusals_more read_line h e ∙ ap (λ b. refusals_in read_line h + cond b 1 0) refuses);
+  refused = told.refused ∙ capped_more old.refused _ _ is_refused stands.refused (refusals_more (start_of recorders.first) h e ∙ ap (λ b. refusals_in (start_of recorders.first) h + cond b 1 0) refuses);
   recorded = recorded;
+}
+
+-- it stands for the log that there was, before the first entry
+pub stands_first : {Q : Type 0} (recorders : recorder.Ghosts Q) (room : Hall) (records : Q) → StandsFor room (first_state (start_of recorders.first)) → recorders.has records []
+    → StandsForHistory recorders (record { room = room; records = records; entries = 0; commits = 0; refused = 0 }) []
+stands_first recorders room records stands none = record {
+  room = stands;
+  entries = refl;
+  commits = ap capped (sym (no_commits (start_of recorders.first)));
+  refused = refl;
+  recorded = none;
 }
 
 -- ---- how the room tells what a line did

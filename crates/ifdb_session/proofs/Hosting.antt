@@ -14,6 +14,7 @@ use Rattle.ifdb_session.specs.declared.settles.Settles as settler
 use Rattle.ifdb_session.specs.declared.shared.SharedRoom.{SharedRoom}
 use Rattle.ifdb_session.specs.Acknowledged.{IsAcknowledged}
 use Rattle.ifdb_session.specs.Endings.{is_orderly, fault_of, capped}
+use Rattle.ifdb_session.specs.Keepers.{StaysReady}
 use Rattle.ifdb_session.specs.Passes.{Sees}
 use Rattle.ifdb_session.specs.Links.{Served}
 use Rattle.ifdb_session.specs.Hosts.{span_of, Serves}
@@ -39,22 +40,23 @@ no_more_faults faults ending lt orderly =
     same ∙ ap (λ b. capped (faults + cond b 0 1)) (sym orderly)
 
 module _ {R K Q S : Type 0} (sources : source.Ghosts K) (sinks : sink.Ghosts K) (recorders : recorder.Ghosts Q) (settlers : settler.Ghosts S Q) where
-  pub serves_so : (h : SessionHost R K Q S) (came went : K) (ending : Ending) (pass : Pass (SharedRoom Q) Entry) (keeper : S) (faults : ℕ) → Sees h.hall.now h.pass pass
-      → settlers.goes_on h.keeper keeper
-      → (ending ≢ ends.OutOfMemory → (n : ℕ) × Served ending h.limit n h.pass pass (span_of sources sinks came went) × IsAcknowledged recorders settlers ending n (history pass) keeper)
+  pub serves_so : (h : SessionHost R K Q S) (came went : K) (ending : Ending) (pass : Pass (SharedRoom Q) Entry) (keeper : S) (faults : ℕ) → Sees recorders.first h.hall.now h.pass pass
+      → StaysReady settlers h.keeper keeper
+      → (ending ≢ ends.OutOfMemory → (n : ℕ) × Served recorders.first ending h.limit n h.pass pass (span_of sources sinks came went) × IsAcknowledged recorders settlers ending n (history pass) keeper)
       → (ending ≡ ends.OutOfMemory → went ≡ came) → (ending ≡ ends.OutOfMemory → places pass ≡ places h.pass)
       → (ending ≡ ends.LinkRead → Rose (sources.faults came) (sources.faults went)) → (ending ≢ ends.LinkRead → sources.faults went ≡ sources.faults came)
       → (ending ≡ ends.LinkWrite → Rose (sinks.faults came) (sinks.faults went)) → (ending ≡ ends.Unkept → settlers.has_failed keeper)
       → faults ≡ capped (h.faults + fault_of ending)
       → Serves sources sinks recorders settlers h came (record h { pass = pass; keeper = keeper; faults = faults }) went
-  serves_so h came went ending pass keeper faults sees goes_on served unserved unopened read unfailed write unkept counted =
-      let one = number_first (λ n. Served ending h.limit n h.pass pass (span_of sources sinks came went) × IsAcknowledged recorders settlers ending n (history pass) keeper) ending (λ opened. let s = served opened in (s.0, (s.1, s.2))) in
+  serves_so h came went ending pass keeper faults sees stays served unserved unopened read unfailed write unkept counted =
+      let one = number_first (λ n. Served recorders.first ending h.limit n h.pass pass (span_of sources sinks came went) × IsAcknowledged recorders settlers ending n (history pass) keeper) ending (λ opened. let s = served opened in (s.0, (s.1, s.2))) in
       record {
         hall = refl;
         limit = refl;
         sees = sees;
         service = record { ending = ending; number = one.0 };
-        keeper = goes_on;
+        keeper = stays.1;
+        shares = stays.2;
         served = λ opened. (one.1 opened).0;
         acknowledged = λ opened. (one.1 opened).1;
         unkept = unkept;

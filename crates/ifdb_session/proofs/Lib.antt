@@ -14,3 +14,4 @@ pub mod Noting
 pub mod Sources
 pub mod Settled
 pub mod Queueing
+pub mod Sharing

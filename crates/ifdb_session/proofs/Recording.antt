@@ -1,18 +1,18 @@
 -- What turns record.
-use Rattle.std.proofs.Common.{◌≡◌, ℕ, Bool, true, false, List, [], ◌∷◌, ◌++◌, ◌∙◌, length, map, refl, sym, ap, subst, arith, cond, Option, Some, None}
+use Rattle.std.proofs.Common.{◌≡◌, ℕ, Bool, true, false, List, [], ◌∷◌, ◌++◌, ◌∙◌, length, refl, sym, ap, subst, arith, cond, Option, Some, None}
 use Rattle.std.specs.Prelude.{option_to_list}
-use Rattle.std.proofs.lemmas.List.{append_assoc, append-nil, length-append, map-append}
-use Rattle.ifdb_redo.specs.Spelling.{text}
+use Rattle.std.proofs.lemmas.List.{append_assoc, append-nil, length-append}
 use Rattle.ifdb_redo.specs.declared.record.RedoRecord.{RedoRecord}
 use Rattle.ifdb_model.specs.Log.{Entry as LogEntry}
 use Rattle.ifdb_model.specs.Step.{Reader, Outcome, ask}
-use Rattle.ifdb_model.specs.Run.{State, Step, session_of, with_outcome, opens, asks, refused, long, stray, leaves, opening, next, run}
+use Rattle.ifdb_model.specs.Run.{State, Step, session_of, with_outcome, opens, asks, refused, long, stray, leaves, next, run}
 use Rattle.ifdb_restore.specs.Redone.{recorded, records_at, records}
 use Rattle.ifdb_db.specs.Reading.{read_line}
 use Rattle.ifdb_history.specs.declared.entry.Entry.{Entry}
-use Rattle.ifdb_history.specs.History.{steps_of, flat, after}
+use Rattle.ifdb_history.specs.History.{first_state, steps_of, flat, after}
 use Rattle.ifdb_history.proofs.Flat.{flat-append}
-use Rattle.ifdb_session.specs.Records.{texts_of}
+use Rattle.ifdb_session.specs.Records.{records_of}
+use Rattle.ifdb_session.specs.Starts.{start_of}
 
 -- ---- steps, one after another
 
@@ -42,12 +42,12 @@ quiet read st (leaves n) same = refl
 
 -- ---- a history and one more entry
 
-pub texts_more : (h : List Entry) (e : Entry) → texts_of (h ++ e ∷ []) ≡ texts_of h ++ map text (records read_line (after read_line h) (steps_of e.kind))
-texts_more h e =
-    ap (λ (steps : List Step). map text (records read_line opening steps)) (flat-append h (e ∷ []) ∙ ap (λ (steps : List Step). flat h ++ steps) (append-nil (steps_of e.kind)))
-    ∙ ap (λ (rs : List RedoRecord). map text rs) (records-append read_line opening (flat h) (steps_of e.kind))
-    ∙ map-append text (records read_line opening (flat h)) (records read_line (after read_line h) (steps_of e.kind))
+module _ (older : List LogEntry) where
+  pub records_more : (h : List Entry) (e : Entry) → records_of older (h ++ e ∷ []) ≡ records_of older h ++ records read_line (after (start_of older) h) (steps_of e.kind)
+  records_more h e =
+      ap (records read_line (first_state (start_of older))) (flat-append h (e ∷ []) ∙ ap (λ (steps : List Step). flat h ++ steps) (append-nil (steps_of e.kind)))
+      ∙ records-append read_line (first_state (start_of older)) (flat h) (steps_of e.kind)
 
--- that recorded nothing
-pub texts_still : (h : List Entry) (e : Entry) → records read_line (after read_line h) (steps_of e.kind) ≡ [] → texts_of (h ++ e ∷ []) ≡ texts_of h
-texts_still h e none = texts_more h e ∙ ap (λ (rs : List RedoRecord). texts_of h ++ map text rs) none ∙ append-nil (texts_of h)
+  -- that recorded nothing
+  pub records_still : (h : List Entry) (e : Entry) → records read_line (after (start_of older) h) (steps_of e.kind) ≡ [] → records_of older (h ++ e ∷ []) ≡ records_of older h
+  records_still h e none = records_more h e ∙ ap (λ (rs : List RedoRecord). records_of older h ++ rs) none ∙ append-nil (records_of older h)

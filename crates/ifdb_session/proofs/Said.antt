@@ -30,6 +30,8 @@ use Rattle.ifdb_session.specs.Turns.{with_lent, IsLentBy, IsAnswered}
 use Rattle.ifdb_session.proofs.Counting.{session_after}
 use Rattle.ifdb_session.proofs.Working.{work_here, works_here, if_stands, lent_works, works_more, lines_more, texts_more, told_alone, told_of_none}
 use Rattle.ifdb_session.proofs.MayAdd.{asked_state, left_state}
+use Rattle.ifdb_model.specs.Log.{Entry as LogEntry}
+use Rattle.ifdb_session.specs.Starts.{start_of}
 
 -- ---- a text is that of one reply
 
@@ -57,45 +59,45 @@ bye_closed st n line was shut = bye_alone_lem read_line st.log (session_of st n)
     there : outcome_of read_line st n line ≡ ask read_line st.log (session_of st n) line
     there = rw was refl
 
-module _ (log : List Entry) (own : List ℕ) (s : Seat) (seated : IsSeated log own s) where
+module _ (older : List LogEntry) (log : List Entry) (own : List ℕ) (s : Seat) (seated : IsSeated older log own s) where
   -- behind its work the session is open
-  open_still : (lent : Option Client) → WorksIf log s.number (work_of s) lent → IsOpen (run read_line (after read_line log) (work_steps s.number (work_of s))) s.number
-  open_still None w = subst (λ ws. IsOpen (run read_line (after read_line log) (work_steps s.number ws)) s.number) (sym w) seated.holds.0
+  open_still : (lent : Option Client) → WorksIf older log s.number (work_of s) lent → IsOpen (run read_line (after (start_of older) log) (work_steps s.number (work_of s))) s.number
+  open_still None w = subst (λ ws. IsOpen (run read_line (after (start_of older) log) (work_steps s.number ws)) s.number) (sym w) seated.holds.0
   open_still (Some c) w =
-      let at = work_here s.number (after read_line log) (work_of s) w.begun c (works_here log s.number (work_of s) c w) w.worked in
+      let at = work_here s.number (after (start_of older) log) (work_of s) w.begun c (works_here older log s.number (work_of s) c w) w.worked in
       ap (λ (z : Session). z.is_open) at.session ∙ at.lent.is_open
 
   -- the session is open still
-  holds_then : (e : Entry) (later : List Entry) (places : List ℕ) → later ≡ log ++ e ∷ [] → places ≡ own ++ length log ∷ [] → IsOpen (after read_line later) s.number → Holds read_line later places s.number
+  holds_then : (e : Entry) (later : List Entry) (places : List ℕ) → later ≡ log ++ e ∷ [] → places ≡ own ++ length log ∷ [] → IsOpen (after (start_of older) later) s.number → Holds (start_of older) later places s.number
   holds_then e later places is more o =
-      let opened : IsOpen (after read_line (log ++ e ∷ [])) s.number = subst (λ l. IsOpen (after read_line l) s.number) is o in
-      subst (λ (z : List Entry × List ℕ). Holds read_line z.0 z.1 s.number) (λ i. (sym is i, sym more i)) (holds_on read_line log own s.number e (length log) seated.holds opened)
+      let opened : IsOpen (after (start_of older) (log ++ e ∷ [])) s.number = subst (λ l. IsOpen (after (start_of older) l) s.number) is o in
+      subst (λ (z : List Entry × List ℕ). Holds (start_of older) z.0 z.1 s.number) (λ i. (sym is i, sym more i)) (holds_on (start_of older) log own s.number e (length log) seated.holds opened)
 
   module _ (line : List ℕ) (later : List Entry) (is : later ≡ log ++ asked_entry log s.number s.work.items line ∷ []) (room next_room : Hall) (text : List ℕ) (is_open : Bool)
-      (stands : StandsFor room (after read_line log)) (answered : IsAnswered s.number line (with_lent room s.number s.lent) next_room text is_open)
+      (stands : StandsFor room (after (start_of older) log)) (answered : IsAnswered s.number line (with_lent room s.number s.lent) next_room text is_open)
       (now : Option Client) (t : Seat) (number : t.number ≡ s.number) (lent : t.lent ≡ now) (none : work_of t ≡ []) where
     abbrev before : State
-    before = run read_line (after read_line log) (work_steps s.number (work_of s))
+    before = run read_line (after (start_of older) log) (work_steps s.number (work_of s))
 
-    then_stands : StandsFor next_room (after read_line later)
-    then_stands = subst (StandsFor next_room) (sym (ap (after read_line) is ∙ asked_state log s.number (work_of s) line))
-        (answered.0 before (if_stands log s.number (work_of s) room stands s.lent seated.works))
+    then_stands : StandsFor next_room (after (start_of older) later)
+    then_stands = subst (StandsFor next_room) (sym (ap (after (start_of older)) is ∙ asked_state older log s.number (work_of s) line))
+        (answered.0 before (if_stands older log s.number (work_of s) room stands s.lent seated.works))
 
     pub asked_lines : lines_in later t ≡ lines_in log s ++ line ∷ []
     asked_lines =
         (λ i. lines_with (number i) later (none i)) ∙ append-nil (lines_of s.number later)
-        ∙ ap (lines_of s.number) is ∙ (asked_adds read_line log s.number (work_of s) line _ refl).0
+        ∙ ap (lines_of s.number) is ∙ (asked_adds (start_of older) log s.number (work_of s) line _ refl).0
 
-    pub asked_texts : (all : List ℕ) → IsToldIn log s all → IsToldIn later t (all ++ text)
+    pub asked_texts : (all : List ℕ) → IsToldIn older log s all → IsToldIn older later t (all ++ text)
     asked_texts all b =
-        let told = answered.1 before (if_stands log s.number (work_of s) room stands s.lent seated.works) in
-        told_alone later t s.number (all ++ text) number none
-        (subst (λ (z : List Entry × List ℕ). IsTold read_line s.number z.0 (all ++ z.1)) (λ i. (sym is i, sym told i)) ((asked_adds read_line log s.number (work_of s) line _ refl).1 all b))
+        let told = answered.1 before (if_stands older log s.number (work_of s) room stands s.lent seated.works) in
+        told_alone older later t s.number (all ++ text) number none
+        (subst (λ (z : List Entry × List ℕ). IsTold (start_of older) s.number z.0 (all ++ z.1)) (λ i. (sym is i, sym told i)) ((asked_adds (start_of older) log s.number (work_of s) line _ refl).1 all b))
 
-    pub asked_open : is_open ≡ true → IsLentBy next_room s.number now → (places : List ℕ) → places ≡ own ++ length log ∷ [] → IsSeated later places t
+    pub asked_open : is_open ≡ true → IsLentBy next_room s.number now → (places : List ℕ) → places ≡ own ++ length log ∷ [] → IsSeated older later places t
     asked_open o by_room places more = record {
-      holds = subst (Holds read_line later places) (sym number) (holds_then _ later places is more (answered.2 (after read_line later) then_stands ∙ o));
-      works = subst (λ (z : ℕ × List Note × Option Client). WorksIf later z.0 z.1 z.2) (λ i. (sym number i, sym none i, sym lent i)) (lent_works later s.number next_room now then_stands by_room);
+      holds = subst (Holds (start_of older) later places) (sym number) (holds_then _ later places is more (answered.2 (after (start_of older) later) then_stands ∙ o));
+      works = subst (λ (z : ℕ × List Note × Option Client). WorksIf older later z.0 z.1 z.2) (λ i. (sym number i, sym none i, sym lent i)) (lent_works older later s.number next_room now then_stands by_room);
     }
 
     pub asked_bye : is_open ≡ false → AsksBye s.number later line
@@ -103,50 +105,50 @@ module _ (log : List Entry) (own : List ℕ) (s : Seat) (seated : IsSeated log o
       work = work_of s;
       turn = record { before = log; root = root_in log s.number; behind = []; is = is };
       is_bye = bye_closed before s.number line (open_still s.lent seated.works)
-          (ap (λ (st : State). (session_of st s.number).is_open) (sym (ap (after read_line) is ∙ asked_state log s.number (work_of s) line)) ∙ answered.2 (after read_line later) then_stands ∙ o);
+          (ap (λ (st : State). (session_of st s.number).is_open) (sym (ap (after (start_of older)) is ∙ asked_state older log s.number (work_of s) line)) ∙ answered.2 (after (start_of older) later) then_stands ∙ o);
     }
 
     pub asked_reply : IsReply text
-    asked_reply = ((outcome_of read_line before s.number line).reply, answered.1 before (if_stands log s.number (work_of s) room stands s.lent seated.works))
+    asked_reply = ((outcome_of read_line before s.number line).reply, answered.1 before (if_stands older log s.number (work_of s) room stands s.lent seated.works))
 
-    pub asked_over : is_open ≡ false → IsGone later t
-    asked_over o = record { shut = subst (IsShut (after read_line later)) (sym number) (was, answered.2 (after read_line later) then_stands ∙ o); none = none } where
-      was : WasOpened (after read_line later) s.number
+    pub asked_over : is_open ≡ false → IsGone older later t
+    asked_over o = record { shut = subst (IsShut (after (start_of older) later)) (sym number) (was, answered.2 (after (start_of older) later) then_stands ∙ o); none = none } where
+      was : WasOpened (after (start_of older) later) s.number
       was =
-          let first = was_at_work read_line (after read_line log) s.number s.number (work_of s) (open_was (after read_line log) s.number seated.holds.0) in
+          let first = was_at_work read_line (after (start_of older) log) s.number s.number (work_of s) (open_was (after (start_of older) log) s.number seated.holds.0) in
           let same = as_many_at_line read_line before s.number line in
           let le = first.1 in
-          subst (λ (st : State). WasOpened st s.number) (sym (ap (after read_line) is ∙ asked_state log s.number (work_of s) line)) (first.0, omega (arith, same, le))
+          subst (λ (st : State). WasOpened st s.number) (sym (ap (after (start_of older)) is ∙ asked_state older log s.number (work_of s) line)) (first.0, omega (arith, same, le))
 
   module _ (line : List ℕ) (later : List Entry) (is : later ≡ log ++ entry_of log s.number (kind.Refused s.number line) ∷ []) (text : List ℕ) (told : text ≡ memory_text None)
       (in_room : s.lent ≡ None) (t : Seat) (number : t.number ≡ s.number) (lent : t.lent ≡ None) (work : work_of t ≡ work_of s) where
     no_work : work_of s ≡ []
-    no_work = subst (WorksIf log s.number (work_of s)) in_room seated.works
+    no_work = subst (WorksIf older log s.number (work_of s)) in_room seated.works
 
     pub refused_lines : lines_in later t ≡ lines_in log s ++ line ∷ []
     refused_lines =
         (λ i. lines_with (number i) later ((work ∙ no_work) i)) ∙ append-nil (lines_of s.number later)
-        ∙ ap (lines_of s.number) is ∙ (refused_adds read_line log s.number line _ refl).0
+        ∙ ap (lines_of s.number) is ∙ (refused_adds (start_of older) log s.number line _ refl).0
         ∙ ap (λ l. l ++ line ∷ []) (sym (ap (lines_with s.number log) no_work ∙ append-nil (lines_of s.number log)))
 
-    pub refused_texts : (all : List ℕ) → IsToldIn log s all → IsToldIn later t (all ++ text)
+    pub refused_texts : (all : List ℕ) → IsToldIn older log s all → IsToldIn older later t (all ++ text)
     refused_texts all b =
-        told_alone later t s.number (all ++ text) number (work ∙ no_work)
-        (subst (λ (z : List Entry × List ℕ). IsTold read_line s.number z.0 (all ++ z.1)) (λ i. (sym is i, sym told i))
-        ((refused_adds read_line log s.number line _ refl).1 all (told_of_none log s all no_work b)))
+        told_alone older later t s.number (all ++ text) number (work ∙ no_work)
+        (subst (λ (z : List Entry × List ℕ). IsTold (start_of older) s.number z.0 (all ++ z.1)) (λ i. (sym is i, sym told i))
+        ((refused_adds (start_of older) log s.number line _ refl).1 all (told_of_none older log s all no_work b)))
 
-    pub refused_open : (places : List ℕ) → places ≡ own ++ length log ∷ [] → IsSeated later places t
+    pub refused_open : (places : List ℕ) → places ≡ own ++ length log ∷ [] → IsSeated older later places t
     refused_open places more = record {
-      holds = subst (Holds read_line later places) (sym number) (holds_then _ later places is more
-          (subst (λ (st : State). IsOpen st s.number) (sym (ap (after read_line) is ∙ after-append read_line log (entry_of log s.number (kind.Refused s.number line) ∷ []))) seated.holds.0));
-      works = subst (λ (z : List Note × Option Client). WorksIf later t.number z.0 z.1) (λ i. (sym (work ∙ no_work) i, sym lent i)) refl;
+      holds = subst (Holds (start_of older) later places) (sym number) (holds_then _ later places is more
+          (subst (λ (st : State). IsOpen st s.number) (sym (ap (after (start_of older)) is ∙ after-append (start_of older) log (entry_of log s.number (kind.Refused s.number line) ∷ []))) seated.holds.0));
+      works = subst (λ (z : List Note × Option Client). WorksIf older later t.number z.0 z.1) (λ i. (sym (work ∙ no_work) i, sym lent i)) refl;
     }
 
   module _ (line : List ℕ) (later : List Entry) (is : later ≡ log ++ entry_of log s.number (kind.Looked s.number line) ∷ []) (room : Hall)
-      (stands : StandsFor room (after read_line log)) (x : Looking) (look : IsLookOf room s.number line x) (text : List ℕ) (told : IsShownAs x text)
+      (stands : StandsFor room (after (start_of older) log)) (x : Looking) (look : IsLookOf room s.number line x) (text : List ℕ) (told : IsShownAs x text)
       (in_room : s.lent ≡ None) (t : Seat) (number : t.number ≡ s.number) (lent : t.lent ≡ None) (work : work_of t ≡ work_of s) where
     nothing_noted : work_of s ≡ []
-    nothing_noted = subst (WorksIf log s.number (work_of s)) in_room seated.works
+    nothing_noted = subst (WorksIf older log s.number (work_of s)) in_room seated.works
 
     abbrev looked : Entry
     looked = entry_of log s.number (kind.Looked s.number line)
@@ -154,39 +156,39 @@ module _ (log : List Entry) (own : List ℕ) (s : Seat) (seated : IsSeated log o
     pub looked_lines : lines_in later t ≡ lines_in log s ++ line ∷ []
     looked_lines =
         (λ i. lines_with (number i) later ((work ∙ nothing_noted) i)) ∙ append-nil (lines_of s.number later)
-        ∙ ap (lines_of s.number) is ∙ (looked_adds read_line log s.number line _ refl).0
+        ∙ ap (lines_of s.number) is ∙ (looked_adds (start_of older) log s.number line _ refl).0
         ∙ ap (λ l. l ++ line ∷ []) (sym (ap (lines_with s.number log) nothing_noted ∙ append-nil (lines_of s.number log)))
 
-    pub looked_texts : (all : List ℕ) → IsToldIn log s all → IsToldIn later t (all ++ text)
-    looked_texts all b = told_alone later t s.number (all ++ text) number (work ∙ nothing_noted) (subst (λ l. IsTold read_line s.number l (all ++ text)) (sym is) (by told)) where
-      before : IsTold read_line s.number log all
-      before = told_of_none log s all nothing_noted b
+    pub looked_texts : (all : List ℕ) → IsToldIn older log s all → IsToldIn older later t (all ++ text)
+    looked_texts all b = told_alone older later t s.number (all ++ text) number (work ∙ nothing_noted) (subst (λ l. IsTold (start_of older) s.number l (all ++ text)) (sym is) (by told)) where
+      before : IsTold (start_of older) s.number log all
+      before = told_of_none older log s all nothing_noted b
 
-      by : IsShownAs x text → IsTold read_line s.number (log ++ looked ∷ []) (all ++ text)
+      by : IsShownAs x text → IsTold (start_of older) s.number (log ++ looked ∷ []) (all ++ text)
       by (inl k) =
-          let same = k.2 ∙ ap (reply_text None) (shown_is_told room (after read_line log) stands s.number line x look k.0 k.1) in
-          subst (λ l. IsTold read_line s.number (log ++ looked ∷ []) (all ++ l)) (sym same) ((looked_adds read_line log s.number line looked refl).1 all before)
-      by (inr e) = subst (λ l. IsTold read_line s.number (log ++ looked ∷ []) (all ++ l)) (sym e) ((looked_adds read_line log s.number line looked refl).2 all before)
+          let same = k.2 ∙ ap (reply_text None) (shown_is_told room (after (start_of older) log) stands s.number line x look k.0 k.1) in
+          subst (λ l. IsTold (start_of older) s.number (log ++ looked ∷ []) (all ++ l)) (sym same) ((looked_adds (start_of older) log s.number line looked refl).1 all before)
+      by (inr e) = subst (λ l. IsTold (start_of older) s.number (log ++ looked ∷ []) (all ++ l)) (sym e) ((looked_adds (start_of older) log s.number line looked refl).2 all before)
 
-    looked_state : after read_line later ≡ after read_line log
-    looked_state = ap (after read_line) is ∙ after-append read_line log (looked ∷ []) ∙ only_looks room (after read_line log) stands s.number line x look
+    looked_state : after (start_of older) later ≡ after (start_of older) log
+    looked_state = ap (after (start_of older)) is ∙ after-append (start_of older) log (looked ∷ []) ∙ only_looks room (after (start_of older) log) stands s.number line x look
 
-    pub looked_open : (places : List ℕ) → places ≡ own ++ length log ∷ [] → IsSeated later places t
+    pub looked_open : (places : List ℕ) → places ≡ own ++ length log ∷ [] → IsSeated older later places t
     looked_open places more = record {
-      holds = subst (Holds read_line later places) (sym number) (holds_then _ later places is more (subst (λ (st : State). IsOpen st s.number) (sym looked_state) seated.holds.0));
-      works = subst (λ (z : List Note × Option Client). WorksIf later t.number z.0 z.1) (λ i. (sym (work ∙ nothing_noted) i, sym lent i)) refl;
+      holds = subst (Holds (start_of older) later places) (sym number) (holds_then _ later places is more (subst (λ (st : State). IsOpen st s.number) (sym looked_state) seated.holds.0));
+      works = subst (λ (z : List Note × Option Client). WorksIf older later t.number z.0 z.1) (λ i. (sym (work ∙ nothing_noted) i, sym lent i)) refl;
     }
 
   module _ (later : List Entry) (is : later ≡ log ++ left_entry log s.number s.work.items ∷ []) where
     pub left_lines : lines_of s.number later ≡ lines_in log s
-    left_lines = ap (lines_of s.number) is ∙ (left_adds read_line log s.number (work_of s) _ refl).0
+    left_lines = ap (lines_of s.number) is ∙ (left_adds (start_of older) log s.number (work_of s) _ refl).0
 
-    pub left_texts : (all : List ℕ) → IsToldIn log s all → IsTold read_line s.number later all
-    left_texts all b = subst (λ l. IsTold read_line s.number l all) (sym is) ((left_adds read_line log s.number (work_of s) _ refl).1 all b)
+    pub left_texts : (all : List ℕ) → IsToldIn older log s all → IsTold (start_of older) s.number later all
+    left_texts all b = subst (λ l. IsTold (start_of older) s.number l all) (sym is) ((left_adds (start_of older) log s.number (work_of s) _ refl).1 all b)
 
-    pub left_over : IsShut (after read_line later) s.number
-    left_over = subst (λ (st : State). IsShut st s.number) (sym (ap (after read_line) is ∙ left_state log s.number (work_of s)))
-        (shut_by_leaving read_line (run read_line (after read_line log) (work_steps s.number (work_of s))) s.number (open_still s.lent seated.works))
+    pub left_over : IsShut (after (start_of older) later) s.number
+    left_over = subst (λ (st : State). IsShut st s.number) (sym (ap (after (start_of older)) is ∙ left_state older log s.number (work_of s)))
+        (shut_by_leaving read_line (run read_line (after (start_of older) log) (work_steps s.number (work_of s))) s.number (open_still s.lent seated.works))
 
     pub left_leaves : HasLeft s.number later
     left_leaves = record { work = work_of s; turn = record { before = log; root = root_in log s.number; behind = []; is = is } }
@@ -197,19 +199,19 @@ module _ (log : List Entry) (own : List ℕ) (s : Seat) (seated : IsSeated log o
     abbrev noted : Note
     noted = record { line = line; is_refused = m.is_refused }
 
-    there : Works log s.number (work_of s) m.before
-    there = subst (WorksIf log s.number (work_of s)) m.was seated.works
+    there : Works older log s.number (work_of s) m.before
+    there = subst (WorksIf older log s.number (work_of s)) m.was seated.works
 
-    pub noted_seat : IsSeated log own t
+    pub noted_seat : IsSeated older log own t
     noted_seat = record {
-      holds = subst (Holds read_line log own) (sym m.number) seated.holds;
-      works = subst (λ (z : ℕ × List Note × Option Client). WorksIf log z.0 z.1 z.2) (λ i. (sym m.number i, sym m.work i, sym m.is i))
-          (works_more log s.number (work_of s) noted m.before m.now text there m.told);
+      holds = subst (Holds (start_of older) log own) (sym m.number) seated.holds;
+      works = subst (λ (z : ℕ × List Note × Option Client). WorksIf older log z.0 z.1 z.2) (λ i. (sym m.number i, sym m.work i, sym m.is i))
+          (works_more older log s.number (work_of s) noted m.before m.now text there m.told);
     }
 
     pub noted_lines : lines_in log t ≡ lines_in log s ++ line ∷ []
-    noted_lines = (λ i. lines_with (m.number i) log (m.work i)) ∙ lines_more log s.number (work_of s) noted m.before m.now text there m.told
+    noted_lines = (λ i. lines_with (m.number i) log (m.work i)) ∙ lines_more older log s.number (work_of s) noted m.before m.now text there m.told
 
-    pub noted_texts : (all : List ℕ) → IsToldIn log s all → IsToldIn log t (all ++ text)
-    noted_texts all b = subst (λ (z : ℕ × List Note). IsToldWith read_line z.0 log z.1 (all ++ text)) (λ i. (sym m.number i, sym m.work i))
-        (texts_more log s.number (work_of s) noted m.before m.now text there m.told all b)
+    pub noted_texts : (all : List ℕ) → IsToldIn older log s all → IsToldIn older log t (all ++ text)
+    noted_texts all b = subst (λ (z : ℕ × List Note). IsToldWith (start_of older) z.0 log z.1 (all ++ text)) (λ i. (sym m.number i, sym m.work i))
+        (texts_more older log s.number (work_of s) noted m.before m.now text there m.told all b)

@@ -12,7 +12,6 @@ use Rattle.ifdb_history.specs.History.{after, HasRoot, IsRight, IsShut}
 use Rattle.ifdb_history.specs.Lines.{lines_of, lines_with, IsTold}
 use Rattle.ifdb_history.proofs.Flat.{root-append}
 use Rattle.ifdb_history.proofs.Over.{shut_on}
-use Rattle.ifdb_db.specs.Reading.{read_line}
 use Rattle.ifdb_session.specs.declared.ending.Ending.{Ending}
 use Rattle.ifdb_session.specs.declared.ending.Ending.TheVariants as ends
 use Rattle.ifdb_session.specs.declared.link.Talked.{Talked}
@@ -25,6 +24,8 @@ use Rattle.ifdb_session.specs.Seats.{lines_in, IsToldIn, IsGone}
 use Rattle.ifdb_session.specs.Talk.{IsLeftSo, IsTalked}
 use Rattle.ifdb_session.proofs.Passes.{adds_on}
 use Rattle.ifdb_session.proofs.Working.{told_of_none}
+use Rattle.ifdb_model.specs.Log.{Entry as LogEntry}
+use Rattle.ifdb_session.specs.Starts.{start_of}
 
 -- ---- in a longer history a session is closed as it was
 
@@ -81,20 +82,20 @@ closes_by_leaving ends.TooLong n h may left = left
 closes_by_leaving ends.OutOfMemory n h may left = may
 
 -- the clause of a link holds in each longer history that is in order
-pub served_later : (ending : Ending) (limit n : ℕ) (h k : List Entry) (s : Span) → IsServed ending limit n h s → IsPrefix h k
-    → AllRight (IsRight read_line) k → IsServed ending limit n k s
-served_later ending limit n h k s served front right =
-    let still = shut_on read_line n h k served.0 front right in
+pub served_later : (older : List LogEntry) (ending : Ending) (limit n : ℕ) (h k : List Entry) (s : Span) → IsServed older ending limit n h s → IsPrefix h k
+    → AllRight (IsRight (start_of older)) k → IsServed older ending limit n k s
+served_later older ending limit n h k s served front right =
+    let still = shut_on (start_of older) n h k served.0 front right in
     let ended = served.2 in (
       still.0,
       closes_later ending n h k served.1 front still.1,
       (ended.0, still.2 ended.0 ended.1, subst (λ z. Ends ending limit z ended.0 s) (sym still.1) ended.2),
     )
 
-module _ {X : Type 0} (IsKept : List (List ℕ) → Type 0) (hall : Turnstile X Entry) (n limit : ℕ) (s : Span) (first opened : Pass X Entry) (new : IsNew n first opened) where
+module _ {X : Type 0} (older : List LogEntry) (IsKept : List (List ℕ) → Type 0) (hall : Turnstile X Entry) (n limit : ℕ) (s : Span) (first opened : Pass X Entry) (new : IsNew older n first opened) where
   -- the session's first turn is the first of the own places that came
-  first_on : (ending : Ending) (last : Pass X Entry) → Sees hall opened last → Adds n opened last → IsServed ending limit n (history last) s
-      → Served ending limit n first last s
+  first_on : (ending : Ending) (last : Pass X Entry) → Sees older hall opened last → Adds n opened last → IsServed older ending limit n (history last) s
+      → Served older ending limit n first last s
   first_on ending last sees adds served = record {
     place = new.place;
     rest = adds.added;
@@ -105,38 +106,38 @@ module _ {X : Type 0} (IsKept : List (List ℕ) → Type 0) (hall : Turnstile X 
   }
 
   -- what a session asked, where no work is left
-  nothing_left : (h : List Entry) (seat : Seat) → IsGone h seat → lines_in h seat ≡ lines_of seat.number h
+  nothing_left : (h : List Entry) (seat : Seat) → IsGone older h seat → lines_in h seat ≡ lines_of seat.number h
   nothing_left h seat gone = ap (λ work. lines_with seat.number h work) gone.none ∙ append-nil (lines_of seat.number h)
 
-  pub served_over : (last : Pass X Entry) (seat : Seat) (talked : Talked) → seat.number ≡ n → Sees hall opened last → Adds n opened last
-      → IsTalked (history last) (places last) seat limit s talked → talked.is_open ≡ false
-      → Acknowledges talked.ending IsKept (sources_of seat.number (history last))
-      → (k : ℕ) × Served talked.ending limit k first last s × Acknowledges talked.ending IsKept (sources_of k (history last))
+  pub served_over : (last : Pass X Entry) (seat : Seat) (talked : Talked) → seat.number ≡ n → Sees older hall opened last → Adds n opened last
+      → IsTalked older (history last) (places last) seat limit s talked → talked.is_open ≡ false
+      → Acknowledges talked.ending IsKept (sources_of older seat.number (history last))
+      → (k : ℕ) × Served older talked.ending limit k first last s × Acknowledges talked.ending IsKept (sources_of older k (history last))
   served_over last seat talked this sees adds so over kept =
-      let left : IsLeftSo (history last) (places last) seat false = subst (IsLeftSo (history last) (places last) seat) over so.1 in
-      let gone : IsGone (history last) seat = left.0 in
+      let left : IsLeftSo older (history last) (places last) seat false = subst (IsLeftSo older (history last) (places last) seat) over so.1 in
+      let gone : IsGone older (history last) seat = left.0 in
       let lines = nothing_left (history last) seat gone in
       let ends = subst (λ z. Ends talked.ending limit z so.0.0 s) lines so.0.2 in
       let bye = subst (EndsInBye seat.number (history last)) lines left.1 in
       let closes = closes_by_line talked.ending seat.number (history last) (subst (MayBeOpen talked.ending) over so.2) bye in
-      let served : IsServed talked.ending limit seat.number (history last) s =
-      (gone.shut, closes, (so.0.0, told_of_none (history last) seat so.0.0 gone.none so.0.1, ends)) in (
+      let served : IsServed older talked.ending limit seat.number (history last) s =
+      (gone.shut, closes, (so.0.0, told_of_none older (history last) seat so.0.0 gone.none so.0.1, ends)) in (
         n,
-        first_on talked.ending last sees adds (subst (λ m. IsServed talked.ending limit m (history last) s) this served),
-        subst (λ m. Acknowledges talked.ending IsKept (sources_of m (history last))) this kept,
+        first_on talked.ending last sees adds (subst (λ m. IsServed older talked.ending limit m (history last) s) this served),
+        subst (λ m. Acknowledges talked.ending IsKept (sources_of older m (history last))) this kept,
       )
 
-  pub served_left : (mid last : Pass X Entry) (seat : Seat) (talked : Talked) → seat.number ≡ n → IsTalked (history mid) (places mid) seat limit s talked → talked.is_open ≡ true
-      → Sees hall opened last → Adds n opened last → IsShut (after read_line (history last)) seat.number → HasLeft seat.number (history last)
+  pub served_left : (mid last : Pass X Entry) (seat : Seat) (talked : Talked) → seat.number ≡ n → IsTalked older (history mid) (places mid) seat limit s talked → talked.is_open ≡ true
+      → Sees older hall opened last → Adds n opened last → IsShut (after (start_of older) (history last)) seat.number → HasLeft seat.number (history last)
       → lines_of seat.number (history last) ≡ lines_in (history mid) seat
-      → ((text : List ℕ) → IsToldIn (history mid) seat text → IsTold read_line seat.number (history last) text)
-      → Acknowledges talked.ending IsKept (sources_of seat.number (history last))
-      → (k : ℕ) × Served talked.ending limit k first last s × Acknowledges talked.ending IsKept (sources_of k (history last))
+      → ((text : List ℕ) → IsToldIn older (history mid) seat text → IsTold (start_of older) seat.number (history last) text)
+      → Acknowledges talked.ending IsKept (sources_of older seat.number (history last))
+      → (k : ℕ) × Served older talked.ending limit k first last s × Acknowledges talked.ending IsKept (sources_of older k (history last))
   served_left mid last seat talked this so still sees adds shut left lines texts kept =
       let ends = subst (λ z. Ends talked.ending limit z so.0.0 s) (sym lines) so.0.2 in
       let closes = closes_by_leaving talked.ending seat.number (history last) (subst (MayBeOpen talked.ending) still so.2) left in
-      let served : IsServed talked.ending limit seat.number (history last) s = (shut, closes, (so.0.0, texts so.0.0 so.0.1, ends)) in (
+      let served : IsServed older talked.ending limit seat.number (history last) s = (shut, closes, (so.0.0, texts so.0.0 so.0.1, ends)) in (
         n,
-        first_on talked.ending last sees adds (subst (λ m. IsServed talked.ending limit m (history last) s) this served),
-        subst (λ m. Acknowledges talked.ending IsKept (sources_of m (history last))) this kept,
+        first_on talked.ending last sees adds (subst (λ m. IsServed older talked.ending limit m (history last) s) this served),
+        subst (λ m. Acknowledges talked.ending IsKept (sources_of older m (history last))) this kept,
       )

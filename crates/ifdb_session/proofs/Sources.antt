@@ -13,30 +13,12 @@ use Rattle.ifdb_session.specs.declared.records.Records as recorder
 use Rattle.ifdb_session.specs.declared.settles.Settles as settler
 use Rattle.ifdb_session.specs.Records.{texts_of}
 use Rattle.ifdb_session.specs.Acknowledged.{answers, sources_from, sources_of, IsSourced, AllKept, AllButLastKept, IsKeptIf, KnowsKept}
+use Rattle.ifdb_model.specs.Log.{Entry as LogEntry}
 
 abbrev Texts : Type 0
 Texts = List (List ℕ)
 
--- ---- a history goes on
-
-sources-append : (n : ℕ) (before h k : List Entry) → sources_from n before (h ++ k) ≡ sources_from n before h ++ sources_from n (before ++ h) k
-sources-append n before [] k = ap (λ l. sources_from n l k) (sym (append-nil before))
-sources-append n before (e ∷ h) k =
-    ap (λ (l : List Texts). first ++ l) (sources-append n (before ++ e ∷ []) h k ∙ ap (λ l. sources_from n (before ++ e ∷ []) h ++ sources_from n l k) (append_assoc before (e ∷ []) h))
-    ∙ sym (append_assoc first (sources_from n (before ++ e ∷ []) h) (sources_from n (before ++ e ∷ h) k))
-  where
-    first : List Texts
-    first = cond (answers n e.kind) (texts_of (before ++ e ∷ []) ∷ []) []
-
--- by a turn that answers the session
-pub sources_more : (n : ℕ) (h : List Entry) (e : Entry) → answers n e.kind ≡ true → sources_of n (h ++ e ∷ []) ≡ sources_of n h ++ texts_of (h ++ e ∷ []) ∷ []
-sources_more n h e so = sources-append n [] h (e ∷ []) ∙ ap (λ b. sources_of n h ++ (cond b (texts_of (h ++ e ∷ []) ∷ []) [] ++ [])) so
-
--- by one that doesn't
-pub sources_still : (n : ℕ) (h : List Entry) (e : Entry) → answers n e.kind ≡ false → sources_of n (h ++ e ∷ []) ≡ sources_of n h
-sources_still n h e so = sources-append n [] h (e ∷ []) ∙ ap (λ b. sources_of n h ++ (cond b (texts_of (h ++ e ∷ []) ∷ []) [] ++ [])) so ∙ append-nil (sources_of n h)
-
--- ---- turns that asked nothing of the session answer it nothing
+-- ---- turns that asked nothing of the session
 
 first_none : (xs ys : List (List ℕ)) → xs ++ ys ≡ [] → xs ≡ []
 first_none [] ys none = refl
@@ -57,19 +39,41 @@ unanswered n (kind.Looked m line) none = unasked (m == n) [] line none
 unanswered n (kind.Refused m line) none = unasked (m == n) [] line none
 unanswered n (kind.Left m work) none = refl
 
-pub none_of_none : (n : ℕ) (before h : List Entry) → lines_of n h ≡ [] → sources_from n before h ≡ []
-none_of_none n before [] none = refl
-none_of_none n before (e ∷ h) none =
-    let here = unanswered n e.kind (first_none (lines_at n e.kind) (lines_of n h) none) in
-    ap (λ b. cond b (texts_of (before ++ e ∷ []) ∷ []) [] ++ sources_from n (before ++ e ∷ []) h) here
-    ∙ none_of_none n (before ++ e ∷ []) h (rest_none (lines_at n e.kind) (lines_of n h) none)
+module _ (older : List LogEntry) where
+  -- ---- a history goes on
 
--- so a longer history in which the session asked no more
-pub sources_later : (n : ℕ) (h k : List Entry) → IsPrefix h k → lines_of n k ≡ lines_of n h → sources_of n k ≡ sources_of n h
-sources_later n h k front same =
-    let none : lines_of n front.0 ≡ [] = append_cancel_left (lines_of n h) (lines_of n front.0) []
-    (sym (lines-append n h front.0) ∙ ap (lines_of n) front.1 ∙ same ∙ sym (append-nil (lines_of n h))) in
-    ap (sources_of n) (sym front.1) ∙ sources-append n [] h front.0 ∙ ap (λ (l : List Texts). sources_of n h ++ l) (none_of_none n h front.0 none) ∙ append-nil (sources_of n h)
+  sources-append : (n : ℕ) (before h k : List Entry) → sources_from older n before (h ++ k) ≡ sources_from older n before h ++ sources_from older n (before ++ h) k
+  sources-append n before [] k = ap (λ l. sources_from older n l k) (sym (append-nil before))
+  sources-append n before (e ∷ h) k =
+      ap (λ (l : List Texts). first ++ l) (sources-append n (before ++ e ∷ []) h k ∙ ap (λ l. sources_from older n (before ++ e ∷ []) h ++ sources_from older n l k) (append_assoc before (e ∷ []) h))
+      ∙ sym (append_assoc first (sources_from older n (before ++ e ∷ []) h) (sources_from older n (before ++ e ∷ h) k))
+    where
+      first : List Texts
+      first = cond (answers n e.kind) (texts_of older (before ++ e ∷ []) ∷ []) []
+
+  -- by a turn that answers the session
+  pub sources_more : (n : ℕ) (h : List Entry) (e : Entry) → answers n e.kind ≡ true → sources_of older n (h ++ e ∷ []) ≡ sources_of older n h ++ texts_of older (h ++ e ∷ []) ∷ []
+  sources_more n h e so = sources-append n [] h (e ∷ []) ∙ ap (λ b. sources_of older n h ++ (cond b (texts_of older (h ++ e ∷ []) ∷ []) [] ++ [])) so
+
+  -- by one that doesn't
+  pub sources_still : (n : ℕ) (h : List Entry) (e : Entry) → answers n e.kind ≡ false → sources_of older n (h ++ e ∷ []) ≡ sources_of older n h
+  sources_still n h e so = sources-append n [] h (e ∷ []) ∙ ap (λ b. sources_of older n h ++ (cond b (texts_of older (h ++ e ∷ []) ∷ []) [] ++ [])) so ∙ append-nil (sources_of older n h)
+
+  -- ---- such turns answer it nothing
+
+  pub none_of_none : (n : ℕ) (before h : List Entry) → lines_of n h ≡ [] → sources_from older n before h ≡ []
+  none_of_none n before [] none = refl
+  none_of_none n before (e ∷ h) none =
+      let here = unanswered n e.kind (first_none (lines_at n e.kind) (lines_of n h) none) in
+      ap (λ b. cond b (texts_of older (before ++ e ∷ []) ∷ []) [] ++ sources_from older n (before ++ e ∷ []) h) here
+      ∙ none_of_none n (before ++ e ∷ []) h (rest_none (lines_at n e.kind) (lines_of n h) none)
+
+  -- so a longer history in which the session asked no more
+  pub sources_later : (n : ℕ) (h k : List Entry) → IsPrefix h k → lines_of n k ≡ lines_of n h → sources_of older n k ≡ sources_of older n h
+  sources_later n h k front same =
+      let none : lines_of n front.0 ≡ [] = append_cancel_left (lines_of n h) (lines_of n front.0) []
+      (sym (lines-append n h front.0) ∙ ap (lines_of n) front.1 ∙ same ∙ sym (append-nil (lines_of n h))) in
+      ap (sources_of older n) (sym front.1) ∙ sources-append n [] h front.0 ∙ ap (λ (l : List Texts). sources_of older n h ++ l) (none_of_none n h front.0 none) ∙ append-nil (sources_of older n h)
 
 -- ---- that is known to be kept
 
@@ -83,23 +87,23 @@ all_goes P Q xs goes all = λ k d lt. goes _ (all k d lt)
 pub kept_none : {Q S : Type 0} (recorders : recorder.Ghosts Q) (settlers : settler.Ghosts S Q) (n : ℕ) (h : List Entry) (more : List (List ℕ)) (s : S) → lines_of n h ++ more ≡ []
     → AllKept recorders settlers n h s
 kept_none recorders settlers n h more s none =
-    subst (All (KnowsKept recorders settlers s)) (sym (none_of_none n [] h (first_none (lines_of n h) more none))) (λ k d lt. absurd (omega (arith, lt)))
+    subst (All (KnowsKept recorders settlers s)) (sym (none_of_none recorders.first n [] h (first_none (lines_of n h) more none))) (λ k d lt. absurd (omega (arith, lt)))
 
 module _ {Q S : Type 0} (recorders : recorder.Ghosts Q) (settlers : settler.Ghosts S Q) (still : (s t : S) (n : ℕ) → settlers.goes_on s t → settlers.is_kept s n → settlers.is_kept t n) where
   pub kept_on : (n : ℕ) (h : List Entry) (s t : S) → settlers.goes_on s t → AllKept recorders settlers n h s → AllKept recorders settlers n h t
-  kept_on n h s t goes all = all_goes (KnowsKept recorders settlers s) (KnowsKept recorders settlers t) (sources_of n h) (λ x k. still s t (recorders.count_of x) goes k) all
+  kept_on n h s t goes all = all_goes (KnowsKept recorders settlers s) (KnowsKept recorders settlers t) (sources_of recorders.first n h) (λ x k. still s t (recorders.count_of x) goes k) all
 
   -- a line was answered, and what it was answered from is kept
-  pub kept_more : (n : ℕ) (h k last : List Entry) (count : Option ℕ) (s t : S) → settlers.goes_on s t → IsSourced recorders.count_of n h k count → sources_of n last ≡ sources_of n k
+  pub kept_more : (n : ℕ) (h k last : List Entry) (count : Option ℕ) (s t : S) → settlers.goes_on s t → IsSourced recorders.first recorders.count_of n h k count → sources_of recorders.first n last ≡ sources_of recorders.first n k
       → IsKeptIf recorders settlers t count → AllKept recorders settlers n h s → AllKept recorders settlers n last t
   kept_more n h k last None s t goes sourced same kept all =
       subst (All (KnowsKept recorders settlers t)) (sym (same ∙ sourced)) (kept_on n h s t goes all)
   kept_more n h k last (Some count) s t goes sourced same kept all =
       subst (All (KnowsKept recorders settlers t)) (sym (same ∙ sourced.0))
-      (all_one_more (KnowsKept recorders settlers t) (sources_of n h) (texts_of k) (kept_on n h s t goes all) (subst (settlers.is_kept t) sourced.1 kept))
+      (all_one_more (KnowsKept recorders settlers t) (sources_of recorders.first n h) (texts_of recorders.first k) (kept_on n h s t goes all) (subst (settlers.is_kept t) sourced.1 kept))
 
   -- it isn't known to be kept
-  pub kept_but_last : (n : ℕ) (h k last : List Entry) (count : Option ℕ) (s t : S) → settlers.goes_on s t → IsSourced recorders.count_of n h k count → sources_of n last ≡ sources_of n k
+  pub kept_but_last : (n : ℕ) (h k last : List Entry) (count : Option ℕ) (s t : S) → settlers.goes_on s t → IsSourced recorders.first recorders.count_of n h k count → sources_of recorders.first n last ≡ sources_of recorders.first n k
       → IsSome count → AllKept recorders settlers n h s → AllButLastKept recorders settlers n last t
   kept_but_last n h k last None s t goes sourced same some all = cc
-  kept_but_last n h k last (Some count) s t goes sourced same some all = (sources_of n h, texts_of k, same ∙ sourced.0, kept_on n h s t goes all)
+  kept_but_last n h k last (Some count) s t goes sourced same some all = (sources_of recorders.first n h, texts_of recorders.first k, same ∙ sourced.0, kept_on n h s t goes all)

@@ -28,6 +28,7 @@ use Rattle.ifdb_session.specs.declared.seat.Seat.{Seat}
 use Rattle.ifdb_session.specs.Turns.{with_lent, MayBeBack, IsLentBy}
 use Rattle.ifdb_session.proofs.Counting.{session_after}
 use Rattle.ifdb_session.proofs.Recording.{quiet}
+use Rattle.ifdb_session.specs.Starts.{start_of}
 
 -- ---- in states
 
@@ -174,119 +175,120 @@ worked_stands h st n (x ∷ work) c e w i k j = by x.is_refused j.2 (λ g s d. w
 
 -- ---- in histories
 
-pub works_here : (h : List Entry) (n : ℕ) (work : List Note) (c : Client) → (w : Works h n work c) → IsHere (after read_line h) n w.begun
-works_here h n work c w = record { session = w.session; over = w.over; lent = w.lent }
+module _ (older : List LogEntry) where
+  pub works_here : (h : List Entry) (n : ℕ) (work : List Note) (c : Client) → (w : Works older h n work c) → IsHere (after (start_of older) h) n w.begun
+  works_here h n work c w = record { session = w.session; over = w.over; lent = w.lent }
 
-abbrev pub works_later : (h log : List Entry) (n : ℕ) (work : List Note) (c : Client) → Works h n work c → session_of (after read_line log) n ≡ session_of (after read_line h) n
-    → IsPrefix (after read_line h).log (after read_line log).log → Works log n work c
-works_later h log n work c w same front = record {
-  begun = w.begun;
-  session = same ∙ w.session;
-  over = subst (λ l. IsOver l w.begun.txn) front.1 (over_more (after read_line h).log front.0 w.begun.txn w.over);
-  lent = w.lent;
-  worked = w.worked;
-}
-
--- so it is with a seat's session, which may be in the room
-module _ (h log : List Entry) (n : ℕ) (work : List Note) (same : session_of (after read_line log) n ≡ session_of (after read_line h) n)
-    (front : IsPrefix (after read_line h).log (after read_line log).log) where
-  pub if_later : (lent : Option Client) → WorksIf h n work lent → WorksIf log n work lent
-  if_later None w = w
-  if_later (Some c) w = works_later h log n work c w same front
-
-  pub if_told : (lent : Option Client) → WorksIf h n work lent → told_in read_line n (after read_line log) (work_steps n work) ≡ told_in read_line n (after read_line h) (work_steps n work)
-  if_told None w = ap (λ ws. told_in read_line n (after read_line log) (work_steps n ws)) w ∙ ap (λ ws. told_in read_line n (after read_line h) (work_steps n ws)) (sym w)
-  if_told (Some c) w =
-      let later = works_later h log n work c w same front in
-      work_told n (after read_line log) work w.begun c (works_here log n work c later) w.worked
-      ∙ sym (work_told n (after read_line h) work w.begun c (works_here h n work c w) w.worked)
-
-module _ (h : List Entry) (n : ℕ) (work : List Note) where
-  pub if_work : (lent : Option Client) → WorksIf h n work lent → IsWork read_line (after read_line h) n work
-  if_work None w = subst (IsWork read_line (after read_line h) n) (sym w) tt
-  if_work (Some c) w = work_is n (after read_line h) work w.begun c (works_here h n work c w) w.worked
-
-  pub if_log : (lent : Option Client) → WorksIf h n work lent → (run read_line (after read_line h) (work_steps n work)).log ≡ (after read_line h).log
-  if_log None w = ap (λ ws. (run read_line (after read_line h) (work_steps n ws)).log) w
-  if_log (Some c) w = work_log n (after read_line h) work w.begun c (works_here h n work c w) w.worked
-
-  pub if_records : (lent : Option Client) → WorksIf h n work lent → records read_line (after read_line h) (work_steps n work) ≡ []
-  if_records None w = ap (λ ws. records read_line (after read_line h) (work_steps n ws)) w
-  if_records (Some c) w = work_records n (after read_line h) work w.begun c (works_here h n work c w) w.worked
-
-  module _ (room : Hall) (stands : StandsFor room (after read_line h)) where
-    begun_there : (c : Client) → (w : Works h n work c) → client_in room n ≡ w.begun
-    begun_there c w = client_is_that room (after read_line h) n w.begun stands w.lent.is_open w.session w.over
-
-    pub if_stands : (lent : Option Client) → WorksIf h n work lent → StandsFor (with_lent room n lent) (run read_line (after read_line h) (work_steps n work))
-    if_stands None w = subst (λ ws. StandsFor room (run read_line (after read_line h) (work_steps n ws))) (sym w) stands
-    if_stands (Some c) w = worked_stands room (after read_line h) n work w.begun c stands (begun_there c w) w.lent w.worked
-
-    pub if_back : (lent : Option Client) → WorksIf h n work lent → MayBeBack room n lent
-    if_back None w = tt
-    if_back (Some c) w =
-        let there = begun_there c w in
-        let goes = work_goes work w.begun c w.lent w.worked in
-        record {
-          is_open = ap (λ (z : Client). z.is_open) there ∙ w.lent.is_open;
-          goes_on = subst (λ (z : Client). GoesOn z.txn c.txn) (sym there) goes.0;
-          lent = goes.1;
-        }
-
-pub lent_if : (h : List Entry) (n : ℕ) (work : List Note) (lent : Option Client) → WorksIf h n work lent → IsLentIf lent
-lent_if h n work None w = tt
-lent_if h n work (Some c) w = (work_goes work w.begun c w.lent w.worked).1
-
--- once the room has lent a session
-pub lent_works : (h : List Entry) (n : ℕ) (room : Hall) (lent : Option Client) → StandsFor room (after read_line h) → IsLentBy room n lent → WorksIf h n [] lent
-lent_works h n room None stands l = refl
-lent_works h n room (Some c) stands l = record {
-  begun = c;
-  session = same_session room (after read_line h) stands n ∙ ap session_at (sym l.0);
-  over = subst (λ (z : Client). IsOver (after read_line h).log z.txn) (sym l.0) (over_at room (after read_line h) stands n (at_open room n (ap (λ (z : Client). z.is_open) (sym l.0) ∙ l.1.is_open)));
-  lent = l.1;
-  worked = refl;
-}
-
--- ---- one line more
-
-module _ (h : List Entry) (n : ℕ) (work : List Note) (x : Note) (c e : Client) (text : List ℕ) (w : Works h n work c) (t : IsToldAs x.is_refused x.line c e text) where
-  pub works_more : Works h n (work ++ x ∷ []) e
-  works_more = record {
+  abbrev pub works_later : (h log : List Entry) (n : ℕ) (work : List Note) (c : Client) → Works older h n work c → session_of (after (start_of older) log) n ≡ session_of (after (start_of older) h) n
+      → IsPrefix (after (start_of older) h).log (after (start_of older) log).log → Works older log n work c
+  works_later h log n work c w same front = record {
     begun = w.begun;
-    session = w.session;
-    over = w.over;
+    session = same ∙ w.session;
+    over = subst (λ l. IsOver l w.begun.txn) front.1 (over_more (after (start_of older) h).log front.0 w.begun.txn w.over);
     lent = w.lent;
-    worked = worked_more work x w.begun c e text w.worked t;
+    worked = w.worked;
   }
 
-  pub lines_more : lines_with n h (work ++ x ∷ []) ≡ lines_with n h work ++ x.line ∷ []
-  lines_more = ap (λ l. lines_of n h ++ l) (map-append (λ (z : Note). z.line) work (x ∷ [])) ∙ sym (append_assoc (lines_of n h) (work_lines work) (x.line ∷ []))
+  -- so it is with a seat's session, which may be in the room
+  module _ (h log : List Entry) (n : ℕ) (work : List Note) (same : session_of (after (start_of older) log) n ≡ session_of (after (start_of older) h) n)
+      (front : IsPrefix (after (start_of older) h).log (after (start_of older) log).log) where
+    pub if_later : (lent : Option Client) → WorksIf older h n work lent → WorksIf older log n work lent
+    if_later None w = w
+    if_later (Some c) w = works_later h log n work c w same front
 
-  pub texts_more : (all : List ℕ) → IsToldWith read_line n h work all → IsToldWith read_line n h (work ++ x ∷ []) (all ++ text)
-  texts_more all b = (
-    b.0,
-    b.1,
-    ap (λ l. l ++ text) b.2 ∙ append_assoc b.0 (told_in read_line n (after read_line h) (work_steps n work)) text ∙ ap (λ l. b.0 ++ l) (sym worked),
-  ) where
-    worked : told_in read_line n (after read_line h) (work_steps n (work ++ x ∷ [])) ≡ told_in read_line n (after read_line h) (work_steps n work) ++ text
-    worked =
-        let st = run read_line (after read_line h) (work_steps n work) in
-        let one = note_leaves st n x c e text (work_here n (after read_line h) work w.begun c (works_here h n work c w) w.worked) t in
-        ap (told_in read_line n (after read_line h)) (map-append (note_step n) work (x ∷ []))
-        ∙ told_in-append read_line n (after read_line h) (work_steps n work) (note_step n x ∷ [])
-        ∙ ap (λ l. told_in read_line n (after read_line h) (work_steps n work) ++ l) one.told
+    pub if_told : (lent : Option Client) → WorksIf older h n work lent → told_in read_line n (after (start_of older) log) (work_steps n work) ≡ told_in read_line n (after (start_of older) h) (work_steps n work)
+    if_told None w = ap (λ ws. told_in read_line n (after (start_of older) log) (work_steps n ws)) w ∙ ap (λ ws. told_in read_line n (after (start_of older) h) (work_steps n ws)) (sym w)
+    if_told (Some c) w =
+        let later = works_later h log n work c w same front in
+        work_told n (after (start_of older) log) work w.begun c (works_here log n work c later) w.worked
+        ∙ sym (work_told n (after (start_of older) h) work w.begun c (works_here h n work c w) w.worked)
 
--- ---- a seat without work
+  module _ (h : List Entry) (n : ℕ) (work : List Note) where
+    pub if_work : (lent : Option Client) → WorksIf older h n work lent → IsWork read_line (after (start_of older) h) n work
+    if_work None w = subst (IsWork read_line (after (start_of older) h) n) (sym w) tt
+    if_work (Some c) w = work_is n (after (start_of older) h) work w.begun c (works_here h n work c w) w.worked
 
-pub told_alone : (h : List Entry) (t : Seat) (n : ℕ) (text : List ℕ) → t.number ≡ n → work_of t ≡ [] → IsTold read_line n h text → IsToldIn h t text
-told_alone h t n text number none told = (
-  text,
-  subst (λ m. IsTold read_line m h text) (sym number) told,
-  sym (ap (λ ws. text ++ told_in read_line t.number (after read_line h) (work_steps t.number ws)) none ∙ append-nil text),
-)
+    pub if_log : (lent : Option Client) → WorksIf older h n work lent → (run read_line (after (start_of older) h) (work_steps n work)).log ≡ (after (start_of older) h).log
+    if_log None w = ap (λ ws. (run read_line (after (start_of older) h) (work_steps n ws)).log) w
+    if_log (Some c) w = work_log n (after (start_of older) h) work w.begun c (works_here h n work c w) w.worked
 
-pub told_of_none : (h : List Entry) (s : Seat) (text : List ℕ) → work_of s ≡ [] → IsToldIn h s text → IsTold read_line s.number h text
-told_of_none h s text none t =
-    let same = t.2 ∙ ap (λ ws. t.0 ++ told_in read_line s.number (after read_line h) (work_steps s.number ws)) none ∙ append-nil t.0 in
-    subst (IsTold read_line s.number h) (sym same) t.1
+    pub if_records : (lent : Option Client) → WorksIf older h n work lent → records read_line (after (start_of older) h) (work_steps n work) ≡ []
+    if_records None w = ap (λ ws. records read_line (after (start_of older) h) (work_steps n ws)) w
+    if_records (Some c) w = work_records n (after (start_of older) h) work w.begun c (works_here h n work c w) w.worked
+
+    module _ (room : Hall) (stands : StandsFor room (after (start_of older) h)) where
+      begun_there : (c : Client) → (w : Works older h n work c) → client_in room n ≡ w.begun
+      begun_there c w = client_is_that room (after (start_of older) h) n w.begun stands w.lent.is_open w.session w.over
+
+      pub if_stands : (lent : Option Client) → WorksIf older h n work lent → StandsFor (with_lent room n lent) (run read_line (after (start_of older) h) (work_steps n work))
+      if_stands None w = subst (λ ws. StandsFor room (run read_line (after (start_of older) h) (work_steps n ws))) (sym w) stands
+      if_stands (Some c) w = worked_stands room (after (start_of older) h) n work w.begun c stands (begun_there c w) w.lent w.worked
+
+      pub if_back : (lent : Option Client) → WorksIf older h n work lent → MayBeBack room n lent
+      if_back None w = tt
+      if_back (Some c) w =
+          let there = begun_there c w in
+          let goes = work_goes work w.begun c w.lent w.worked in
+          record {
+            is_open = ap (λ (z : Client). z.is_open) there ∙ w.lent.is_open;
+            goes_on = subst (λ (z : Client). GoesOn z.txn c.txn) (sym there) goes.0;
+            lent = goes.1;
+          }
+
+  pub lent_if : (h : List Entry) (n : ℕ) (work : List Note) (lent : Option Client) → WorksIf older h n work lent → IsLentIf lent
+  lent_if h n work None w = tt
+  lent_if h n work (Some c) w = (work_goes work w.begun c w.lent w.worked).1
+
+  -- once the room has lent a session
+  pub lent_works : (h : List Entry) (n : ℕ) (room : Hall) (lent : Option Client) → StandsFor room (after (start_of older) h) → IsLentBy room n lent → WorksIf older h n [] lent
+  lent_works h n room None stands l = refl
+  lent_works h n room (Some c) stands l = record {
+    begun = c;
+    session = same_session room (after (start_of older) h) stands n ∙ ap session_at (sym l.0);
+    over = subst (λ (z : Client). IsOver (after (start_of older) h).log z.txn) (sym l.0) (over_at room (after (start_of older) h) stands n (at_open room n (ap (λ (z : Client). z.is_open) (sym l.0) ∙ l.1.is_open)));
+    lent = l.1;
+    worked = refl;
+  }
+
+  -- ---- one line more
+
+  module _ (h : List Entry) (n : ℕ) (work : List Note) (x : Note) (c e : Client) (text : List ℕ) (w : Works older h n work c) (t : IsToldAs x.is_refused x.line c e text) where
+    pub works_more : Works older h n (work ++ x ∷ []) e
+    works_more = record {
+      begun = w.begun;
+      session = w.session;
+      over = w.over;
+      lent = w.lent;
+      worked = worked_more work x w.begun c e text w.worked t;
+    }
+
+    pub lines_more : lines_with n h (work ++ x ∷ []) ≡ lines_with n h work ++ x.line ∷ []
+    lines_more = ap (λ l. lines_of n h ++ l) (map-append (λ (z : Note). z.line) work (x ∷ [])) ∙ sym (append_assoc (lines_of n h) (work_lines work) (x.line ∷ []))
+
+    pub texts_more : (all : List ℕ) → IsToldWith (start_of older) n h work all → IsToldWith (start_of older) n h (work ++ x ∷ []) (all ++ text)
+    texts_more all b = (
+      b.0,
+      b.1,
+      ap (λ l. l ++ text) b.2 ∙ append_assoc b.0 (told_in read_line n (after (start_of older) h) (work_steps n work)) text ∙ ap (λ l. b.0 ++ l) (sym worked),
+    ) where
+      worked : told_in read_line n (after (start_of older) h) (work_steps n (work ++ x ∷ [])) ≡ told_in read_line n (after (start_of older) h) (work_steps n work) ++ text
+      worked =
+          let st = run read_line (after (start_of older) h) (work_steps n work) in
+          let one = note_leaves st n x c e text (work_here n (after (start_of older) h) work w.begun c (works_here h n work c w) w.worked) t in
+          ap (told_in read_line n (after (start_of older) h)) (map-append (note_step n) work (x ∷ []))
+          ∙ told_in-append read_line n (after (start_of older) h) (work_steps n work) (note_step n x ∷ [])
+          ∙ ap (λ l. told_in read_line n (after (start_of older) h) (work_steps n work) ++ l) one.told
+
+  -- ---- a seat without work
+
+  pub told_alone : (h : List Entry) (t : Seat) (n : ℕ) (text : List ℕ) → t.number ≡ n → work_of t ≡ [] → IsTold (start_of older) n h text → IsToldIn older h t text
+  told_alone h t n text number none told = (
+    text,
+    subst (λ m. IsTold (start_of older) m h text) (sym number) told,
+    sym (ap (λ ws. text ++ told_in read_line t.number (after (start_of older) h) (work_steps t.number ws)) none ∙ append-nil text),
+  )
+
+  pub told_of_none : (h : List Entry) (s : Seat) (text : List ℕ) → work_of s ≡ [] → IsToldIn older h s text → IsTold (start_of older) s.number h text
+  told_of_none h s text none t =
+      let same = t.2 ∙ ap (λ ws. t.0 ++ told_in read_line s.number (after (start_of older) h) (work_steps s.number ws)) none ∙ append-nil t.0 in
+      subst (IsTold (start_of older) s.number h) (sym same) t.1

@@ -1,16 +1,19 @@
 -- A room whose entries are recorded in a queue, and what a thread knows of the disk.
 use Rattle.std.specs.Prelude.{◌≡◌, ℕ, ◌≤◌, true, List, length}
 use Rattle.std.specs.List.{flat_map}
+use Rattle.ifdb_redo.specs.declared.record.RedoRecord.{RedoRecord}
 use Rattle.ifdb_log.specs.Pieces.{pieces, size_of}
 use Rattle.ifdb_durable.specs.Queues.{Queued, all_of, free_of}
 use Rattle.ifdb_durable.specs.declared.view.Told.{Told}
 use Rattle.ifdb_durable.specs.Told.{Begins, kept_by}
 use Rattle.ifdb_durable.specs.Groups.{IsMember, shares_of}
 use Rattle.ifdb_session.specs.declared.durable.Durable.{Durable}
+use Rattle.ifdb_session.specs.Texts.{texts_for, AreReadAgain}
 
--- all records that came are the pieces of these texts
-abbrev pub HasTexts : Queued → List (List ℕ) → Type 0
-HasTexts q texts = all_of q ≡ flat_map pieces texts
+-- all that came are the pieces of the texts of these records, and the texts are read again as these
+pub record HasRecords (q : Queued) (rs : List RedoRecord) : Type 0 where
+  pub all : all_of q ≡ flat_map pieces (texts_for rs)
+  pub again : AreReadAgain rs
 
 -- there is room for the pieces of a text
 abbrev pub HasRoomFor : Queued → List ℕ → Type 0

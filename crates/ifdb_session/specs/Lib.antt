@@ -1,4 +1,5 @@
 pub mod Starts
+pub mod Texts
 pub mod Counts
 pub mod Standing
 pub mod Turns

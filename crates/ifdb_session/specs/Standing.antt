@@ -7,7 +7,7 @@ use Rattle.ifdb_history.specs.History.{after}
 use Rattle.ifdb_session.specs.declared.records.Records as recorder
 use Rattle.ifdb_session.specs.declared.shared.SharedRoom.{SharedRoom}
 use Rattle.ifdb_session.specs.Endings.{capped}
-use Rattle.ifdb_session.specs.Records.{texts_of}
+use Rattle.ifdb_session.specs.Records.{records_of}
 use Rattle.ifdb_session.specs.Starts.{start_of}
 
 -- its room is that of the state after the history, its counts are the history's, and the records of the history's steps were made
@@ -16,7 +16,7 @@ pub record StandsForHistory {Q : Type 0} (recorders : recorder.Ghosts Q) (shared
   pub entries : shared.entries ≡ capped (length h)
   pub commits : shared.commits ≡ capped (commits_in (start_of recorders.first) h)
   pub refused : shared.refused ≡ capped (refusals_in (start_of recorders.first) h)
-  pub recorded : recorders.has shared.records (texts_of recorders.first h)
+  pub recorded : recorders.has shared.records (records_of recorders.first h)
 
 -- the place where an entry's session was opened
 abbrev pub root_of : Entry → ℕ

@@ -1,7 +1,7 @@
 -- What the room does in a turn, whatever state it stands for.
-use Rattle.std.specs.Prelude.{◌≡◌, ℕ, ◌+◌, Bool, true, false, List, [], ◌++◌, length, map, Option, Some, None}
+use Rattle.std.specs.Prelude.{◌≡◌, ℕ, ◌+◌, Bool, true, false, List, [], ◌++◌, length, Option, Some, None}
 use Rattle.ifdb_wire.specs.Text.{memory_text}
-use Rattle.ifdb_redo.specs.Spelling.{text as text_of}
+use Rattle.ifdb_redo.specs.declared.record.RedoRecord.{RedoRecord}
 use Rattle.ifdb_model.specs.Run.{State, Step, session_of, asks}
 use Rattle.ifdb_restore.specs.Redone.{records_at}
 use Rattle.ifdb_db.specs.Reading.{read_line}
@@ -17,6 +17,7 @@ use Rattle.ifdb_session.specs.declared.shared.Asked.TheVariants as asked
 use Rattle.ifdb_session.specs.declared.shared.SharedRoom.{SharedRoom}
 use Rattle.ifdb_session.specs.Counts.{counted, commits_at, refuses_at}
 use Rattle.ifdb_session.specs.Endings.{capped}
+use Rattle.ifdb_session.specs.Texts.{texts_for}
 
 -- the number is that of the next session
 abbrev pub IsNextNumber : Hall → ℕ → Type 0
@@ -66,12 +67,12 @@ module _ {Q : Type 0} where
 module _ {Q : Type 0} (recorders : recorder.Ghosts Q) where
   -- the records of a step were made behind the others, whatever state the hall stood for at which it was taken
   abbrev pub RecordsStep : Hall → Step → SharedRoom Q → SharedRoom Q → Type 0
-  RecordsStep h x old new = (st : State) (texts : List (List ℕ)) → StandsFor h st → recorders.has old.records texts
-      → recorders.has new.records (texts ++ map text_of (records_at read_line st x))
+  RecordsStep h x old new = (st : State) (rs : List RedoRecord) → StandsFor h st → recorders.has old.records rs
+      → recorders.has new.records (rs ++ records_at read_line st x)
 
   -- so many records of a journal were made in all
   abbrev pub IsCount : SharedRoom Q → ℕ → Type 0
-  IsCount shared count = (texts : List (List ℕ)) → recorders.has shared.records texts → count ≡ recorders.count_of texts
+  IsCount shared count = (rs : List RedoRecord) → recorders.has shared.records rs → count ≡ recorders.count_of (texts_for rs)
 
 -- ---- a line
 

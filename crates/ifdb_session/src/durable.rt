@@ -21,11 +21,11 @@ impl Begins for Brand {
 }
 
 impl<B: Begins, D> Records for Queue<B, D> {
-    ghost use Rattle.ifdb_session.specs.Durable.{count_of, HasRoomFor, HasTexts};
+    ghost use Rattle.ifdb_session.specs.Durable.{count_of, HasRecords, HasRoomFor};
 
     ghost first = { B.first };
 
-    ghost has = { HasTexts };
+    ghost has = { HasRecords };
 
     ghost fits = { HasRoomFor };
 

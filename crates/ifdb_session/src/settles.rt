@@ -66,7 +66,7 @@ pub trait Settles<Q: Records> {
     fn join(&mut self, other: Self)
         requires ready { ready self.old }
         requires other { ready other }
-        requires one { (first : Self) × (goes_on first self.old × goes_on first other) }
+        requires one { (first : Self) × goes_on first self.old × goes_on first other }
         ensures ready { ready self.new }
         ensures goes_on { goes_on self.old self.new }
         ensures other { goes_on other self.new }

@@ -1,5 +1,6 @@
 // The room that connections share.
 ghost use Rattle.std.specs.Prelude.{◌≡◌, ◌++◌, ℕ, [], false, List, None, IfErr, IfOk, IfSome, IsSome, OnErr, OnOk, length};
+ghost use Rattle.ifdb_redo.specs.declared.record.RedoRecord.{RedoRecord};
 ghost use Rattle.ifdb_wire.specs.Text.{memory_text, reply_text};
 ghost use Rattle.ifdb_model.specs.Run.{asks, leaves, opens};
 ghost use Rattle.ifdb_db.specs.Looks.{IsLookOf};
@@ -10,7 +11,7 @@ ghost use Rattle.ifdb_history.specs.History.{first_state};
 ghost use Rattle.ifdb_history.specs.declared.entry.Kind.TheVariants.{Opened as OpenedKind, Left as LeftKind};
 ghost use Rattle.ifdb_session.specs.Counts.{counts_of, IsGlance};
 ghost use Rattle.ifdb_session.specs.Endings.{capped};
-ghost use Rattle.ifdb_session.specs.Records.{Forgets, HasRoom, texts_in, texts_of};
+ghost use Rattle.ifdb_session.specs.Records.{Forgets, HasRoom, records_in, records_of};
 ghost use Rattle.ifdb_session.specs.Standing.{StandsForHistory};
 ghost use Rattle.ifdb_session.specs.Starts.{start_of};
 ghost use Rattle.ifdb_session.specs.Turns.{CountsTurn, HasCounted, IsAsked, IsCount, IsNextNumber, MayBeBack, with_lent};
@@ -72,24 +73,19 @@ impl<Q: Records> Object for SharedRoom<Q> {
 }
 
 impl<Q: Records + Drop> SharedRoom<Q> {
-    /// The opening: the public state before the first change, no rows, no sessions, and no records.
+    /// The opening: the public state before the first change, no rows, no sessions, and no records. There was no log before.
     pub fn opening(alloc: Global, records: Q) -> Result<SharedRoom<Q>, OutOfMemory>
         requires none { Q.first ≡ [] }
         requires records { Q.has records [] }
         ensures { IfOk result (λ shared. StandsForHistory Q.Records shared []) }
     {
-        Ok(SharedRoom {
-            room: Room::opening(alloc)?,
-            records,
-            entries: 0,
-            commits: 0,
-            refused: 0,
-        })
+        let room = Room::opening(alloc)?;
+        Ok(SharedRoom::resumed(room, records))
     }
 }
 
 impl<Q: Records> SharedRoom<Q> {
-    /// A room of which nobody's session is open: it stands for the log that there was before the first record.
+    /// A room that stands for the log that there was, without sessions, behind which nothing was recorded. Takes no memory.
     pub fn resumed(room: Room, records: Q) -> SharedRoom<Q>
         requires stands { StandsFor room (first_state (start_of Q.first)) }
         requires none { Q.has records [] }
@@ -118,10 +114,10 @@ impl<Q: Records> SharedRoom<Q> {
         }
     }
 
-    /// What recorded the entries: it has the texts of the history's records.
+    /// What recorded the entries: it has the records of the history.
     pub fn into_records(self) -> Q
         ensures { (h : List Entry) → StandsForHistory Q.Records self h
-            → Q.has result (texts_of Q.first h) }
+            → Q.has result (records_of Q.first h) }
     {
         let SharedRoom { records, .. } = self;
         records
@@ -260,8 +256,8 @@ impl<Q: Records> SharedRoom<Q> {
 fn record<Q: Records>(records: &mut Q, note: Note)
     requires room { IfSome note.limit (HasRoom Q.Records records.old) }
     requires none { note.limit ≡ None → Forgets Q.Records records.old }
-    ensures recorded { (texts : List (List ℕ))
-        → Q.has records.old texts → Q.has records.new (texts ++ texts_in note) }
+    ensures recorded { (rs : List RedoRecord)
+        → Q.has records.old rs → Q.has records.new (rs ++ records_in note) }
     ensures none { note.limit ≡ None → Forgets Q.Records records.new }
 {
     if let Some(text) = note.into_text() {

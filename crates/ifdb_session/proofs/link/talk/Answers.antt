@@ -13,7 +13,7 @@ use Rattle.ifdb_session.proofs.link.talk.Goals as goal
 
 pub loop-pass-init : goal.loop-pass-init
 loop-pass-init g c = record {
-  sees = sees_itself c.args.hall.now c.args.pass.now c.requires.pass c.requires.orderly;
+  sees = sees_itself g.Q.Records.first c.args.hall.now c.args.pass.now c.requires.pass c.requires.orderly;
   adds = adds_none c.args.seat.now.number c.args.pass.now;
   number = refl;
   seated = c.requires.seated;
@@ -25,6 +25,7 @@ loop-pass-init g c = record {
   );
   ready = c.requires.keeper;
   goes_on = g.met.S.Settles.goes_itself c.args.keeper.now;
+  shares = λ n has. has;
   kept = kept_none g.Q.Records g.S.Settles c.args.seat.now.number (history c.args.pass.now) (work_lines (work_of c.args.seat.now)) c.args.keeper.now c.requires.no_lines;
   unfailed = refl;
   writes = search rules;
@@ -36,7 +37,7 @@ loop-pass-preserved g c =
     let e = c.answer-is_open.ensures.asks in
     let written : g.K.Sink.written c.next.new.source ≡ g.K.Sink.written c.loop-pass.link = search rules in
     record {
-      sees = sees_on c.args.hall.now _ _ _ i.sees e.sees;
+      sees = sees_on g.Q.Records.first c.args.hall.now _ _ _ i.sees e.sees;
       adds = adds_on c.args.seat.now.number _ _ _ i.adds (subst (λ n. Adds n c.loop-pass.pass c.answer-is_open.new.pass) i.number e.adds) e.sees.begins;
       number = e.number ∙ i.number;
       seated = e.seated (search rules);
@@ -50,6 +51,7 @@ loop-pass-preserved g c =
       );
       ready = c.answer-is_open.ensures.keeper.0;
       goes_on = g.met.S.Settles.goes_further _ _ _ i.goes_on c.answer-is_open.ensures.keeper.1;
+      shares = λ n has. c.answer-is_open.ensures.keeper.2 n (i.shares n has);
       kept = subst (λ n. AllKept g.Q.Records g.S.Settles n (history c.answer-is_open.new.pass) c.answer-is_open.new.keeper) i.number
           (c.answer-is_open.ensures.kept (search rules) (subst (λ n. AllKept g.Q.Records g.S.Settles n (history c.loop-pass.pass) c.loop-pass.keeper) (sym i.number) i.kept));
       unfailed = search rules;
@@ -57,7 +59,7 @@ loop-pass-preserved g c =
     }
 
 pub returns-then-not-is_written-clause-sees : goal.returns-then-not-is_written-clause-sees
-returns-then-not-is_written-clause-sees g c = sees_on c.args.hall.now _ _ _ c.loop-pass.invariant.sees c.answer-is_open.ensures.asks.sees
+returns-then-not-is_written-clause-sees g c = sees_on g.Q.Records.first c.args.hall.now _ _ _ c.loop-pass.invariant.sees c.answer-is_open.ensures.asks.sees
 
 pub returns-then-not-is_written-clause-adds : goal.returns-then-not-is_written-clause-adds
 returns-then-not-is_written-clause-adds g c =
@@ -66,7 +68,7 @@ returns-then-not-is_written-clause-adds g c =
     adds_on c.args.seat.now.number _ _ _ i.adds (subst (λ n. Adds n c.loop-pass.pass c.answer-is_open.new.pass) i.number e.adds) e.sees.begins
 
 pub returns-then-not-is_open-clause-sees : goal.returns-then-not-is_open-clause-sees
-returns-then-not-is_open-clause-sees g c = sees_on c.args.hall.now _ _ _ c.loop-pass.invariant.sees c.answer-is_open.ensures.asks.sees
+returns-then-not-is_open-clause-sees g c = sees_on g.Q.Records.first c.args.hall.now _ _ _ c.loop-pass.invariant.sees c.answer-is_open.ensures.asks.sees
 
 pub returns-then-not-is_open-clause-adds : goal.returns-then-not-is_open-clause-adds
 returns-then-not-is_open-clause-adds g c =
@@ -86,7 +88,7 @@ returns-then-not-is_written-clause-talked g c =
         ends_unwritten c.args.reader.now.limit (lines_in (history c.loop-pass.pass) c.loop-pass.seat) i.talks.0 c.loop-pass.reader c.next.new.self _ _ _ _ _ _ i.talks.2 written
             (lines_in (history c.answer-is_open.new.pass) c.answer-is_open.new.seat) (i.talks.0 ++ c.answer-is_open.new.out.text) c.answer-is_open.new.out.text _ _ c.answer-is_open.ensures.left (c.next.ensures.whole (search rules)) (c.next.ensures.whole_line (search rules)) e.lines refl few e.reply.0 e.reply.1 (c.answer-is_open.ensures.unwritten (search rules) (search rules)),
       ),
-      left_so (history c.answer-is_open.new.pass) (places c.answer-is_open.new.pass) c.answer-is_open.new.seat c.answer-is_open.result.is_open _ _ e.seated e.over
+      left_so g.Q.Records.first (history c.answer-is_open.new.pass) (places c.answer-is_open.new.pass) c.answer-is_open.new.seat c.answer-is_open.result.is_open _ _ e.seated e.over
           (λ o. subst (λ n. AsksBye n (history c.answer-is_open.new.pass) c.next.new.self.text) (sym e.number) (e.bye o)) e.lines,
       tt,
     )
@@ -104,7 +106,7 @@ returns-then-not-is_open-clause-talked g c =
             (lines_in (history c.answer-is_open.new.pass) c.answer-is_open.new.seat) (i.talks.0 ++ c.answer-is_open.new.out.text) c.answer-is_open.new.out.text _ _ c.answer-is_open.ensures.left (c.next.ensures.whole (search rules)) (c.next.ensures.whole_line (search rules)) e.lines refl few (c.answer-is_open.ensures.written (search rules))
             (search rules) (c.next.ensures.whole_kept (search rules)),
       ),
-      left_so (history c.answer-is_open.new.pass) (places c.answer-is_open.new.pass) c.answer-is_open.new.seat c.answer-is_open.result.is_open _ _ e.seated e.over
+      left_so g.Q.Records.first (history c.answer-is_open.new.pass) (places c.answer-is_open.new.pass) c.answer-is_open.new.seat c.answer-is_open.result.is_open _ _ e.seated e.over
           (λ o. subst (λ n. AsksBye n (history c.answer-is_open.new.pass) c.next.new.self.text) (sym e.number) (e.bye o)) e.lines,
       search rules,
     )
@@ -174,7 +176,7 @@ returns-in-Ok-Rest-clause-talked g c =
     )
 
 pub returns-then-not-is_kept-clause-sees : goal.returns-then-not-is_kept-clause-sees
-returns-then-not-is_kept-clause-sees g c = sees_on c.args.hall.now _ _ _ c.loop-pass.invariant.sees c.answer-is_open.ensures.asks.sees
+returns-then-not-is_kept-clause-sees g c = sees_on g.Q.Records.first c.args.hall.now _ _ _ c.loop-pass.invariant.sees c.answer-is_open.ensures.asks.sees
 
 pub returns-then-not-is_kept-clause-adds : goal.returns-then-not-is_kept-clause-adds
 returns-then-not-is_kept-clause-adds g c =
@@ -201,7 +203,7 @@ returns-then-not-is_kept-clause-talked g c =
         ends_unkept c.args.reader.now.limit (lines_in (history c.loop-pass.pass) c.loop-pass.seat) i.talks.0 c.loop-pass.reader c.next.new.self _ _ _ _ _ _ i.talks.2 written
             (lines_in (history c.answer-is_open.new.pass) c.answer-is_open.new.seat) (i.talks.0 ++ c.answer-is_open.new.out.text) c.answer-is_open.new.out.text _ _ c.answer-is_open.ensures.left (c.next.ensures.whole (search rules)) (c.next.ensures.whole_line (search rules)) e.lines refl few e.reply.0 e.reply.1 held,
       ),
-      left_so (history c.answer-is_open.new.pass) (places c.answer-is_open.new.pass) c.answer-is_open.new.seat c.answer-is_open.result.is_open _ _ e.seated e.over
+      left_so g.Q.Records.first (history c.answer-is_open.new.pass) (places c.answer-is_open.new.pass) c.answer-is_open.new.seat c.answer-is_open.result.is_open _ _ e.seated e.over
           (λ o. subst (λ n. AsksBye n (history c.answer-is_open.new.pass) c.next.new.self.text) (sym e.number) (e.bye o)) e.lines,
       tt,
     )
@@ -219,10 +221,19 @@ returns-then-not-is_open-clause-acknowledged g c =
     (c.answer-is_open.ensures.kept (search rules) (subst (λ n. AllKept g.Q.Records g.S.Settles n (history c.loop-pass.pass) c.loop-pass.keeper) (sym i.number) i.kept))
 
 pub returns-then-not-is_kept-clause-keeper : goal.returns-then-not-is_kept-clause-keeper
-returns-then-not-is_kept-clause-keeper g c = (c.answer-is_open.ensures.keeper.0, g.met.S.Settles.goes_further _ _ _ c.loop-pass.invariant.goes_on c.answer-is_open.ensures.keeper.1)
+returns-then-not-is_kept-clause-keeper g c =
+    let i = c.loop-pass.invariant in
+    let k = c.answer-is_open.ensures.keeper in
+    (k.0, g.met.S.Settles.goes_further _ _ _ i.goes_on k.1, λ n has. k.2 n (i.shares n has))
 
 pub returns-then-not-is_written-clause-keeper : goal.returns-then-not-is_written-clause-keeper
-returns-then-not-is_written-clause-keeper g c = (c.answer-is_open.ensures.keeper.0, g.met.S.Settles.goes_further _ _ _ c.loop-pass.invariant.goes_on c.answer-is_open.ensures.keeper.1)
+returns-then-not-is_written-clause-keeper g c =
+    let i = c.loop-pass.invariant in
+    let k = c.answer-is_open.ensures.keeper in
+    (k.0, g.met.S.Settles.goes_further _ _ _ i.goes_on k.1, λ n has. k.2 n (i.shares n has))
 
 pub returns-then-not-is_open-clause-keeper : goal.returns-then-not-is_open-clause-keeper
-returns-then-not-is_open-clause-keeper g c = (c.answer-is_open.ensures.keeper.0, g.met.S.Settles.goes_further _ _ _ c.loop-pass.invariant.goes_on c.answer-is_open.ensures.keeper.1)
+returns-then-not-is_open-clause-keeper g c =
+    let i = c.loop-pass.invariant in
+    let k = c.answer-is_open.ensures.keeper in
+    (k.0, g.met.S.Settles.goes_further _ _ _ i.goes_on k.1, λ n has. k.2 n (i.shares n has))

@@ -23,7 +23,7 @@ ask-requires g c =
     let log = history (pass_of c.enter-turn.result) in
     let same = c.object-2.ensures.value ∙ c.in-Err.ensures.err ∙ c.object.ensures.value in
     let stands = subst (λ (z : SharedRoom _). StandsForHistory g.Q.Records z log) (sym same) e.stands in
-    let found = seat_found (history c.args.pass.now) log (places c.args.pass.now) s c.requires.seated e.begins e.orderly.0 e.own in
+    let found = seat_found g.Q.Records.first (history c.args.pass.now) log (places c.args.pass.now) s c.requires.seated e.begins e.orderly.0 e.own in
     may_be_back g.Q.Records log (places c.args.pass.now) s found.0 c.object-2.result.now c.object-2.result.now stands
 
 pub done_asked-requires-clause-entry : goal.done_asked-requires-clause-entry
@@ -33,7 +33,7 @@ done_asked-requires-clause-entry g c =
     let log = history (pass_of c.enter-turn.result) in
     let same = c.object-2.ensures.value ∙ c.in-Err.ensures.err ∙ c.object.ensures.value in
     let stands = subst (λ (z : SharedRoom _). StandsForHistory g.Q.Records z log) (sym same) e.stands in
-    let found = seat_found (history c.args.pass.now) log (places c.args.pass.now) s c.requires.seated e.begins e.orderly.0 e.own in
+    let found = seat_found g.Q.Records.first (history c.args.pass.now) log (places c.args.pass.now) s c.requires.seated e.begins e.orderly.0 e.own in
     let line = c.in-Err.ensures.back ∙ c.new-line.ensures ∙ c.text.ensures ∙ sym c.text-in-Done.ensures in
     let a = subst (λ l. IsAsked g.Q.Records s.number l s.lent c.ask.new.lent c.object-2.result.now c.ask.new.self c.ask.new.out.text (asked.Done c.in-Done.is_open c.in-Done.count)) line c.in-Done.ensures in
     let m = may_ask g.Q.Records log (places c.args.pass.now) s found.0 c.object-2.result.now c.ask.new.self stands c.text-in-Done.result.now a.0.0 a.1 a.3 in
@@ -46,7 +46,7 @@ done_refused-requires-clause-entry g c =
     let log = history (pass_of c.enter-turn.result) in
     let same = c.object-2.ensures.value ∙ c.in-Err.ensures.err ∙ c.object.ensures.value in
     let stands = subst (λ (z : SharedRoom _). StandsForHistory g.Q.Records z log) (sym same) e.stands in
-    let found = seat_found (history c.args.pass.now) log (places c.args.pass.now) s c.requires.seated e.begins e.orderly.0 e.own in
+    let found = seat_found g.Q.Records.first (history c.args.pass.now) log (places c.args.pass.now) s c.requires.seated e.begins e.orderly.0 e.own in
     let line = c.in-Err.ensures.back ∙ c.new-line.ensures ∙ c.text.ensures ∙ sym c.text-in-Refused.ensures in
     let a = subst (λ l. IsAsked g.Q.Records s.number l s.lent c.ask.new.lent c.object-2.result.now c.ask.new.self c.ask.new.out.text (asked.Refused c.in-Refused.count)) line c.in-Refused.ensures in
     let m = may_refuse g.Q.Records log (places c.args.pass.now) s found.0 c.object-2.result.now c.ask.new.self stands c.text-in-Refused.result.now a.0 a.5 a.2 in
@@ -59,10 +59,10 @@ returns-in-Done-clause-asks g c =
     let log = history (pass_of c.enter-turn.result) in
     let same = c.object-2.ensures.value ∙ c.in-Err.ensures.err ∙ c.object.ensures.value in
     let stands = subst (λ (z : SharedRoom _). StandsForHistory g.Q.Records z log) (sym same) e.stands in
-    let found = seat_found (history c.args.pass.now) log (places c.args.pass.now) s c.requires.seated e.begins e.orderly.0 e.own in
+    let found = seat_found g.Q.Records.first (history c.args.pass.now) log (places c.args.pass.now) s c.requires.seated e.begins e.orderly.0 e.own in
     let line = c.in-Err.ensures.back ∙ c.new-line.ensures ∙ c.text.ensures in
     let a = subst (λ l. IsAsked g.Q.Records s.number l s.lent c.ask.new.lent c.object-2.result.now c.ask.new.self c.ask.new.out.text (asked.Done c.in-Done.is_open c.in-Done.count)) line c.in-Done.ensures in
-    let x = ended_asked c.args.hall.now c.args.pass.now _ _ _ c.done_asked.ensures e.turnstile e.begins e.places e.shares s c.requires.seated e.orderly.0 e.own
+    let x = ended_asked g.Q.Records.first c.args.hall.now c.args.pass.now _ _ _ c.done_asked.ensures e.turnstile e.begins e.places e.shares s c.requires.seated e.orderly.0 e.own
     c.args.reader.now.text c.ask.new.out.text c.object-2.result.now.room c.ask.new.self.room c.in-Done.is_open c.ask.new.lent
     (record { alloc = s.alloc; number = s.number; lent = c.ask.new.lent; work = c.new-seat.result })
     (ap (asked_entry log s.number s.work.items) c.text-in-Done.ensures) stands.room a.0 (lent_if_open c.ask.new.self.room s.number c.in-Done.is_open c.ask.new.lent a.2) refl refl (ap notes c.new-seat.ensures) in search rules
@@ -74,10 +74,10 @@ returns-in-Refused-clause-asks g c =
     let log = history (pass_of c.enter-turn.result) in
     let same = c.object-2.ensures.value ∙ c.in-Err.ensures.err ∙ c.object.ensures.value in
     let stands = subst (λ (z : SharedRoom _). StandsForHistory g.Q.Records z log) (sym same) e.stands in
-    let found = seat_found (history c.args.pass.now) log (places c.args.pass.now) s c.requires.seated e.begins e.orderly.0 e.own in
+    let found = seat_found g.Q.Records.first (history c.args.pass.now) log (places c.args.pass.now) s c.requires.seated e.begins e.orderly.0 e.own in
     let line = c.in-Err.ensures.back ∙ c.new-line.ensures ∙ c.text.ensures in
     let a = subst (λ l. IsAsked g.Q.Records s.number l s.lent c.ask.new.lent c.object-2.result.now c.ask.new.self c.ask.new.out.text (asked.Refused c.in-Refused.count)) line c.in-Refused.ensures in
-    let x = ended_refused c.args.hall.now c.args.pass.now _ _ _ c.done_refused.ensures e.turnstile e.begins e.places e.shares s c.requires.seated e.orderly.0 e.own
+    let x = ended_refused g.Q.Records.first c.args.hall.now c.args.pass.now _ _ _ c.done_refused.ensures e.turnstile e.begins e.places e.shares s c.requires.seated e.orderly.0 e.own
     c.args.reader.now.text c.ask.new.out.text (record { alloc = s.alloc; number = s.number; lent = c.ask.new.lent; work = s.work })
     (ap (λ l. entry_of log s.number (kind.Refused s.number l)) c.text-in-Refused.ensures) a.1 a.3 refl a.4 refl in search rules
 
@@ -88,7 +88,7 @@ returns-in-Kept-clause-asks g c =
     let log = history (pass_of c.enter-turn.result) in
     let same = c.object-2.ensures.value ∙ c.in-Err.ensures.err ∙ c.object.ensures.value in
     let stands = subst (λ (z : SharedRoom _). StandsForHistory g.Q.Records z log) (sym same) e.stands in
-    let found = seat_found (history c.args.pass.now) log (places c.args.pass.now) s c.requires.seated e.begins e.orderly.0 e.own in
+    let found = seat_found g.Q.Records.first (history c.args.pass.now) log (places c.args.pass.now) s c.requires.seated e.begins e.orderly.0 e.own in
     let k = c.in-Kept.ensures in
     let noted : Notes c.args.reader.now.text s (record { alloc = s.alloc; number = s.number; lent = c.ask.new.lent; work = c.and-seat.result }) c.ask.new.out.text = record {
       before = k.3.0;
@@ -100,7 +100,7 @@ returns-in-Kept-clause-asks g c =
       number = refl;
       work = ap notes c.and-seat.ensures ∙ map-append note_of s.work.items ((c.args.reader.now, true) ∷ []);
     } in
-    let x = bare_asked c.args.hall.now c.args.pass.now _ _ c.done_bare.ensures e.turnstile e.begins e.shares s
+    let x = bare_asked g.Q.Records.first c.args.hall.now c.args.pass.now _ _ c.done_bare.ensures e.turnstile e.begins e.shares s
     (record { alloc = s.alloc; number = s.number; lent = c.ask.new.lent; work = c.and-seat.result })
     c.args.reader.now.text c.ask.new.out.text c.requires.seated e.orderly.0 e.own e.places noted in search rules
 
@@ -110,7 +110,7 @@ done_looked-requires-clause-entry g c =
     let s = c.args.seat.now in
     let log = history (pass_of c.enter-turn.result) in
     let stands = subst (λ (z : SharedRoom _). StandsForHistory g.Q.Records z log) (sym c.object.ensures.value) e.stands in
-    let found = seat_found (history c.args.pass.now) log (places c.args.pass.now) s c.requires.seated e.begins e.orderly.0 e.own in
+    let found = seat_found g.Q.Records.first (history c.args.pass.now) log (places c.args.pass.now) s c.requires.seated e.begins e.orderly.0 e.own in
     let line = c.new-line.ensures ∙ c.text.ensures ∙ sym c.text-in-Ok.ensures in
     let l = c.in-Ok.ensures in
     let look = subst (λ z. IsLookOf c.object.result.now.room s.number z c.in-Ok.look) line l.look in
@@ -125,7 +125,7 @@ returns-in-Ok-clause-asks g c =
     let stands = subst (λ (z : SharedRoom _). StandsForHistory g.Q.Records z log) (sym c.object.ensures.value) e.stands in
     let l = c.in-Ok.ensures in
     let look = subst (λ z. IsLookOf c.object.result.now.room s.number z c.in-Ok.look) (c.new-line.ensures ∙ c.text.ensures) l.look in
-    let x = ended_looked c.args.hall.now c.args.pass.now _ _ _ c.done_looked.ensures e.turnstile e.begins e.places e.shares s c.requires.seated e.orderly.0 e.own
+    let x = ended_looked g.Q.Records.first c.args.hall.now c.args.pass.now _ _ _ c.done_looked.ensures e.turnstile e.begins e.places e.shares s c.requires.seated e.orderly.0 e.own
     c.args.reader.now.text c.show.new.out.text c.object.result.now.room c.in-Ok.look (record { alloc = s.alloc; number = s.number; lent = s.lent; work = s.work })
     (ap (λ l. entry_of log s.number (kind.Looked s.number l)) c.text-in-Ok.ensures) stands.room look c.show.ensures l.here refl l.here refl in search rules
 
@@ -136,11 +136,11 @@ returns-in-Done-clause-sourced g c =
     let log = history (pass_of c.enter-turn.result) in
     let same = c.object-2.ensures.value ∙ c.in-Err.ensures.err ∙ c.object.ensures.value in
     let stands = subst (λ (z : SharedRoom _). StandsForHistory g.Q.Records z log) (sym same) e.stands in
-    let found = seat_found (history c.args.pass.now) log (places c.args.pass.now) s c.requires.seated e.begins e.orderly.0 e.own in
+    let found = seat_found g.Q.Records.first (history c.args.pass.now) log (places c.args.pass.now) s c.requires.seated e.begins e.orderly.0 e.own in
     let line = c.in-Err.ensures.back ∙ c.new-line.ensures ∙ c.text.ensures ∙ sym c.text-in-Done.ensures in
     let a = subst (λ l. IsAsked g.Q.Records s.number l s.lent c.ask.new.lent c.object-2.result.now c.ask.new.self c.ask.new.out.text (asked.Done c.in-Done.is_open c.in-Done.count)) line c.in-Done.ensures in
     let m = may_ask g.Q.Records log (places c.args.pass.now) s found.0 c.object-2.result.now c.ask.new.self stands c.text-in-Done.result.now a.0.0 a.1 a.3 in
-    let x = ended_sourced c.args.hall.now c.args.pass.now _ _ _ c.done_asked.ensures e.turnstile e.begins e.places e.shares s c.requires.seated e.orderly.0 e.own
+    let x = ended_sourced g.Q.Records.first c.args.hall.now c.args.pass.now _ _ _ c.done_asked.ensures e.turnstile e.begins e.places e.shares s c.requires.seated e.orderly.0 e.own
     g.Q.Records.count_of c.in-Done.count (eq-eqb s.number s.number refl) (a.4 _ m.0.recorded) in search rules
 
 pub returns-in-Refused-clause-sourced : goal.returns-in-Refused-clause-sourced
@@ -150,17 +150,17 @@ returns-in-Refused-clause-sourced g c =
     let log = history (pass_of c.enter-turn.result) in
     let same = c.object-2.ensures.value ∙ c.in-Err.ensures.err ∙ c.object.ensures.value in
     let stands = subst (λ (z : SharedRoom _). StandsForHistory g.Q.Records z log) (sym same) e.stands in
-    let found = seat_found (history c.args.pass.now) log (places c.args.pass.now) s c.requires.seated e.begins e.orderly.0 e.own in
+    let found = seat_found g.Q.Records.first (history c.args.pass.now) log (places c.args.pass.now) s c.requires.seated e.begins e.orderly.0 e.own in
     let line = c.in-Err.ensures.back ∙ c.new-line.ensures ∙ c.text.ensures ∙ sym c.text-in-Refused.ensures in
     let a = subst (λ l. IsAsked g.Q.Records s.number l s.lent c.ask.new.lent c.object-2.result.now c.ask.new.self c.ask.new.out.text (asked.Refused c.in-Refused.count)) line c.in-Refused.ensures in
     let m = may_refuse g.Q.Records log (places c.args.pass.now) s found.0 c.object-2.result.now c.ask.new.self stands c.text-in-Refused.result.now a.0 a.5 a.2 in
-    let x = ended_sourced c.args.hall.now c.args.pass.now _ _ _ c.done_refused.ensures e.turnstile e.begins e.places e.shares s c.requires.seated e.orderly.0 e.own
+    let x = ended_sourced g.Q.Records.first c.args.hall.now c.args.pass.now _ _ _ c.done_refused.ensures e.turnstile e.begins e.places e.shares s c.requires.seated e.orderly.0 e.own
     g.Q.Records.count_of c.in-Refused.count (eq-eqb s.number s.number refl) (a.6 _ m.0.recorded) in search rules
 
 pub returns-in-Kept-clause-sourced : goal.returns-in-Kept-clause-sourced
 returns-in-Kept-clause-sourced g c =
     let e = c.enter-turn.ensures in
-    let x = bare_sourced c.args.hall.now c.args.pass.now _ _ c.done_bare.ensures e.turnstile e.begins e.shares c.args.seat.now c.requires.seated e.orderly.0 e.own in search rules
+    let x = bare_sourced g.Q.Records.first c.args.hall.now c.args.pass.now _ _ c.done_bare.ensures e.turnstile e.begins e.shares c.args.seat.now c.requires.seated e.orderly.0 e.own in search rules
 
 pub returns-in-Ok-clause-sourced : goal.returns-in-Ok-clause-sourced
 returns-in-Ok-clause-sourced g c =
@@ -168,10 +168,10 @@ returns-in-Ok-clause-sourced g c =
     let s = c.args.seat.now in
     let log = history (pass_of c.enter-turn.result) in
     let stands = subst (λ (z : SharedRoom _). StandsForHistory g.Q.Records z log) (sym c.object.ensures.value) e.stands in
-    let found = seat_found (history c.args.pass.now) log (places c.args.pass.now) s c.requires.seated e.begins e.orderly.0 e.own in
+    let found = seat_found g.Q.Records.first (history c.args.pass.now) log (places c.args.pass.now) s c.requires.seated e.begins e.orderly.0 e.own in
     let line = c.new-line.ensures ∙ c.text.ensures ∙ sym c.text-in-Ok.ensures in
     let l = c.in-Ok.ensures in
     let look = subst (λ z. IsLookOf c.object.result.now.room s.number z c.in-Ok.look) line l.look in
     let m = may_look g.Q.Records log (places c.args.pass.now) s found.0 c.object.result.now c.look.new.self stands c.text-in-Ok.result.now c.in-Ok.look look l.room l.recorded l.counted in
-    let x = ended_sourced c.args.hall.now c.args.pass.now _ _ _ c.done_looked.ensures e.turnstile e.begins e.places e.shares s c.requires.seated e.orderly.0 e.own
+    let x = ended_sourced g.Q.Records.first c.args.hall.now c.args.pass.now _ _ _ c.done_looked.ensures e.turnstile e.begins e.places e.shares s c.requires.seated e.orderly.0 e.own
     g.Q.Records.count_of c.in-Ok.count (eq-eqb s.number s.number refl) (l.count _ m.0.recorded) in search rules

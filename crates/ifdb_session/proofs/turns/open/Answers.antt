@@ -18,16 +18,16 @@ done_opened-requires-clause-entry g c =
 pub returns-clause-sees : goal.returns-clause-sees
 returns-clause-sees g c =
     let e = c.enter-turn.ensures in
-    let x = ended_sees c.args.hall.now c.args.pass.now _ _ _ c.done_opened.ensures e.turnstile e.begins e.places e.shares in search rules
+    let x = ended_sees g.Q.Records.first c.args.hall.now c.args.pass.now _ _ _ c.done_opened.ensures e.turnstile e.begins e.places e.shares in search rules
 
 pub returns-clause-new : goal.returns-clause-new
 returns-clause-new g c =
     let e = c.enter-turn.ensures in
     let log = history (pass_of c.enter-turn.result) in
     let stands = subst (λ (s : SharedRoom _). StandsForHistory g.Q.Records s log) (sym c.object.ensures.value) e.stands in
-    let x = ended_new c.args.hall.now c.args.pass.now _ _ _ c.done_opened.ensures e.turnstile e.begins e.places e.shares c.object.result.now.room c.in-Ok.n e.orderly.0 stands.room (search rules) refl in search rules
+    let x = ended_new g.Q.Records.first c.args.hall.now c.args.pass.now _ _ _ c.done_opened.ensures e.turnstile e.begins e.places e.shares c.object.result.now.room c.in-Ok.n e.orderly.0 stands.room (search rules) refl in search rules
 
 pub returns-in_default-clause-sees : goal.returns-in_default-clause-sees
 returns-in_default-clause-sees g c =
     let e = c.enter-turn.ensures in
-    let x = bare_sees c.args.hall.now c.args.pass.now _ _ c.done_bare.ensures e.turnstile e.begins e.shares in search rules
+    let x = bare_sees g.Q.Records.first c.args.hall.now c.args.pass.now _ _ c.done_bare.ensures e.turnstile e.begins e.shares in search rules

@@ -4,7 +4,7 @@ use Rattle.ifdb_durable.proofs.Begins.{begins_all}
 use Rattle.ifdb_session.proofs.durable.DurableSettles.settle.Goals as goal
 
 pub returns-clause-goes_on : goal.returns-clause-goes_on
-returns-clause-goes_on g c = (refl, c.settle.ensures.more, c.settle.ensures.member_shares)
+returns-clause-goes_on g c = (refl, c.settle.ensures.more)
 
 pub returns-clause-sees : goal.returns-clause-sees
 returns-clause-sees g c =

@@ -1,8 +1,8 @@
 use Rattle.std.proofs.Common.{[], ◌∷◌, ◌++◌, sym, subst}
-use Rattle.ifdb_session.specs.Durable.{HasTexts}
-use Rattle.ifdb_session.proofs.Queueing.{texts_pushed}
+use Rattle.ifdb_session.specs.Durable.{HasRecords}
+use Rattle.ifdb_session.proofs.Queueing.{record_pushed}
 use Rattle.ifdb_session.proofs.durable.QueueRecords.push.Goals as goal
 
 pub returns : goal.returns
-returns g c = λ texts has.
-    subst (λ q. HasTexts q (texts ++ c.args.text.now ∷ [])) (sym c.push_text.ensures) (texts_pushed c.args.self.now texts c.args.text.now has)
+returns g c = λ rs r is has.
+    subst (λ q. HasRecords q (rs ++ r ∷ [])) (sym c.push_text.ensures) (record_pushed c.args.self.now rs r c.args.text.now is has)

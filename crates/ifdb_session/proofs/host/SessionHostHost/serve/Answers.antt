@@ -6,12 +6,12 @@ pub returns-then-not-is_orderly-clause-served : goal.returns-then-not-is_orderly
 returns-then-not-is_orderly-clause-served g c =
     let e = c.serve_link-ending.ensures in
     serves_so g.K.Source g.K.Sink g.Q.Records g.S.Settles c.args.self.now c.args.link.now c.serve_link-ending.new.link c.serve_link-ending.result c.serve_link-ending.new.pass c.serve_link-ending.new.keeper
-    c.saturating_add-self.result e.sees e.keeper.1 e.served e.unserved e.unopened e.read_cause e.unfailed e.write_cause e.unkept
+    c.saturating_add-self.result e.sees e.keeper e.served e.unserved e.unopened e.read_cause e.unfailed e.write_cause e.unkept
     (one_more_fault c.args.self.now.faults c.saturating_add-self.result c.serve_link-ending.result c.saturating_add-self.ensures (search rules))
 
 pub returns-else-not-is_orderly-clause-served : goal.returns-else-not-is_orderly-clause-served
 returns-else-not-is_orderly-clause-served g c =
     let e = c.serve_link-ending.ensures in
     serves_so g.K.Source g.K.Sink g.Q.Records g.S.Settles c.args.self.now c.args.link.now c.serve_link-ending.new.link c.serve_link-ending.result c.serve_link-ending.new.pass c.serve_link-ending.new.keeper
-    c.args.self.now.faults e.sees e.keeper.1 e.served e.unserved e.unopened e.read_cause e.unfailed e.write_cause e.unkept
+    c.args.self.now.faults e.sees e.keeper e.served e.unserved e.unopened e.read_cause e.unfailed e.write_cause e.unkept
     (no_more_faults c.args.self.now.faults c.serve_link-ending.result (search rules) (search rules))
