@@ -1,2 +1,5 @@
+mod ReadCommits
+mod FitStates
+mod FitLogs
 mod Texts
 mod Restarting
