@@ -168,7 +168,7 @@ commit_fit log ws v are test =
 
 -- ---- texts
 
-none_behind : (texts : List (List ℕ)) → log_behind None texts ≡ None
+pub none_behind : (texts : List (List ℕ)) → log_behind None texts ≡ None
 none_behind [] = refl
 none_behind (text ∷ texts) = ap (λ o. log_behind o texts) (by (record_of text)) ∙ none_behind texts where
   by : (o : Option RedoRecord) → with_record None o ≡ None

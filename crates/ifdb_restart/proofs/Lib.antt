@@ -1,5 +1,5 @@
 mod ReadCommits
 mod FitStates
-mod FitLogs
+pub mod FitLogs
 mod Texts
 mod Restarting

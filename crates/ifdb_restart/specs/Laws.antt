@@ -18,9 +18,14 @@ abbrev pub FirstTextsRestoreAFront : Type 0
 FirstTextsRestoreAFront = (steps : List Step) (texts : List (List ℕ)) (n : ℕ) → AreTextsOf texts (records read_line opening steps)
     → log_of (take n texts) ≡ Some (take n (run read_line opening steps).log)
 
--- Behind texts that restore a log, whatever wrote them, the first texts of the records of a run that begins at that log restore it
--- with the first entries that the run adds, one each.
+-- Behind texts that restored a log, these texts restore a longer one: each restores one entry, so the first of them restore as many of
+-- its further entries.
+pub record RestoreOneEach (before : List (List ℕ)) (first : List Entry) (texts : List (List ℕ)) (log : List Entry) : Type 0 where
+  pub count : length log ≡ length first + length texts
+  pub front : (n : ℕ) → log_of (before ++ take n texts) ≡ Some (take (length first + n) log)
+
+-- So do the texts of the records of a run that begins at a log which texts restored, whatever wrote these.
 abbrev pub FirstTextsAddAFront : Type 0
-FirstTextsAddAFront = (before : List (List ℕ)) (first : List Entry) (steps : List Step) (texts : List (List ℕ)) (n : ℕ)
+FirstTextsAddAFront = (before : List (List ℕ)) (first : List Entry) (steps : List Step) (texts : List (List ℕ))
     → log_of before ≡ Some first → AreTextsOf texts (records read_line (closed_state first) steps)
-    → log_of (before ++ take n texts) ≡ Some (take (length first + n) (run read_line (closed_state first) steps).log)
+    → RestoreOneEach before first texts (run read_line (closed_state first) steps).log

@@ -1,0 +1,5 @@
+mod Titles
+mod Restarts
+mod Sizes
+mod Rests
+mod Keeping
