@@ -1,8 +1,8 @@
 -- What crashes leave of a database, since its opening and since each append that was told of.
-use Rattle.std.proofs.Common.{◌≡◌, ◌⊎◌, inl, inr, ℕ, ◌≤◌, true, List, [], ◌∷◌, ◌++◌, ◌∙◌, length, take, drop, refl, sym, ap, subst, arith, append_assoc, append-nil}
+use Rattle.std.proofs.Common.{◌≡◌, ◌⊎◌, inl, inr, ℕ, ◌+◌, ◌-◌, ◌≤◌, true, List, [], ◌∷◌, ◌++◌, ◌∙◌, length, take, drop, refl, sym, ap, subst, arith, append_assoc, append-nil}
 use Rattle.std.specs.Prelude.{Option, Some, None}
 use Rattle.std.specs.List.{flat_map}
-use Rattle.std.proofs.Math.Seq.{take-append_seam}
+use Rattle.std.proofs.Math.Seq.{take-append-add, take-append_seam}
 use mathlib.Core.List.{IsPrefix}
 use Rattle.atomic_table.specs.Seated.{TableId}
 use Rattle.ifdb_disk.specs.Images.{Shown, IsImage}
@@ -16,11 +16,12 @@ use Rattle.ifdb_log.specs.Behind.{behind, front_of, shown_behind, Fronted, HasBe
 use Rattle.ifdb_log.specs.Fronted.{image_behind}
 use Rattle.ifdb_log.specs.Pieces.{pieces, FrontsAreFirstTexts}
 use Rattle.ifdb_log.proofs.Fronts.{image_both, leaves_behind}
+use Rattle.ifdb_turn.specs.Histories.{AllRight}
 use Rattle.ifdb_turn.proofs.HistoryLemmas.{prefix_length}
 use Rattle.ifdb_durable.specs.declared.view.Flush.{Flush}
 use Rattle.ifdb_durable.specs.declared.view.Told.{Told}
 use Rattle.ifdb_durable.specs.declared.writer.Writer.{Writer}
-use Rattle.ifdb_durable.specs.Told.{Begins, kept_by}
+use Rattle.ifdb_durable.specs.Told.{Begins, kept_by, kept_from}
 use Rattle.ifdb_durable.specs.Queues.{Queued, all_of}
 use Rattle.ifdb_durable.specs.Writing.{disk_of, in_hand, taken, told}
 use Rattle.ifdb_durable.specs.Appends.{IsFirst, IsLast, IsRight, Stands}
@@ -30,13 +31,15 @@ use Rattle.ifdb_durable.proofs.Begins.{prefix_more, prefix_on}
 use Rattle.ifdb_durable.proofs.Worth.{appends_keep}
 use Rattle.ifdb_model.specs.Log.{Entry as LogEntry}
 use Rattle.ifdb_history.specs.declared.entry.Entry.{Entry}
+use Rattle.ifdb_history.specs.History.{added_in}
 use Rattle.ifdb_restart.specs.Laws.{FirstTextsAddAFront}
 use Rattle.ifdb_session.specs.Durable.{count_of, HasRecords}
 use Rattle.ifdb_session.specs.Records.{records_of, texts_of}
+use Rattle.ifdb_session.specs.Starts.{start_of}
 use Rattle.ifdb_host.specs.Files.{IsFileOf, Restore, ShowsLog}
-use Rattle.ifdb_host.specs.Fronts.{opening_of, HasFrontOf, IsToldOf, KnowsOf, LeavesFrom}
+use Rattle.ifdb_host.specs.Fronts.{opening_of, HasFrontOf, HasTextsOf, IsKeptSince, IsToldOf, KnowsOf, LeavesFrom}
 use Rattle.ifdb_host.proofs.Titles.{IsTitle, title_of}
-use Rattle.ifdb_host.proofs.Sizes.{sizes_same}
+use Rattle.ifdb_host.proofs.Sizes.{head_same, sizes_same}
 use Rattle.ifdb_host.proofs.Rests.{file_of, rest_of, IsRestOf}
 
 -- ---- lists that end in an element
@@ -63,6 +66,23 @@ lifted : (begun t u : Option Clock) (n m : ℕ) (P : List ℕ → Type 0) → n 
 lifted begun t u n m P e f old new leaves =
     leaves_behind 16 begun t u P (subst (λ k. Fronted k begun t) e old) (subst (λ k. Fronted k begun u) f new)
     (subst (λ k. Leaves (behind 16 t) (behind k u) P) f (subst (λ k. Leaves (behind k t) (behind m u) P) e leaves))
+
+-- the first appends are right too
+right_front : {X : Type 0} {right : List X → X → Type 0} (h g : List X) → IsPrefix h g → AllRight right g → AllRight right h
+right_front h g front all = λ before entry first. all before entry (prefix_on (before ++ entry ∷ []) h g first front)
+
+leaves_from_weaker : (t u : Option Clock) (P Q : List ℕ → Type 0) → ((image : List ℕ) → P image → Q image) → LeavesFrom t u P → LeavesFrom t u Q
+leaves_from_weaker None u P Q imply leaves = (tt, tt)
+leaves_from_weaker (Some c) u P Q imply leaves = ((λ image is. imply image (leaves.0 image is)), leaves_weaker (Some c) u P Q imply leaves.1)
+
+-- a front with so many texts has the first of them
+texts_there : (before : List (List ℕ)) (first : List LogEntry) (h : List Entry) (texts : List (List ℕ)) (image : List ℕ) → IsPrefix texts (texts_of first h) → HasFrontOf before first h (length texts) image → HasTextsOf before texts image
+texts_there before first h texts image front has =
+    let m = has.n - length texts in
+    let size : has.n ≡ length texts + m = omega (arith, has.enough) in
+    let split : take has.n (texts_of first h) ≡ texts ++ take m front.0 =
+    ap (take has.n) (sym front.1) ∙ ap (λ k. take k (texts ++ front.0)) size ∙ take-append-add texts front.0 m in
+    (take m front.0, first ++ take has.n (added_in (start_of first) h), subst (λ l. IsFileOf (before ++ l) (first ++ take has.n (added_in (start_of first) h)) image) split has.file)
 
 -- ---- a database, on disks of which so many first bytes stand
 
@@ -91,8 +111,14 @@ module _ {X B : Type 0} (size : X → ℕ) (raw : X → Option Clock) (faults : 
       by (inl none_) = last_first d (is.0, is.2 ∙ ap (λ l. (is.0 ++ d ∷ []) ++ l) none_ ∙ append-nil (is.0 ++ d ∷ []))
       by (inr ends) =
           let whole : (told w).flushes ≡ ((is.0 ++ d ∷ []) ++ ends.0) ++ ends.1 ∷ [] = is.2 ∙ ap (λ l. (is.0 ++ d ∷ []) ++ l) ends.2 ∙ sym (append_assoc (is.0 ++ d ∷ []) ends.0 (ends.1 ∷ [])) in
-          let two = appends_keep X (λ x. behind (size x) (raw x)) rs is.0 ends.0 d ends.1 (subst (Rattle.ifdb_turn.specs.Histories.AllRight (IsRight (λ x. behind (size x) (raw x)) rs)) whole stands.order) in
+          let two = appends_keep X (λ x. behind (size x) (raw x)) rs is.0 ends.0 d ends.1 (subst (AllRight (IsRight (λ x. behind (size x) (raw x)) rs)) whole stands.order) in
           prefix_on d.kept ends.1.kept (taken w) two.0 (last_first ends.1 ((is.0 ++ d ∷ []) ++ ends.0, whole))
+
+    -- the opening is the first of the writer's appends
+    pub opening_first : (opening : X) → Begins (opening_of opening) receipt → IsFirst (record { disk = opening; kept = [] }) (told w).flushes
+    opening_first opening begins =
+        let front = prefix_on ((opening_of opening).flushes) receipt.flushes (told w).flushes begins.0 heard.0 in
+        (front.0, sym front.1)
 
     module _ (opening : X) (before : List (List ℕ)) (begins : Begins (opening_of opening) receipt) (sized : size opening ≡ 16) (shows : ShowsLog (raw opening) before first) where
       opened : Flush X
@@ -179,7 +205,7 @@ module _ {X B : Type 0} (size : X → ℕ) (raw : X → Option Clock) (faults : 
       kept_stays texts prefix knows = by (ending knows.0.flushes) where
         by : (knows.0.flushes ≡ []) ⊎ Ends knows.0.flushes → (d : Flush X) × IsToldOf d receipt × LeavesFrom (raw d.disk) (raw (disk_of w)) (HasFrontOf before first h (length texts))
         by (inl none_) =
-            let nothing_kept : kept_by knows.0 ≡ [] = ap (Rattle.ifdb_durable.specs.Told.kept_from []) none_ in
+            let nothing_kept : kept_by knows.0 ≡ [] = ap (kept_from []) none_ in
             let le : count_of texts ≤ 0 = omega (arith, knows.2, ap length nothing_kept) in
             (opened, opened_told, since_it texts prefix opened (opening_of opening) (raw opening) refl begins ([], refl) opened_told le)
         by (inr ends) =
@@ -189,8 +215,41 @@ module _ {X B : Type 0} (size : X → ℕ) (raw : X → Option Clock) (faults : 
             let is : IsToldOf d receipt = (ends.0, knows.1.0.0, sym knows.1.0.1 ∙ ap (λ l. l ++ knows.1.0.0) ends.2) in
             (d, is, since_it texts prefix d knows.0 (raw d.disk) refl knows.1 last is le)
 
-    -- the opening is the first of the writer's appends
-    pub opening_first : (opening : X) → Begins (opening_of opening) receipt → IsFirst (record { disk = opening; kept = [] }) (told w).flushes
-    opening_first opening begins =
-        let front = prefix_on ((opening_of opening).flushes) receipt.flushes (told w).flushes begins.0 heard.0 in
-        (front.0, sym front.1)
+      -- a disk that tells what it holds is never silent later
+      silent_later : (d : Flush X) → IsToldOf d (told w) → raw d.disk ≡ None → ⊥
+      silent_later d is silent = by is.0 (sym begun_first.1 ∙ is.2) where
+        begun_first : IsFirst opened (told w).flushes
+        begun_first = opening_first opening begins
+
+        at_once : opened ≡ d → ⊥
+        at_once same = cc (sym told_opening.1 ∙ ap (λ (e : Flush X). raw e.disk) same ∙ silent)
+
+        by : (front : List (Flush X)) → opened ∷ begun_first.0 ≡ (front ++ d ∷ []) ++ is.1 → ⊥
+        by [] e = at_once (head_same opened d begun_first.0 is.1 e)
+        by (x ∷ g) e =
+            let same : opened ≡ x = head_same opened x begun_first.0 ((g ++ d ∷ []) ++ is.1) e in
+            let whole : ((opened ∷ g) ++ d ∷ []) ++ is.1 ≡ (told w).flushes = ap (λ y. ((y ∷ g) ++ d ∷ []) ++ is.1) same ∙ sym e ∙ sym begun_first.1 in
+            let order = right_front ((opened ∷ g) ++ d ∷ []) (told w).flushes (is.1, whole) stands.order in
+            let leaves = (appends_keep X (λ x. behind (size x) (raw x)) rs [] g opened d order).1 in
+            let lost = subst (λ t. Leaves (behind (size opening) t) (behind (size d.disk) (raw d.disk)) (HasFront rs d.kept 0)) told_opening.1 leaves in
+            subst (λ t. Leaves (behind (size opening) (Some told_opening.0)) (behind (size d.disk) t) (HasFront rs d.kept 0)) silent lost
+
+      -- so each disk that was told of tells what it holds
+      told_at : (d : Flush X) → IsToldOf d receipt → (c : Clock) × (raw d.disk ≡ Some c)
+      told_at d is = by (raw d.disk) refl where
+        by : (t : Option Clock) → raw d.disk ≡ t → (c : Clock) × (raw d.disk ≡ Some c)
+        by (Some c) tells = (c, tells)
+        by None tells = absurd (silent_later d (among d is) tells)
+
+      pub kept_then : (texts : List (List ℕ)) → IsPrefix texts (texts_of first h) → KnowsOf receipt (count_of texts) → IsKeptSince before (raw (disk_of w)) texts
+      kept_then texts prefix knows = by (raw (disk_of w)) refl where
+        found : (d : Flush X) × IsToldOf d receipt × LeavesFrom (raw d.disk) (raw (disk_of w)) (HasFrontOf before first h (length texts))
+        found = kept_stays texts prefix knows
+
+        by : (t : Option Clock) → raw (disk_of w) ≡ t → IsKeptSince before t texts
+        by None tells = tt
+        by (Some c) tells =
+            let told = told_at found.0 found.1 in
+            let here = subst (λ t. LeavesFrom t (raw (disk_of w)) (HasFrontOf before first h (length texts))) told.1 found.2 in
+            let now = subst (λ t. LeavesFrom (Some told.0) t (HasFrontOf before first h (length texts))) tells here in
+            (told.0, leaves_from_weaker (Some told.0) (Some c) (HasFrontOf before first h (length texts)) (HasTextsOf before texts) (λ image has. texts_there before first h texts image prefix has) now)

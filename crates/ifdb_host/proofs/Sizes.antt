@@ -18,7 +18,7 @@ front_within n begun c fronted =
     let stands = fronted.1.0 in
     omega (arith, stands.1.1.0, ap length stands.1.1.1.0, length-take n c.now.bytes)
 
-head_same : {X : Type 0} (a b : X) (x y : List X) → a ∷ x ≡ b ∷ y → a ≡ b
+pub head_same : {X : Type 0} (a b : X) (x y : List X) → a ∷ x ≡ b ∷ y → a ≡ b
 head_same a b x y e = ap (first a) e where
   first : {X : Type 0} → X → List X → X
   first d [] = d

@@ -1,5 +1,5 @@
 -- What crashes leave of a database's file: what it began with, and a front of what a history added to it.
-use Rattle.std.specs.Prelude.{◌≡◌, ℕ, ◌≤◌, false, List, [], ◌∷◌, ◌++◌, length, take, Option}
+use Rattle.std.specs.Prelude.{◌≡◌, ℕ, ◌≤◌, false, List, [], ◌∷◌, ◌++◌, length, take, Option, Some, None, ⊤}
 use mathlib.Core.List.{IsPrefix}
 use Rattle.ifdb_disk.specs.Images.{IsImage}
 use Rattle.ifdb_disk.specs.Clock.{Clock, Leaves, Now}
@@ -21,9 +21,18 @@ pub record HasFrontOf (before : List (List ℕ)) (first : List LogEntry) (h : Li
   pub there : n ≤ length (added_in (start_of first) h)
   pub file : IsFileOf (before ++ take n (texts_of first h)) (first ++ take n (added_in (start_of first) h)) image
 
+-- an image is the file of the texts of before, and then of these and any more behind them
+abbrev pub HasTextsOf : List (List ℕ) → List (List ℕ) → List ℕ → Type 0
+HasTextsOf before xs image = (more : List (List ℕ)) × (log : List LogEntry) × IsFileOf (before ++ (xs ++ more)) log image
+
 -- at some moment, and at each one since, a crash leaves only what has P
 abbrev pub LeavesFrom : Option Clock → Option Clock → (List ℕ → Type 0) → Type 0
 LeavesFrom t u P = Now t (λ s. (image : List ℕ) → IsImage s image → P image) × Leaves t u P
+
+-- where a disk tells what it holds, there was a moment since which a crash leaves all of these texts behind those of before
+abbrev pub IsKeptSince : List (List ℕ) → Option Clock → List (List ℕ) → Type 0
+IsKeptSince before None xs = ⊤
+IsKeptSince before (Some c) xs = (since : Clock) × LeavesFrom (Some since) (Some c) (HasTextsOf before xs)
 
 module _ {D : Type 0} where
   -- what is told of a disk when it is opened: an append of nothing

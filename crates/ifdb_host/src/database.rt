@@ -16,7 +16,7 @@ ghost use Rattle.ifdb_session.specs.Durable.{count_of};
 ghost use Rattle.ifdb_session.specs.Records.{texts_of};
 ghost use Rattle.ifdb_session.specs.Starts.{start_of};
 ghost use Rattle.ifdb_host.specs.Files.{ShowsLog};
-ghost use Rattle.ifdb_host.specs.Fronts.{opening_of, HasFrontOf, IsToldOf, KnowsOf, LeavesFrom};
+ghost use Rattle.ifdb_host.specs.Fronts.{opening_of, HasFrontOf, IsKeptSince, IsToldOf, KnowsOf, LeavesFrom};
 
 use crate::reopen::{Means, Reopened};
 use ifdb_disk::Disk;
@@ -45,6 +45,8 @@ pub struct Database<N: Begins, D: Disk> {
 pub struct Closed<D> {
     /// What its history comes to.
     pub counts: Counts,
+    /// Whether its disk has failed.
+    pub has_failed: bool,
     /// Its disk.
     pub disk: D,
 }
@@ -112,8 +114,8 @@ impl<B: Origin, N: Begins, D: Disk + Drop> Database<N, Behind<B, D>> {
     ///
     /// At every moment since the opening each image of the disk is the file of the log that there was before, and of a front of
     /// what the history added to it. Where the member knows that so many records are on the disk as some first texts of the
-    /// history come to, the member knows of an append since which that front has had all of these. Where it knows that the disk
-    /// has failed, the disk's count of faults rose since the opening.
+    /// history come to, the member knows of an append since which that front has had all of these. The disk has failed where the
+    /// member knows it, and only where the disk's count of faults rose since the opening.
     pub fn close(self) -> Closed<D>
         requires pass { BelongsTo self.hall self.pass }
         requires shares { shares self.pass ≡ all_shares }
@@ -133,8 +135,15 @@ impl<B: Origin, N: Begins, D: Disk + Drop> Database<N, Behind<B, D>> {
             → (d : _) × IsToldOf d self.member.receipt
                 × LeavesFrom (D.tells d.disk.disk) (D.tells result.disk)
                     (HasFrontOf before N.first (history self.pass) (length texts)) }
+        ensures kept_since { (opening : _) (before texts : List (List ℕ))
+            → Begins (opening_of opening) self.member.receipt → opening.size ≡ 16
+            → ShowsLog (D.tells opening.disk) before N.first
+            → IsPrefix texts (texts_of N.first (history self.pass))
+            → KnowsOf self.member.receipt (count_of texts)
+            → IsKeptSince before (D.tells result.disk) texts }
+        ensures known { self.member.receipt.has_failed ≡ true → result.has_failed ≡ true }
         ensures cause { (opening : _) → Begins (opening_of opening) self.member.receipt
-            → self.member.receipt.has_failed ≡ true
+            → result.has_failed ≡ true
             → Rose (D.faults opening.disk) (D.faults result.disk) }
     {
         let Database {
@@ -150,6 +159,7 @@ impl<B: Origin, N: Begins, D: Disk + Drop> Database<N, Behind<B, D>> {
         drop(queue);
         Closed {
             counts,
+            has_failed: writer.has_failed(),
             disk: writer.into_disk().into_disk(),
         }
     }

@@ -185,15 +185,15 @@ restored_one log (Some x) texts first e = (x, refl, e)
 
 changed_one : (o : Option Change) (e : Entry) → entry_if o ≡ Some e → (c : Change) × (o ≡ Some c) × (e ≡ changes c)
 changed_one None e k = absurd cc
-changed_one (Some c) e k = (c, refl, cc)
+changed_one (Some c) e k = let same : e ≡ changes c = cc in (c, refl, same)
 
 added_one : (o : Option Entry) (c : Change) → change_of o ≡ Some c → o ≡ Some (changes c)
 added_one None c k = absurd cc
-added_one (Some (changes d)) c k = ap (λ (x : Change). Some (changes x)) (cc k)
+added_one (Some (changes d)) c k = let same : d ≡ c = cc in ap (λ (x : Change). Some (changes x)) same
 added_one (Some (commits ws)) c k = absurd cc
 
 tested_one : (b : Bool) (ws : List Write) (e : Entry) → cond b (Some (commits ws)) None ≡ Some e → (b ≡ true) × (e ≡ commits ws)
-tested_one true ws e k = (refl, cc)
+tested_one true ws e k = let same : e ≡ commits ws = cc in (refl, same)
 tested_one false ws e k = absurd cc
 
 entry_fit : (log : List Entry) (text : List ℕ) (r : RedoRecord) (texts : List (List ℕ)) (first : List Entry) → record_of text ≡ Some r → IsFit (closed_state log)
@@ -210,7 +210,7 @@ entry_fit log text (redo.Commit ws) texts first is v e =
     (log ++ one.0 ∷ [], subst (λ (x : Entry). IsFit (closed_state (log ++ x ∷ []))) (sym test.1) (commit_fit log ws v (read_in_place text ws is) test.0), one.2)
 
 texts_fit : (texts : List (List ℕ)) (log first : List Entry) → IsFit (closed_state log) → log_behind (Some log) texts ≡ Some first → IsFit (closed_state first)
-texts_fit [] log first v e = subst (λ l. IsFit (closed_state l)) (cc e) v
+texts_fit [] log first v e = let same : log ≡ first = cc in subst (λ l. IsFit (closed_state l)) same v
 texts_fit (text ∷ texts) log first v e = by (record_of text) refl e (texts_fit texts) where
   by : (o : Option RedoRecord) → record_of text ≡ o → log_behind (with_record (Some log) o) texts ≡ Some first → ((log first : List Entry) → IsFit (closed_state log) → log_behind (Some log) texts ≡ Some first → IsFit (closed_state first)) → IsFit (closed_state first)
   by None is k go = absurd (lost texts first k)

@@ -36,7 +36,7 @@ use Rattle.ifdb_laws.proofs.two_worlds.Sound.{Sound, are_sound, asked_sound, lef
 use Rattle.ifdb_laws.proofs.rows.Fits.{write_fits, statement_fits}
 use Rattle.ifdb_laws.proofs.rows.Fitting.{are_fit, fits_changed}
 use Rattle.ifdb_laws.proofs.rows.Rooted.{writes_rooted}
-use Rattle.ifdb_laws.proofs.rows.Runs.{all_rooted, adds_rooted, session_has, written_fits, written_rooted}
+use Rattle.ifdb_laws.proofs.rows.Runs.{session_has, written_fits, written_rooted}
 use Rattle.ifdb_restore.specs.Passing.{commit_fits, is_fit}
 use Rattle.ifdb_restore.specs.Redone.{entry_if, longer, recorded, records, records_at, restored, restored_behind}
 use Rattle.ifdb_restore.proofs.Redone.{redone_lem}
@@ -157,6 +157,15 @@ module _ (log : List Entry) (s : Session) (line : Result Request Fault) (k : Fit
   session_fits o (done x t j) = idle_fits log s.label label_later
 
 -- ---- parents
+
+abbrev pub all_rooted : List Row → Bool
+all_rooted rows = are_rooted rows rows
+
+-- what is added leaves each row's parents
+abbrev adds_rooted : List Row → Option Entry → Bool
+adds_rooted before None = true
+adds_rooted before (Some (changes c)) = true
+adds_rooted before (Some (commits ws)) = all_rooted (after before ws)
 
 added_rooted : (log : List Entry) (s : Session) (line : Result Request Fault) (o : Outcome) → Shape log s line o → txn_all are_fitting s.txn ≡ true → all_rooted (content_of log) ≡ true → adds_rooted (content_of log) o.added ≡ true
 added_rooted log s line o (stayed r) f h = refl

@@ -124,7 +124,7 @@ writes_in_place bytes ws e = writes_found (list_at write_at bytes) ws (λ vs res
 
 commit_found : (o : Option (List Write)) (ws : List Write) → ((vs : List Write) → o ≡ Some vs → AreInPlace vs) → (o >>= λ found. Some (redo.Commit found)) ≡ Some (redo.Commit ws) → AreInPlace ws
 commit_found None ws all e = absurd cc
-commit_found (Some vs) ws all e = all ws (ap Some (cc e))
+commit_found (Some vs) ws all e = let same : vs ≡ ws = cc in all ws (ap Some same)
 
 no_change : (o : Found ℕ) (ws : List Write) → (o >>= λ asker. Some (redo.Change asker.0 asker.1)) ≡ Some (redo.Commit ws) → ⊥
 no_change None ws e = cc
