@@ -1,5 +1,5 @@
 mod Titles
-mod Restarts
 mod Sizes
+mod Restarts
 mod Rests
 mod Keeping

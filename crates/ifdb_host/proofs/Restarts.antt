@@ -20,8 +20,9 @@ use Rattle.ifdb_db.specs.Room.{Hall}
 use Rattle.ifdb_restart.specs.Restarted.{log_behind, log_of, with_record, HasUnfitAt, IsRestarted}
 use Rattle.ifdb_restart.proofs.FitLogs.{none_behind}
 use Rattle.ifdb_redo.specs.Reading.{record_of}
-use Rattle.ifdb_host.specs.Files.{HoldsLog, IsFileOf, IsOldOrBare, Restore, ShowsLog}
+use Rattle.ifdb_host.specs.Files.{IsFileOf, IsOldOrBare, IsTold, Restore, ShowsLog}
 use Rattle.ifdb_host.specs.Laws.{FilesAreRestarted, IsRestartedAs}
+use Rattle.ifdb_host.proofs.Sizes.{sizes_same}
 use Rattle.ifdb_host.proofs.Titles.{IsTitle, title_of, title_then}
 
 -- ---- a file that restores a log
@@ -110,25 +111,15 @@ all_settled front s rest stands is =
 
 -- ---- what reopen leaves
 
-pub holds_log : (begun t : Option Clock) (at : ℕ) (log : List Entry) (h : Hall) → IsSettled IsLog begun → Fronted 16 begun t → ((c : Clock) → t ≡ Some c → (b : Clock) × (begun ≡ Some b))
-    → IsRestarted (behind 16 t) at log h → (texts : List (List ℕ)) × HoldsLog t texts log
-holds_log begun None at log h titled fronted told it = (it.0, tt)
-holds_log begun (Some c) at log h titled fronted told it =
-    let b = told c refl in
+holds_log : (b c : Clock) (at : ℕ) (log : List Entry) (h : Hall) → IsSettled IsLog (Some b) → Fronted 16 (Some b) (Some c) → IsRestarted (behind 16 (Some c)) at log h → (texts : List (List ℕ)) × ShowsLog (Some c) texts log
+holds_log b c at log h titled fronted it =
     let stands = fronted.1.0 in
     let held_here = it.1.holds in
-    (it.0, (all_settled (front_of 16 begun) c.now held_here.0 stands held_here.1, record {
-      titled = still_titled begun (Some c) titled fronted b.0 c b.1 refl;
+    (it.0, (all_settled (front_of 16 (Some b)) c.now held_here.0 stands held_here.1, record {
+      titled = still_titled (Some b) (Some c) titled fronted b c refl refl;
       whole = it.1.whole.whole;
       restores = record { are = it.1.are_texts; log = it.2.is };
     }))
-
--- the disk told what it holds when it began
-pub told_begun : (n : ℕ) (begun : Option Clock) (c : Clock) (P : List ℕ → Type 0) → Leaves (behind n begun) (behind n (Some c)) P → Fronted n begun (Some c) → IsSettled IsLog begun → n ≡ 16 → (b : Clock) × (begun ≡ Some b)
-told_begun n None c P leaves fronted titled is =
-    let stands = fronted.1.0 in
-    absurd (omega (arith, is, stands.1.1.0, ap length stands.1.1.1.0, Rattle.std.proofs.lemmas.List.length-take n c.now.bytes))
-told_begun n (Some b) c P leaves fronted titled is = (b, refl)
 
 -- each image is one of those from before, or the title with at most a byte
 bare_or_old : (b : Clock) (image : List ℕ) → IsSettled IsLog (Some b) → HasBehind (front_of 16 (Some b)) (IsOldOrShort (behind 16 (Some b))) image → IsOldOrBare (Some b) image
@@ -145,12 +136,6 @@ bare_or_old b image titled has = by has.2 where
     omega (arith, ap length has.1, length-append (take 16 b.now.bytes) has.0, title.1, short),
   )
 
-pub reopen_moments : (begun t : Option Clock) → IsSettled IsLog begun → Fronted 16 begun begun → Fronted 16 begun t → Leaves (behind 16 begun) (behind 16 t) (IsOldOrShort (behind 16 begun)) → Leaves begun t (IsOldOrBare begun)
-reopen_moments None t titled first now leaves = tt
-reopen_moments (Some b) t titled first now leaves =
-    leaves_weaker (Some b) t (HasBehind (front_of 16 (Some b)) (IsOldOrShort (behind 16 (Some b)))) (IsOldOrBare (Some b)) (λ image has. bare_or_old b image titled has)
-    (leaves_behind 16 (Some b) (Some b) t (IsOldOrShort (behind 16 (Some b))) first now leaves)
-
 -- a file that spells the same restores the same
 spells_on : (b c : Clock) (texts : List (List ℕ)) (log : List Entry) → IsLog c.now.bytes → SpellsSame (behind 16 (Some b)) (behind 16 (Some c)) → IsFileOf texts log b.now.bytes → IsFileOf texts log c.now.bytes
 spells_on b c texts log titled same file = record {
@@ -159,23 +144,60 @@ spells_on b c texts log titled same file = record {
   restores = subst (λ rs. Restore rs texts log) (sym same.0) file.restores;
 }
 
-module _ (law : FilesAreRestarted) (begun t : Option Clock) (titled : IsSettled IsLog begun) (fronted : Fronted 16 begun t) (texts : List (List ℕ)) (log : List Entry) (shows : ShowsLog begun texts log) where
-  restarted_as : (b c : Clock) → begun ≡ Some b → t ≡ Some c → SpellsSame (behind 16 begun) (behind 16 t) → IsRestartedAs (Some c) log
-  restarted_as b c is now same =
-      let both : SpellsSame (behind 16 (Some b)) (behind 16 (Some c)) = subst (λ o. SpellsSame (behind 16 (Some b)) (behind 16 o)) now (subst (λ o. SpellsSame (behind 16 o) (behind 16 t)) is same) in
-      let file = (subst (λ o. ShowsLog o texts log) is shows).1 in
-      law c texts log (spells_on b c texts log (still_titled begun t titled fronted b c is now) both file)
+-- of a disk whose title has stood since a restart began
+module _ (law : FilesAreRestarted) (n : ℕ) (begun t : Option Clock) (P : List ℕ → Type 0) (titled : IsSettled IsLog begun) (first : Fronted 16 begun begun) (fronted : Fronted n begun t) (leaves : Leaves (behind 16 begun) (behind n t) P) where
+  sized : (b c : Clock) → begun ≡ Some b → t ≡ Some c → 16 ≡ n
+  sized b c is now =
+      sizes_same 16 n (Some b) b (Some c) P (subst (λ o. Fronted 16 o o) is first) (subst (λ o. Fronted n (Some b) o) now (subst (λ o. Fronted n o t) is fronted))
+      (subst (λ o. Leaves (behind 16 (Some b)) (behind n o) P) now (subst (λ o. Leaves (behind 16 o) (behind n t) P) is leaves))
 
-pub reopened_same : FilesAreRestarted → (begun t : Option Clock) (P : List ℕ → Type 0) (at : ℕ) (made : List Entry) (h : Hall) (texts : List (List ℕ)) (log : List Entry) → IsSettled IsLog begun → Fronted 16 begun t
-    → Leaves (behind 16 begun) (behind 16 t) P → SpellsSame (behind 16 begun) (behind 16 t) → ShowsLog begun texts log → IsRestarted (behind 16 t) at made h → made ≡ log
-reopened_same law None t P at made h texts log titled fronted leaves same shows it = absurd shows
-reopened_same law (Some b) None P at made h texts log titled fronted leaves same shows it = absurd leaves
-reopened_same law (Some b) (Some c) P at made h texts log titled fronted leaves same shows it =
-    (restarted_as law (Some b) (Some c) titled fronted texts log shows b c refl refl same).same at made h it
+  both : (b : Clock) → begun ≡ Some b → (c : Clock) × (t ≡ Some c)
+  both b is = by t refl where
+    by : (o : Option Clock) → t ≡ o → (c : Clock) × (t ≡ Some c)
+    by (Some c) now = (c, now)
+    by None now = absurd (subst (λ o. Leaves (behind 16 (Some b)) (behind n o) P) now (subst (λ o. Leaves (behind 16 o) (behind n t) P) is leaves))
 
-pub reopened_whole : FilesAreRestarted → (begun t : Option Clock) (P : List ℕ → Type 0) (at : ℕ) (texts : List (List ℕ)) (log : List Entry) → IsSettled IsLog begun → Fronted 16 begun t
-    → Leaves (behind 16 begun) (behind 16 t) P → SpellsSame (behind 16 begun) (behind 16 t) → ShowsLog begun texts log → IsDamaged (behind 16 t) at ⊎ HasUnfitAt (behind 16 t) at → ⊥
-reopened_whole law None t P at texts log titled fronted leaves same shows found = shows
-reopened_whole law (Some b) None P at texts log titled fronted leaves same shows found = leaves
-reopened_whole law (Some b) (Some c) P at texts log titled fronted leaves same shows found =
-    (restarted_as law (Some b) (Some c) titled fronted texts log shows b c refl refl same).whole at found
+  pub reopened_shows : (at : ℕ) (made : List Entry) (h : Hall) → IsTold begun → IsRestarted (behind n t) at made h → (n ≡ 16) × ((texts : List (List ℕ)) × ShowsLog t texts made)
+  reopened_shows at made h told it = by begun refl told where
+    by : (o : Option Clock) → begun ≡ o → IsTold o → (n ≡ 16) × ((texts : List (List ℕ)) × ShowsLog t texts made)
+    by None is no = absurd no
+    by (Some b) is yes =
+        let now = both b is in
+        let size = sized b now.0 is now.1 in
+        let titled_b = subst (IsSettled IsLog) is titled in
+        let front : Fronted 16 (Some b) (Some now.0) = subst (λ k. Fronted k (Some b) (Some now.0)) (sym size) (subst (λ o. Fronted n (Some b) o) now.1 (subst (λ o. Fronted n o t) is fronted)) in
+        let again : IsRestarted (behind 16 (Some now.0)) at made h = subst (λ k. IsRestarted (behind k (Some now.0)) at made h) (sym size) (subst (λ o. IsRestarted (behind n o) at made h) now.1 it) in
+        let found = holds_log b now.0 at made h titled_b front again in
+        (sym size, (found.0, subst (λ o. ShowsLog o found.0 made) (sym now.1) found.1))
+
+  restarted_now : (texts : List (List ℕ)) (log : List Entry) → ShowsLog begun texts log → SpellsSame (behind 16 begun) (behind n t) → (c : Clock) × (t ≡ Some c) × (16 ≡ n) × IsRestartedAs (Some c) log
+  restarted_now texts log shows same = by begun refl shows where
+    by : (o : Option Clock) → begun ≡ o → ShowsLog o texts log → (c : Clock) × (t ≡ Some c) × (16 ≡ n) × IsRestartedAs (Some c) log
+    by None is no = absurd no
+    by (Some b) is shown =
+        let now = both b is in
+        let size = sized b now.0 is now.1 in
+        let titled_b = subst (IsSettled IsLog) is titled in
+        let front : Fronted 16 (Some b) (Some now.0) = subst (λ k. Fronted k (Some b) (Some now.0)) (sym size) (subst (λ o. Fronted n (Some b) o) now.1 (subst (λ o. Fronted n o t) is fronted)) in
+        let spells : SpellsSame (behind 16 (Some b)) (behind 16 (Some now.0)) =
+        subst (λ k. SpellsSame (behind 16 (Some b)) (behind k (Some now.0))) (sym size) (subst (λ o. SpellsSame (behind 16 (Some b)) (behind n o)) now.1 (subst (λ o. SpellsSame (behind 16 o) (behind n t)) is same)) in
+        (now.0, now.1, size, law now.0 texts log (spells_on b now.0 texts log (still_titled (Some b) (Some now.0) titled_b front b now.0 refl refl) spells shown.1))
+
+  pub reopened_same : (at : ℕ) (made : List Entry) (h : Hall) (texts : List (List ℕ)) (log : List Entry) → SpellsSame (behind 16 begun) (behind n t) → ShowsLog begun texts log → IsRestarted (behind n t) at made h → made ≡ log
+  reopened_same at made h texts log same shows it =
+      let now = restarted_now texts log shows same in
+      now.3.same at made h (subst (λ k. IsRestarted (behind k (Some now.0)) at made h) (sym now.2) (subst (λ o. IsRestarted (behind n o) at made h) now.1 it))
+
+  pub reopened_whole : (at : ℕ) (texts : List (List ℕ)) (log : List Entry) → SpellsSame (behind 16 begun) (behind n t) → ShowsLog begun texts log → IsDamaged (behind n t) at ⊎ HasUnfitAt (behind n t) at → ⊥
+  reopened_whole at texts log same shows found =
+      let now = restarted_now texts log shows same in
+      now.3.whole at (subst (λ k. IsDamaged (behind k (Some now.0)) at ⊎ HasUnfitAt (behind k (Some now.0)) at) (sym now.2) (subst (λ o. IsDamaged (behind n o) at ⊎ HasUnfitAt (behind n o) at) now.1 found))
+
+pub reopen_left : (n : ℕ) (begun t : Option Clock) → IsSettled IsLog begun → Fronted 16 begun begun → Fronted n begun t → Leaves (behind 16 begun) (behind n t) (IsOldOrShort (behind 16 begun)) → Leaves begun t (IsOldOrBare begun)
+reopen_left n None t titled first now leaves = tt
+reopen_left n (Some b) None titled first now leaves = absurd leaves
+reopen_left n (Some b) (Some c) titled first now leaves =
+    let size = sizes_same 16 n (Some b) b (Some c) (IsOldOrShort (behind 16 (Some b))) first now leaves in
+    leaves_weaker (Some b) (Some c) (HasBehind (front_of 16 (Some b)) (IsOldOrShort (behind 16 (Some b)))) (IsOldOrBare (Some b)) (λ image has. bare_or_old b image titled has)
+    (leaves_behind 16 (Some b) (Some b) (Some c) (IsOldOrShort (behind 16 (Some b))) first (subst (λ k. Fronted k (Some b) (Some c)) (sym size) now)
+    (subst (λ k. Leaves (behind 16 (Some b)) (behind k (Some c)) (IsOldOrShort (behind 16 (Some b)))) (sym size) leaves))

@@ -1,5 +1,5 @@
 -- The file of a database, at one moment: a title, and behind it records, whose texts restore a log.
-use Rattle.std.specs.Prelude.{◌≡◌, ◌⊎◌, ℕ, ◌≤◌, List, length, drop, Option, Some, None}
+use Rattle.std.specs.Prelude.{◌≡◌, ◌⊎◌, ℕ, ◌≤◌, List, length, drop, Option, Some, None, ⊤}
 use Rattle.ifdb_disk.specs.Images.{settled}
 use Rattle.ifdb_disk.specs.Clock.{Clock, Now}
 use Rattle.ifdb_journal.specs.declared.record.Record.{Record}
@@ -24,7 +24,12 @@ pub record IsFileOf (texts : List (List ℕ)) (log : List Entry) (bytes : List �
 abbrev pub HoldsLog : Option Clock → List (List ℕ) → List Entry → Type 0
 HoldsLog t texts log = IsSettled (IsFileOf texts log) t
 
--- a disk tells what it holds, and that is so
+-- a disk tells what it holds
+abbrev pub IsTold : Option Clock → Type 0
+IsTold None = ⊥
+IsTold (Some c) = ⊤
+
+-- it does, and that is so
 abbrev pub ShowsLog : Option Clock → List (List ℕ) → List Entry → Type 0
 ShowsLog None texts log = ⊥
 ShowsLog (Some c) texts log = HoldsLog (Some c) texts log

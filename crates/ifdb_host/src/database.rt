@@ -21,8 +21,8 @@ ghost use Rattle.ifdb_host.specs.Fronts.{opening_of, HasFrontOf, IsKeptSince, Is
 use crate::reopen::{Means, Reopened};
 use ifdb_disk::Disk;
 use ifdb_durable::{Begun, GroupCommit, Member, Queue, Writer};
-use ifdb_log::{Behind, Origin};
-use ifdb_restart::Restarted;
+use ifdb_log::{Behind, Origin, fronts_are_first_texts};
+use ifdb_restart::{Restarted, first_texts_add_a_front};
 use ifdb_session::{Begins, Counts, SharedRoom};
 use ifdb_turn::{NoTurnstile, Pass, Turnstile};
 use std::alloc::Global;
@@ -146,6 +146,8 @@ impl<B: Origin, N: Begins, D: Disk + Drop> Database<N, Behind<B, D>> {
             → result.has_failed ≡ true
             → Rose (D.faults opening.disk) (D.faults result.disk) }
     {
+        fronts_are_first_texts();
+        first_texts_add_a_front();
         let Database {
             hall,
             pass,

@@ -9,7 +9,7 @@ ghost use Rattle.ifdb_model.specs.Log.{Entry};
 ghost use Rattle.ifdb_durable.specs.Seats.{IsOpened};
 ghost use Rattle.ifdb_restart.specs.Restarted.{IsClosedOver, log_in};
 ghost use Rattle.ifdb_host.specs.Causes.{IsCaused};
-ghost use Rattle.ifdb_host.specs.Files.{HoldsLog, IsOldOrBare, ShowsLog};
+ghost use Rattle.ifdb_host.specs.Files.{IsOldOrBare, IsTold, ShowsLog};
 
 use ifdb_disk::Disk;
 use ifdb_durable::Opened;
@@ -65,13 +65,13 @@ pub fn reopen<B: Origin, D: Disk + Drop>(
 ) -> Result<Reopened<B, D>, NotReopened<D>>
     requires begun { B.begun ≡ D.tells disk }
     requires titled { IsSettled IsLog (D.tells disk) }
-    ensures size { IfOk result (λ it. it.disk.size ≡ 16) }
     ensures holds { IfOk result (λ it. let t = behind it.disk.size (D.tells it.disk.disk) in
         Holds t (held t) it.restarted.journal.at) }
     ensures stands { IfOk result (λ it.
         IsClosedOver it.restarted.room (log_in it.restarted.made.items)) }
-    ensures log { IfOk result (λ it. (texts : List (List ℕ))
-        × HoldsLog (D.tells it.disk.disk) texts (log_in it.restarted.made.items)) }
+    ensures shows { IfOk result (λ it. IsTold (D.tells disk) → (it.disk.size ≡ 16)
+        × ((texts : List (List ℕ))
+            × ShowsLog (D.tells it.disk.disk) texts (log_in it.restarted.made.items))) }
     ensures same { IfOk result (λ it. (texts : List (List ℕ)) (log : List Entry)
         → ShowsLog (D.tells disk) texts log → log_in it.restarted.made.items ≡ log) }
     ensures mark { IfOk result (λ it. IsOpened it.means.mark) }
