@@ -194,7 +194,7 @@ module _ {X B : Type 0} (size : X → ℕ) (raw : X → Option Clock) (faults : 
             let whole = lifted begun (Some c) (raw (disk_of w)) (size d.disk) (size (disk_of w)) (IsRestOf before first h (length texts)) is last_sized front (fronted (disk_of w)) rests in (
               at_moment d (Some c) is tells told le,
               leaves_weaker (Some c) (raw (disk_of w)) (HasBehind (front_of 16 begun) (IsRestOf before first h (length texts))) (HasFrontOf before first h (length texts))
-              (λ image behind_it. file_of (front_of 16 begun) before first h (length texts) image title behind_it) whole,
+                  (λ image behind_it. file_of (front_of 16 begun) before first h (length texts) image title behind_it) whole,
             )
 
       pub fronts_stay : LeavesFrom (raw opening) (raw (disk_of w)) (HasFrontOf before first h 0)

@@ -114,12 +114,17 @@ all_settled front s rest stands is =
 holds_log : (b c : Clock) (at : ℕ) (log : List Entry) (h : Hall) → IsSettled IsLog (Some b) → Fronted 16 (Some b) (Some c) → IsRestarted (behind 16 (Some c)) at log h → (texts : List (List ℕ)) × ShowsLog (Some c) texts log
 holds_log b c at log h titled fronted it =
     let stands = fronted.1.0 in
-    let held_here = it.1.holds in
-    (it.0, (all_settled (front_of 16 (Some b)) c.now held_here.0 stands held_here.1, record {
-      titled = still_titled (Some b) (Some c) titled fronted b c refl refl;
-      whole = it.1.whole.whole;
-      restores = record { are = it.1.are_texts; log = it.2.is };
-    }))
+    let held_here = it.1.holds in (
+      it.0,
+      (
+        all_settled (front_of 16 (Some b)) c.now held_here.0 stands held_here.1,
+        record {
+          titled = still_titled (Some b) (Some c) titled fronted b c refl refl;
+          whole = it.1.whole.whole;
+          restores = record { are = it.1.are_texts; log = it.2.is };
+        },
+      ),
+    )
 
 -- each image is one of those from before, or the title with at most a byte
 bare_or_old : (b : Clock) (image : List ℕ) → IsSettled IsLog (Some b) → HasBehind (front_of 16 (Some b)) (IsOldOrShort (behind 16 (Some b))) image → IsOldOrBare (Some b) image

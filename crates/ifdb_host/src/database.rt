@@ -18,7 +18,7 @@ ghost use Rattle.ifdb_session.specs.Starts.{start_of};
 ghost use Rattle.ifdb_host.specs.Files.{ShowsLog};
 ghost use Rattle.ifdb_host.specs.Fronts.{opening_of, HasFrontOf, IsKeptSince, IsToldOf, KnowsOf, LeavesFrom};
 
-use crate::reopen::{Means, Reopened};
+use crate::reopening::{Means, Reopened};
 use ifdb_disk::Disk;
 use ifdb_durable::{Begun, GroupCommit, Member, Queue, Writer};
 use ifdb_log::{Behind, Origin, fronts_are_first_texts};
@@ -54,10 +54,7 @@ pub struct Closed<D> {
 impl<B: Origin, N: Begins, D: Disk + Drop> Database<N, Behind<B, D>> {
     /// Begins a history over the log that a database was made again from. The pass and the member have all shares, and know of
     /// nothing but this opening. Takes the memory of two turnstiles; where that is refused the disk comes back.
-    pub fn begin(
-        alloc: Global,
-        reopened: Reopened<B, D>,
-    ) -> Result<Database<N, Behind<B, D>>, D>
+    pub fn begin(alloc: Global, reopened: Reopened<B, D>) -> Result<Database<N, Behind<B, D>>, D>
         requires name { reopened.means.mark.table.shared.table_id ≡ N.table }
         requires holds { Holds (behind reopened.disk.size (D.tells reopened.disk.disk))
             N.before reopened.restarted.journal.at }
@@ -126,15 +123,15 @@ impl<B: Origin, N: Begins, D: Disk + Drop> Database<N, Behind<B, D>> {
             → Begins (opening_of opening) self.member.receipt → opening.size ≡ 16
             → ShowsLog (D.tells opening.disk) before N.first
             → LeavesFrom (D.tells opening.disk) (D.tells result.disk)
-                (HasFrontOf before N.first (history self.pass) 0) }
+            (HasFrontOf before N.first (history self.pass) 0) }
         ensures kept { (opening : _) (before texts : List (List ℕ))
             → Begins (opening_of opening) self.member.receipt → opening.size ≡ 16
             → ShowsLog (D.tells opening.disk) before N.first
             → IsPrefix texts (texts_of N.first (history self.pass))
             → KnowsOf self.member.receipt (count_of texts)
             → (d : _) × IsToldOf d self.member.receipt
-                × LeavesFrom (D.tells d.disk.disk) (D.tells result.disk)
-                    (HasFrontOf before N.first (history self.pass) (length texts)) }
+            × LeavesFrom (D.tells d.disk.disk) (D.tells result.disk)
+            (HasFrontOf before N.first (history self.pass) (length texts)) }
         ensures kept_since { (opening : _) (before texts : List (List ℕ))
             → Begins (opening_of opening) self.member.receipt → opening.size ≡ 16
             → ShowsLog (D.tells opening.disk) before N.first

@@ -7,8 +7,8 @@
 
 mod database;
 mod laws;
-mod reopen;
+mod reopening;
 
 pub use database::{Closed, Database};
 pub use laws::files_are_restarted;
-pub use reopen::{NotReopened, Reopened, reopen};
+pub use reopening::{NotReopened, Reopened, reopen};

@@ -22,10 +22,12 @@ use std::test::Fail;
 const ROOM: usize = 4096;
 
 /// What a first client asks.
-const FIRST: &str = "HELLO admin KEY 'admin'\nCREATE TABLE note (id INT, PRIMARY KEY (id))\nINSERT INTO note VALUES (7)\nBYE\n";
+const FIRST: &str =
+    "HELLO admin KEY 'admin'\nCREATE TABLE note (id INT, PRIMARY KEY (id))\nINSERT INTO note VALUES (7)\nBYE\n";
 
 /// What a later one asks, and is told.
-const LATER: &str = "HELLO admin KEY 'admin'\nINSERT INTO note VALUES (8)\nSELECT id FROM note ORDER BY id\nBYE\n";
+const LATER: &str =
+    "HELLO admin KEY 'admin'\nINSERT INTO note VALUES (8)\nSELECT id FROM note ORDER BY id\nBYE\n";
 
 const TOLD: &str = "OK\nOK 1\nROWS 2 1\n7\n8\nOK\n";
 
@@ -83,15 +85,7 @@ fn serve_named<B: Origin, N: Begins, R: Wait>(
         group: &group,
         member,
     };
-    let ending = serve_link(
-        rt,
-        alloc,
-        &hall,
-        &mut pass,
-        &mut keeper,
-        &mut link,
-        100_000,
-    );
+    let ending = serve_link(rt, alloc, &hall, &mut pass, &mut keeper, &mut link, 100_000);
     let Durable { group: _, member } = keeper;
     let database = Database {
         hall,
@@ -190,6 +184,9 @@ fn other_files_are_refused(rt: HostRuntime) -> Result<(), Fail> {
     assert_eq!(rt; is_refused(&rt, alloc, text)?, Some(LogFault::NotALog));
     // An open gate, and no record behind it.
     let damaged = Vec::from_slice(alloc, b"ifdb log 1     \n\x01x")?;
-    assert_eq!(rt; is_refused(&rt, alloc, damaged)?, Some(LogFault::Damaged(16)));
+    assert_eq!(rt;
+        is_refused(&rt, alloc, damaged)?,
+        Some(LogFault::Damaged(16))
+    );
     Ok(())
 }

@@ -101,7 +101,9 @@ fn is_damaged(rt: &impl Abort, alloc: Global, texts: &[&[u8]], at: u64) -> Resul
         add_text(&mut batch, text)?;
     }
     let Restarted {
-        room, mut journal, ..
+        room,
+        mut journal,
+        ..
     } = restart(alloc, &mut disk)?;
     drop(room);
     journal.append_batch(&mut disk, &batch)?;

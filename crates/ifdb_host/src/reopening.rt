@@ -71,7 +71,7 @@ pub fn reopen<B: Origin, D: Disk + Drop>(
         IsClosedOver it.restarted.room (log_in it.restarted.made.items)) }
     ensures shows { IfOk result (λ it. IsTold (D.tells disk) → (it.disk.size ≡ 16)
         × ((texts : List (List ℕ))
-            × ShowsLog (D.tells it.disk.disk) texts (log_in it.restarted.made.items))) }
+        × ShowsLog (D.tells it.disk.disk) texts (log_in it.restarted.made.items))) }
     ensures same { IfOk result (λ it. (texts : List (List ℕ)) (log : List Entry)
         → ShowsLog (D.tells disk) texts log → log_in it.restarted.made.items ≡ log) }
     ensures mark { IfOk result (λ it. IsOpened it.means.mark) }
