@@ -201,6 +201,7 @@ impl<B: Naming, D: Disk + Drop> GroupCommit<B, D> {
         ensures stands { Stands D.tells B.before D.faults B.table result }
         ensures queue { queue.new ≡ queue.old }
         ensures taken { queue.new.taken ≡ taken result }
+        ensures heard { Begins member.receipt (told result) }
         ensures worth { (receipt : Told D) → Begins receipt member.receipt
             → IsWorth D.tells B.before (disk_of result) (all_of queue.new) receipt.flushes }
         ensures cause { member.receipt.has_failed ≡ true

@@ -167,6 +167,13 @@ impl<B: Naming, D: Disk> Writer<B, D> {
         queue.seat = shared.split_seat::<Part>(&mut self.seat);
     }
 
+    /// Whether the disk has failed.
+    pub fn has_failed(&self) -> bool
+        ensures { result ≡ self.now.has_failed }
+    {
+        self.has_failed
+    }
+
     /// The disk, as it is.
     pub fn into_disk(self) -> D
         ensures { result ≡ disk_of self }

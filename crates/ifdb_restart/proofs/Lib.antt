@@ -1,2 +1,5 @@
+mod ReadCommits
+mod FitStates
+pub mod FitLogs
 mod Texts
 mod Restarting

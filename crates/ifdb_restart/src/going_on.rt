@@ -4,11 +4,12 @@ ghost use Rattle.ifdb_disk.specs.Clock.{Leaves};
 ghost use Rattle.ifdb_journal.specs.Reading.{IsOldOrShort, SpellsSame};
 ghost use Rattle.ifdb_log.specs.Causes.{HasLogCause};
 ghost use Rattle.ifdb_log.specs.Reading.{HasRead, IsDamaged};
-ghost use Rattle.ifdb_restart.specs.Restarted.{HasUnfitAt, IsRestarted, IsRestored};
+ghost use Rattle.ifdb_restart.specs.Restarted.{HasUnfitAt, IsRestarted, IsRestored, log_in};
 
-use crate::redo::redo_text;
+use crate::redo::{Made, redo_text};
 use ifdb_db::{RedoFault, Room};
 use ifdb_disk::Disk;
+use ifdb_history::GhostList;
 use ifdb_journal::Journal;
 use ifdb_log::{Log, LogFault};
 use std::alloc::Global;
@@ -20,6 +21,8 @@ pub struct Restarted {
     pub room: Room,
     /// The log's journal, to be appended to.
     pub journal: Journal,
+    /// These records.
+    pub made: Made,
 }
 
 /// Reads a log to its end, and makes its entries again in a new room. The disk is what lies behind the log's title. Takes the memory
@@ -30,8 +33,10 @@ pub struct Restarted {
 /// no redo record, or one that doesn't fit those before it. `Disk` where the disk failed; `OutOfMemory`.
 pub fn restart<D: Disk>(alloc: Global, disk: &mut D) -> Result<Restarted, LogFault>
     ensures restarted { IfOk result
-        (λ made. IsRestarted (D.tells disk.new) made.journal.at made.room) }
+        (λ it. IsRestarted (D.tells disk.new) it.journal.at (log_in it.made.items) it.room) }
     ensures same { OnOk result (SpellsSame (D.tells disk.old) (D.tells disk.new)) }
+    ensures still { (at : ℕ) → result ≡ Err (LogFault.Damaged at)
+        → SpellsSame (D.tells disk.old) (D.tells disk.new) }
     ensures damaged { (at : ℕ) → result ≡ Err (LogFault.Damaged at)
         → IsDamaged (D.tells disk.new) at ⊎ HasUnfitAt (D.tells disk.new) at }
     ensures titled { result ≡ Err LogFault.NotALog → ⊥ }
@@ -43,10 +48,12 @@ pub fn restart<D: Disk>(alloc: Global, disk: &mut D) -> Result<Restarted, LogFau
         return Err(LogFault::OutOfMemory);
     };
     let mut log = Log::start(alloc, disk)?;
-    make_again(alloc, &mut room, &mut log, disk)?;
+    let mut made = GhostList::new();
+    make_again(alloc, &mut room, &mut made, &mut log, disk)?;
     Ok(Restarted {
         room,
         journal: log.into_journal(),
+        made,
     })
 }
 
@@ -54,12 +61,15 @@ pub fn restart<D: Disk>(alloc: Global, disk: &mut D) -> Result<Restarted, LogFau
 fn make_again<D: Disk>(
     alloc: Global,
     room: &mut Room,
+    made: &mut Made,
     log: &mut Log,
     disk: &mut D,
 ) -> Result<(), LogFault>
     requires begun { HasRead (D.tells disk.old) [] log.old.place }
-    requires restored { IsRestored [] room.old }
-    ensures whole { OnOk result (IsRestarted (D.tells disk.new) log.new.place.at room.new) }
+    requires restored { IsRestored [] [] room.old }
+    requires none { made.old.items ≡ [] }
+    ensures whole { OnOk result
+        (IsRestarted (D.tells disk.new) log.new.place.at (log_in made.new.items) room.new) }
     ensures damaged { (at : ℕ) → result ≡ Err (LogFault.Damaged at)
         → IsDamaged (D.tells disk.new) at ⊎ HasUnfitAt (D.tells disk.new) at }
     ensures titled { result ≡ Err LogFault.NotALog → ⊥ }
@@ -72,7 +82,7 @@ fn make_again<D: Disk>(
         if !is_text {
             return Ok(());
         }
-        match redo_text(alloc, room, log.text()) {
+        match redo_text(alloc, room, log.text(), made) {
             Ok(()) => {}
             Err(RedoFault::DoesNotFit) => return Err(LogFault::Damaged(at)),
             Err(RedoFault::OutOfMemory) => return Err(LogFault::OutOfMemory),

@@ -82,6 +82,7 @@ fn what_was_logged_is_made_again(rt: HostRuntime) -> Result<(), Fail> {
     let Restarted {
         mut room,
         mut journal,
+        ..
     } = restart(alloc, &mut disk)?;
     ask_all(alloc, &mut room, &HISTORY, &mut batch)?;
     journal.append_batch(&mut disk, &batch)?;
@@ -99,7 +100,11 @@ fn is_damaged(rt: &impl Abort, alloc: Global, texts: &[&[u8]], at: u64) -> Resul
     for text in texts {
         add_text(&mut batch, text)?;
     }
-    let Restarted { room, mut journal } = restart(alloc, &mut disk)?;
+    let Restarted {
+        room,
+        mut journal,
+        ..
+    } = restart(alloc, &mut disk)?;
     drop(room);
     journal.append_batch(&mut disk, &batch)?;
     let end = match restart(alloc, &mut disk) {

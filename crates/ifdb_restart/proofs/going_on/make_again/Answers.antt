@@ -3,7 +3,7 @@ use Rattle.std.proofs.lemmas.Result.{err_from_is_err_and}
 use Rattle.ifdb_log.specs.declared.fault.LogFault.TheVariants as fault
 use Rattle.ifdb_log.specs.Reading.{HasRead}
 use Rattle.ifdb_db.specs.declared.db.redo.RedoFault.{RedoFault}
-use Rattle.ifdb_restart.specs.Restarted.{IsLonger, IsUnfit}
+use Rattle.ifdb_restart.specs.Restarted.{HasOneMore, IsLonger, IsUnfit}
 use Rattle.ifdb_restart.proofs.Restarting.{ends_so, goes_on, stands_unfit}
 use Rattle.ifdb_restart.proofs.going_on.make_again.Goals as goal
 
@@ -16,7 +16,7 @@ returns-in_err-is_text-clause-damaged g c = λ at is.
 
 pub returns-then-not-is_text-clause-whole : goal.returns-then-not-is_text-clause-whole
 returns-then-not-is_text-clause-whole g c =
-    ends_so (g.D.Disk.tells c.texts.disk) (g.D.Disk.tells c.next.new.disk) c.texts.log.place c.texts.room c.next.new.self.place.at
+    ends_so (g.D.Disk.tells c.texts.disk) (g.D.Disk.tells c.next.new.disk) c.texts.log.place c.texts.room c.texts.made.items c.next.new.self.place.at
     (c.in_ok-is_text.ensures.end (ap (λ (b : Bool). Ok b) c.if-not-is_text.true)) c.texts.invariant.so
 
 pub texts-preserved : goal.texts-preserved
@@ -28,8 +28,9 @@ texts-preserved g c =
     let text = c.next.new.self.text in
     let reads : (texts : List (List ℕ)) → HasRead t texts p → HasRead u (texts ++ text ∷ []) q = c.in_ok-is_text.ensures.text (ap (λ (b : Bool). Ok b) c.if-not-is_text.false) in
     let longer : IsLonger c.texts.room c.redo_text.new.room text = subst (λ l. IsLonger c.texts.room c.redo_text.new.room l) c.text.ensures c.in-Ok.ensures.done in
+    let one : HasOneMore c.texts.made.items c.redo_text.new.made.items text = subst (λ l. HasOneMore c.texts.made.items c.redo_text.new.made.items l) c.text.ensures c.in-Ok.ensures.made in
     record {
-      so = goes_on t u p q c.texts.room c.redo_text.new.room text reads longer c.redo_text.ensures.clients c.texts.invariant.so;
+      so = goes_on t u p q c.texts.room c.redo_text.new.room c.texts.made.items c.redo_text.new.made.items text reads longer one c.redo_text.ensures.clients c.texts.invariant.so;
       still = c.next.ensures.still ∙ c.texts.invariant.still;
       calm = c.in_ok-is_text.ensures.cause ∙ c.texts.invariant.calm;
     }
@@ -44,4 +45,4 @@ returns-in-Err-DoesNotFit-clause-damaged g c = λ at is.
     let reads : (texts : List (List ℕ)) → HasRead t texts p → HasRead u (texts ++ text ∷ []) q = c.in_ok-is_text.ensures.text (ap (λ (b : Bool). Ok b) c.if-not-is_text.false) in
     let unfit : IsUnfit c.texts.room text = subst (λ l. IsUnfit c.texts.room l) c.text.ensures (c.in-Err-DoesNotFit.ensures.unfit (ap (λ (f : RedoFault). Err f) c.in-Err-DoesNotFit.field-0-is)) in
     let same : c.place-at.result ≡ at = cc is in
-    inr (stands_unfit t u p q c.texts.room text at reads c.next.ensures.still (sym same ∙ c.place-at.ensures) unfit c.texts.invariant.so)
+    inr (stands_unfit t u p q c.texts.room c.texts.made.items text at reads c.next.ensures.still (sym same ∙ c.place-at.ensures) unfit c.texts.invariant.so)

@@ -1,0 +1,5 @@
+mod Titles
+mod Sizes
+mod Restarts
+mod Rests
+mod Keeping

@@ -1,0 +1,39 @@
+-- The file of a database, at one moment: a title, and behind it records, whose texts restore a log.
+use Rattle.std.specs.Prelude.{◌≡◌, ◌⊎◌, ℕ, ◌≤◌, List, length, drop, Option, Some, None, ⊤}
+use Rattle.ifdb_disk.specs.Images.{settled}
+use Rattle.ifdb_disk.specs.Clock.{Clock, Now}
+use Rattle.ifdb_journal.specs.declared.record.Record.{Record}
+use Rattle.ifdb_journal.specs.Records.{damage, records}
+use Rattle.ifdb_log.specs.Pieces.{texts_of}
+use Rattle.ifdb_log.specs.Title.{IsLog, IsSettled}
+use Rattle.ifdb_model.specs.Log.{Entry}
+use Rattle.ifdb_restart.specs.Restarted.{log_of}
+
+-- some records are the pieces of these texts, which restore this log
+pub record Restore (rs : List Record) (texts : List (List ℕ)) (log : List Entry) : Type 0 where
+  pub are : texts_of rs ≡ Some texts
+  pub log : log_of texts ≡ Some log
+
+-- bytes that begin with the title, and behind it read whole, as the records of these texts, which restore this log
+pub record IsFileOf (texts : List (List ℕ)) (log : List Entry) (bytes : List ℕ) : Type 0 where
+  pub titled : IsLog bytes
+  pub whole : damage (drop 16 bytes) ≡ None
+  pub restores : Restore (records (drop 16 bytes)) texts log
+
+-- a disk holds such bytes, all of them synced, where it tells what it holds
+abbrev pub HoldsLog : Option Clock → List (List ℕ) → List Entry → Type 0
+HoldsLog t texts log = IsSettled (IsFileOf texts log) t
+
+-- a disk tells what it holds
+abbrev pub IsTold : Option Clock → Type 0
+IsTold None = ⊥
+IsTold (Some c) = ⊤
+
+-- it does, and that is so
+abbrev pub ShowsLog : Option Clock → List (List ℕ) → List Entry → Type 0
+ShowsLog None texts log = ⊥
+ShowsLog (Some c) texts log = HoldsLog (Some c) texts log
+
+-- an image is the file as it was, or the title and at most one byte behind it
+abbrev pub IsOldOrBare : Option Clock → List ℕ → Type 0
+IsOldOrBare old image = Now old (λ s. (image ≡ s.bytes) ⊎ (IsLog image × (length image ≤ 17)))

@@ -1,0 +1,14 @@
+//! A database over a log on a disk: made again from its log, shared by threads, and closed.
+//!
+//! `ifdb_log::entitle` sees that the disk begins with the title. A function that is bounded by `Origin` then has `reopen` make
+//! the database again, and one that is bounded by `Begins` has it begin its history: each is called by one that picks what its
+//! bound names. What comes of it is shared by threads as `ifdb_session` says, and `Database::close` ends it.
+#![tactic(auto)]
+
+mod database;
+mod laws;
+mod reopening;
+
+pub use database::{Closed, Database};
+pub use laws::files_are_restarted;
+pub use reopening::{NotReopened, Reopened, reopen};
