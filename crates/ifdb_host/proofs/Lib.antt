@@ -3,3 +3,5 @@ mod Sizes
 mod Restarts
 mod Rests
 mod Keeping
+mod Openings
+mod Visits

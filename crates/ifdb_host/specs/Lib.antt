@@ -2,3 +2,5 @@ pub mod Files
 pub mod Fronts
 pub mod Causes
 pub mod Laws
+pub mod Hosted
+pub mod Serving

@@ -6,9 +6,13 @@
 #![tactic(auto)]
 
 mod database;
+mod end;
 mod laws;
 mod reopening;
+mod serving;
 
 pub use database::{Closed, Database};
+pub use end::HostEnd;
 pub use laws::files_are_restarted;
 pub use reopening::{NotReopened, Reopened, reopen};
+pub use serving::{Hosted, host};

@@ -1,5 +1,5 @@
 -- The service of a site, put together.
-use Rattle.std.proofs.Common.{◌≡◌, ℕ, List, [], ◌++◌, length, Option, Some, None, sym, ap, ◌∙◌, subst, arith}
+use Rattle.std.proofs.Common.{◌≡◌, ℕ, List, [], ◌++◌, length, Option, Some, None, sym, ap, ◌∙◌, subst, arith, append-nil}
 use Rattle.ifdb_io.specs.Doors.{Stays, LosesFirst, Becomes}
 use Rattle.ifdb_io.specs.declared.outside.Source as source
 use Rattle.ifdb_io.specs.declared.outside.Sink as sink
@@ -20,6 +20,7 @@ use Rattle.ifdb_words.specs.declared.service.Service.{Service}
 use Rattle.ifdb_service.specs.Doors.{ServedAll}
 use Rattle.ifdb_service.specs.Site.{Exchanges, IsServedOver, IsAskedFor}
 use Rattle.ifdb_service.specs.Summary.{listening_line, summary_text}
+use Rattle.ifdb_service.proofs.Links.{run_later}
 
 loses_kept : {A : Type 0} (a b c : Option (List A)) (xs : List A) → LosesFirst a b xs → Stays b c → LosesFirst a c xs
 loses_kept None b c xs l s = tt
@@ -68,4 +69,24 @@ module _ {S D K : Type 0} (sites : site.Ghosts S D K) (doors : door.Ghosts D K) 
         let z : times k (places old) ≡ 0 = ap (times k) none in
         omega arith;
     written = subst (λ (z : Counts × ℕ). Wrote (listening_line s.port ++ summary_text z.0 z.1)) (λ i. (counted i, all.total i)) wrote;
+  }
+
+-- a service was served so, where more may be said to be kept, or to have failed
+module _ {S D K : Type 0} (sites : site.Ghosts S D K) (doors : door.Ghosts D K) (sources : source.Ghosts K) (sinks : sink.Ghosts K)
+    (first_log : List LogEntry) (IsKept IsKept' : List (List ℕ) → Type 0) (HasFailed HasFailed' : Type 0) where
+  pub served_wider : ((texts : List (List ℕ)) → IsKept texts → IsKept' texts) → (HasFailed → HasFailed') → (Wrote : List ℕ → Type 0) (s : Service) (first last : S)
+      → IsServedOver sites doors sources sinks first_log IsKept HasFailed Wrote s first last
+      → IsServedOver sites doors sources sinks first_log IsKept' HasFailed' Wrote s first last
+  served_wider kept failed Wrote s first last i = record {
+    log = i.log;
+    order = i.order;
+    given = i.given;
+    back = i.back;
+    exchanged = i.exchanged;
+    runs = i.runs;
+    given_are = i.given_are;
+    back_are = i.back_are;
+    served = λ k d lt. run_later sources sinks first_log IsKept IsKept' HasFailed HasFailed' i.log i.log (λ texts front. kept texts) failed ([], append-nil i.log) i.order doors s.limit _ (i.served k d lt);
+    each = i.each;
+    written = i.written;
   }

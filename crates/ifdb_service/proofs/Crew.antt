@@ -307,7 +307,7 @@ module _ {D K R Q S : Type 0} (recorders : recorder.Ghosts Q) (settlers : settle
           → IsRunIn sources sinks recorders.first (KnowsKept recorders settlers t) (settlers.has_failed t) doors limit h r
           → IsRunIn sources sinks recorders.first (KnowsKept recorders settlers keeper') (settlers.has_failed keeper') doors limit (history now') r
       later t knows h p r = run_later sources sinks recorders.first (KnowsKept recorders settlers t) (KnowsKept recorders settlers keeper') (settlers.has_failed t) (settlers.has_failed keeper')
-          (λ x. laws.kept t keeper' (recorders.count_of x) knows) (laws.failed t keeper' knows) h (history now') p orderly.0 doors limit r
+          h (history now') (λ x front. laws.kept t keeper' (recorders.count_of x) knows) (laws.failed t keeper' knows) p orderly.0 doors limit r
 
       go : (left : List D) → AllHome recorders settlers doors hall limit first sources sinks left (w ∷ rest) → left ≡ i.left
           → Joining recorders settlers doors hall limit first sources sinks old now' keeper' given rest back' faults'

@@ -1,7 +1,7 @@
 -- Connections that were served, in longer and longer histories.
-use Rattle.std.proofs.Common.{◌≡◌, ℕ, List, [], ◌∷◌, ◌++◌, ◌∙◌, refl, sym, subst, All}
-use Rattle.std.proofs.lemmas.List.{append-nil, append_cancel_left}
-use Rattle.std.proofs.lemmas.List.Elements.{All-weaker}
+use Rattle.std.proofs.Common.{◌≡◌, ℕ, ◌<◌, Bool, true, false, cond, List, [], ◌∷◌, ◌++◌, ◌∙◌, length, refl, sym, ap, subst, arith, All}
+use Rattle.std.proofs.lemmas.List.{append-nil, append_assoc, append_cancel_left, get_or_append_left, length-append, map-append}
+use Rattle.std.proofs.lemmas.List.Elements.{All-append, All-cons}
 use mathlib.Core.List.{IsPrefix}
 use Rattle.ifdb_io.specs.declared.outside.Source as source
 use Rattle.ifdb_io.specs.declared.outside.Sink as sink
@@ -11,20 +11,26 @@ use Rattle.ifdb_turn.specs.Histories.{AllRight}
 use Rattle.ifdb_turn.specs.declared.turnstile.Pass.{Pass}
 use Rattle.ifdb_turn.specs.Passes.{history, places}
 use Rattle.ifdb_history.specs.declared.entry.Entry.{Entry}
-use Rattle.ifdb_history.specs.History.{HasRoot, AreEntriesOf, IsRight}
-use Rattle.ifdb_history.proofs.Flat.{root-append}
+use Rattle.ifdb_history.specs.History.{after, first_state, flat, HasRoot, AreEntriesOf, IsRight}
+use Rattle.ifdb_history.proofs.Flat.{flat-append, root-append}
 use Rattle.ifdb_history.proofs.Entries.{entries_later}
 use Rattle.ifdb_history.proofs.Over.{shut_on}
 use Rattle.ifdb_model.specs.Log.{Entry as LogEntry}
+use Rattle.ifdb_redo.specs.Spelling.{text}
+use Rattle.ifdb_restore.specs.Redone.{records}
+use Rattle.ifdb_db.specs.Reading.{read_line}
 use Rattle.ifdb_session.specs.declared.ending.Ending.{Ending}
 use Rattle.ifdb_session.specs.declared.ending.Ending.TheVariants as ends
 use Rattle.ifdb_session.specs.declared.host.SessionHost.{SessionHost}
 use Rattle.ifdb_session.specs.declared.records.Records as recorder
 use Rattle.ifdb_session.specs.declared.settles.Settles as settler
-use Rattle.ifdb_session.specs.Acknowledged.{Acknowledges, KnowsKept, sources_of}
+use Rattle.ifdb_session.specs.Acknowledged.{answers, Acknowledges, KnowsKept, sources_from, sources_of}
+use Rattle.ifdb_session.specs.Records.{records_of, texts_of}
+use Rattle.ifdb_session.specs.Texts.{texts_for}
 use Rattle.ifdb_session.specs.Hosts.{Serves}
 use Rattle.ifdb_session.specs.Links.{Served, Span}
 use Rattle.ifdb_session.specs.Starts.{start_of}
+use Rattle.ifdb_session.proofs.Recording.{records-append}
 use Rattle.ifdb_session.proofs.Serving.{served_later}
 use Rattle.ifdb_session.proofs.Sources.{sources_later}
 use Rattle.ifdb_service.specs.Doors.{Connection, Run, AreTurnsOf, IsLinked, AllLinked, IsRunIn}
@@ -50,16 +56,52 @@ turns_are : {X : Type 0} (first : List LogEntry) (ending : Ending) (limit n : �
 turns_are first ending limit n old new s one =
     (one.first, subst (AreEntriesOf n (history new)) (append_cancel_left (places old) _ _ (sym one.adds.own ∙ one.own)) one.adds.of)
 
--- what is known to be kept is known by whoever knows more
-acknowledges_wider : (ending : Ending) (P P' : List (List ℕ) → Type 0) (xs : List (List (List ℕ))) → ((x : List (List ℕ)) → P x → P' x) → Acknowledges ending P xs → Acknowledges ending P' xs
-acknowledges_wider ends.Unkept P P' xs wider all = (all.0, all.1, all.2.0, All-weaker P P' wider all.0 all.2.1)
-acknowledges_wider ends.Bye P P' xs wider all = All-weaker P P' wider xs all
-acknowledges_wider ends.End P P' xs wider all = All-weaker P P' wider xs all
-acknowledges_wider ends.LinkRead P P' xs wider all = All-weaker P P' wider xs all
-acknowledges_wider ends.LinkWrite P P' xs wider all = All-weaker P P' wider xs all
-acknowledges_wider ends.TooMuch P P' xs wider all = All-weaker P P' wider xs all
-acknowledges_wider ends.TooLong P P' xs wider all = All-weaker P P' wider xs all
-acknowledges_wider ends.OutOfMemory P P' xs wider all = All-weaker P P' wider xs all
+-- ---- what replies were answered from are first texts of the history
+
+texts_front : (first : List LogEntry) (h k : List Entry) → IsPrefix (texts_of first h) (texts_of first (h ++ k))
+texts_front first h k =
+    let more = records read_line (after (start_of first) h) (flat k) in
+    let all : records_of first (h ++ k) ≡ records_of first h ++ more =
+        ap (records read_line (first_state (start_of first))) (flat-append h k) ∙ records-append read_line (first_state (start_of first)) (flat h) (flat k) in
+    (texts_for more, sym (map-append text (records_of first h) more) ∙ ap texts_for (sym all))
+
+sources_front : (first : List LogEntry) (n : ℕ) (before h whole : List Entry) → before ++ h ≡ whole → All (λ xs. IsPrefix xs (texts_of first whole)) (sources_from first n before h)
+sources_front first n before [] whole is = λ k d lt. absurd (omega (arith, lt))
+sources_front first n before (e ∷ h) whole is =
+    All-append IsFront (cond (answers n e.kind) (texts_of first (before ++ e ∷ []) ∷ []) []) (sources_from first n (before ++ e ∷ []) h) (one (answers n e.kind))
+    (sources_front first n (before ++ e ∷ []) h whole split)
+  where
+    IsFront : List (List ℕ) → Type 0
+    IsFront xs = IsPrefix xs (texts_of first whole)
+
+    split : (before ++ e ∷ []) ++ h ≡ whole
+    split = append_assoc before (e ∷ []) h ∙ is
+
+    one : (b : Bool) → All IsFront (cond b (texts_of first (before ++ e ∷ []) ∷ []) [])
+    one true = All-cons IsFront (texts_of first (before ++ e ∷ [])) [] (subst (λ l. IsPrefix (texts_of first (before ++ e ∷ [])) (texts_of first l)) split (texts_front first (before ++ e ∷ []) h)) (λ k d lt. absurd (omega (arith, lt)))
+    one false = λ k d lt. absurd (omega (arith, lt))
+
+-- ---- what is known to be kept is known by whoever knows more
+
+all_with : {X : Type 0} (P R P' : X → Type 0) (xs : List X) → ((x : X) → R x → P x → P' x) → All R xs → All P xs → All P' xs
+all_with P R P' xs wider fronts all = λ k d lt. wider _ (fronts k d lt) (all k d lt)
+
+all_left : {X : Type 0} (P : X → Type 0) (xs ys : List X) → All P (xs ++ ys) → All P xs
+all_left P xs ys all = λ k d lt.
+    let within : k < length (xs ++ ys) = omega (arith, lt, length-append xs ys) in
+    subst P (get_or_append_left xs ys d k lt) (all k d within)
+
+acknowledges_with : (ending : Ending) (P R P' : List (List ℕ) → Type 0) (xs : List (List (List ℕ))) → ((x : List (List ℕ)) → R x → P x → P' x) → All R xs
+    → Acknowledges ending P xs → Acknowledges ending P' xs
+acknowledges_with ends.Unkept P R P' xs wider fronts all =
+    (all.0, all.1, all.2.0, all_with P R P' all.0 wider (all_left R all.0 (all.1 ∷ []) (subst (All R) all.2.0 fronts)) all.2.1)
+acknowledges_with ends.Bye P R P' xs wider fronts all = all_with P R P' xs wider fronts all
+acknowledges_with ends.End P R P' xs wider fronts all = all_with P R P' xs wider fronts all
+acknowledges_with ends.LinkRead P R P' xs wider fronts all = all_with P R P' xs wider fronts all
+acknowledges_with ends.LinkWrite P R P' xs wider fronts all = all_with P R P' xs wider fronts all
+acknowledges_with ends.TooMuch P R P' xs wider fronts all = all_with P R P' xs wider fronts all
+acknowledges_with ends.TooLong P R P' xs wider fronts all = all_with P R P' xs wider fronts all
+acknowledges_with ends.OutOfMemory P R P' xs wider fronts all = all_with P R P' xs wider fronts all
 
 -- the laws of what a thread waits by
 pub record Laws {Q S : Type 0} (settlers : settler.Ghosts S Q) : Type 0 where
@@ -116,11 +158,13 @@ module _ {K Q S : Type 0} (sources : source.Ghosts K) (sinks : sink.Ghosts K) (r
 
 -- what was said of connections still holds in a longer history, and by whoever knows more
 module _ {K : Type 0} (sources : source.Ghosts K) (sinks : sink.Ghosts K) (first : List LogEntry) (IsKept IsKept' : List (List ℕ) → Type 0) (HasFailed HasFailed' : Type 0)
-    (kept : (texts : List (List ℕ)) → IsKept texts → IsKept' texts) (failed : HasFailed → HasFailed') (h k : List Entry) (p : IsPrefix h k) (right : AllRight (IsRight (start_of first)) k) where
+    (h k : List Entry) (kept : (texts : List (List ℕ)) → IsPrefix texts (texts_of first k) → IsKept texts → IsKept' texts) (failed : HasFailed → HasFailed')
+    (p : IsPrefix h k) (right : AllRight (IsRight (start_of first)) k) where
   acknowledged_later : (ending : Ending) (n : ℕ) → sources_of first n k ≡ sources_of first n h → Acknowledges ending IsKept (sources_of first n h)
       → Acknowledges ending IsKept' (sources_of first n k)
   acknowledged_later ending n same all =
-      subst (Acknowledges ending IsKept') (sym same) (acknowledges_wider ending IsKept IsKept' (sources_of first n h) kept all)
+      acknowledges_with ending IsKept (λ xs. IsPrefix xs (texts_of first k)) IsKept' (sources_of first n k) kept (sources_front first n [] k k refl)
+      (subst (Acknowledges ending IsKept) (sym same) all)
 
   linked_later : (limit : ℕ) (v : Visit K) (c : Connection) → IsLinked sources sinks first IsKept HasFailed limit h v c → IsLinked sources sinks first IsKept' HasFailed' limit k v c
   linked_later limit v c l = record {

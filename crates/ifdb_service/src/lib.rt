@@ -13,3 +13,4 @@ pub use doors::{Ended, Unserved, serve_doors};
 pub use end::ServiceEnd;
 pub use numbered_line::write_numbered;
 pub use service::serve;
+pub use summary::write_summary;

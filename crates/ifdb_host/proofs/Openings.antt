@@ -1,0 +1,241 @@
+-- From a disk as it was given to the database that was opened over it.
+use Rattle.std.proofs.Common.{◌≡◌, ◌≢◌, ◌⊎◌, inl, inr, ℕ, ◌≤◌, List, [], ◌∷◌, ◌++◌, ◌∙◌, length, drop, refl, sym, ap, subst, arith, cc, append-nil}
+use Rattle.std.specs.Prelude.{Option, Some, None}
+use Rattle.ifdb_io.specs.Causes.{Rose}
+use Rattle.ifdb_io.specs.declared.outside.Source as source
+use Rattle.ifdb_io.specs.declared.outside.Sink as sink
+use Rattle.ifdb_io.specs.declared.doors.Door as door
+use Rattle.ifdb_io.specs.declared.doors.Site as site
+use Rattle.ifdb_disk.specs.Images.{IsImage, settled}
+use Rattle.ifdb_disk.specs.Clock.{Clock, Leaves, Now}
+use Rattle.ifdb_disk.proofs.Moments.{leaves_on, leaves_weaker}
+use Rattle.ifdb_disk.proofs.Store.{settled_only}
+use Rattle.ifdb_log.specs.Title.{Entitles, IsLog, IsNew, IsNewOrTitle, IsOldOrMade, IsSettled, title, title_rest}
+use Rattle.ifdb_model.specs.Log.{Entry as LogEntry}
+use Rattle.ifdb_history.specs.declared.entry.Entry.{Entry}
+use Rattle.ifdb_words.specs.declared.service.Service.{Service}
+use Rattle.ifdb_service.proofs.AtSite.{served_wider}
+use Rattle.ifdb_host.specs.Files.{IsFileOf, IsOldOrBare, IsTold, ShowsLog}
+use Rattle.ifdb_host.specs.Fronts.{IsKeptSince}
+use Rattle.ifdb_host.specs.Hosted.{DiskSpan, HostsSite, IsBare, IsFileOn, IsHosted, IsKeptOn, IsNewOn, IsOldOrBegun, IsUnopened}
+use Rattle.ifdb_host.specs.Serving.{HasFailed, IsKeptBehind, LeavesFronts, ServedHere, ServesOpened}
+use Rattle.ifdb_host.specs.declared.end.HostEnd.{HostEnd}
+use Rattle.ifdb_host.specs.declared.end.HostEnd.TheVariants as ends
+use Rattle.ifdb_host.proofs.Titles.{title_size}
+
+-- ---- files
+
+log_not_new : (b : List ℕ) → IsLog b → IsNew b → ⊥
+log_not_new b log (inl short) = omega (arith, title_size b log, short)
+log_not_new b log (inr shut) =
+    let same : log.0 ∷ (title_rest ++ log.1) ≡ 0 ∷ shut.0 = sym log.3 ∙ shut.1 in
+    log.2 (cc same)
+
+title_file : IsFileOf [] [] title
+title_file = record { titled = (105, [], (omega arith), refl); whole = refl; restores = record { are = refl; log = refl } }
+
+title_bare : (b : List ℕ) → b ≡ title → IsBare b
+title_bare b is = let nonzero : 105 ≢ 0 = omega arith in inr ((105, [], nonzero, is), omega (arith, ap length is))
+
+made_bare : (b : List ℕ) → IsNewOrTitle b → IsBare b
+made_bare b (inl new) = inl new
+made_bare b (inr (first, nonzero, is)) = inr ((first, [], nonzero, is ∙ ap (λ (l : List ℕ). first ∷ l) (sym (append-nil title_rest))), omega (arith, ap length is))
+
+-- ---- a disk that was given its title
+
+-- what is known of it
+pub record IsTitledFrom (t u : Option Clock) : Type 0 where
+  pub present : Now t (λ s. IsImage s s.bytes)
+  pub titled : IsSettled IsLog u
+  pub entitles : Entitles t u
+  pub moments : Leaves t u (IsOldOrMade t)
+
+image_before : (c d : Clock) → IsTitledFrom (Some c) (Some d) → (image : List ℕ) → IsOldOrBegun (Some d) image → IsOldOrBegun (Some c) image
+image_before c d k image (inl old) = by k.entitles
+  where
+    same : image ≡ d.now.bytes
+    same = settled_only d.now.bytes image (subst (λ s. IsImage s image) k.titled.0 old)
+
+    by : Entitles (Some c) (Some d) → IsOldOrBegun (Some c) image
+    by (inl made) = inr (inl made.0, title_bare image (same ∙ made.1))
+    by (inr kept) = inl (subst (IsImage c.now) (sym (same ∙ kept)) k.present)
+image_before c d k image (inr bare) = by k.entitles
+  where
+    by : Entitles (Some c) (Some d) → IsOldOrBegun (Some c) image
+    by (inl made) = inr (inl made.0, bare.1)
+    by (inr kept) = inr (subst IsBare kept bare.0, bare.1)
+
+pub titled_unopened : (t u : Option Clock) → Leaves t u (IsOldOrMade t) → IsUnopened t u
+titled_unopened None u moments = tt
+titled_unopened (Some c) u moments = leaves_weaker (Some c) u (IsOldOrMade (Some c)) (IsOldOrBegun (Some c)) begun moments
+  where
+    begun : (image : List ℕ) → IsOldOrMade (Some c) image → IsOldOrBegun (Some c) image
+    begun image (inl old) = inl old
+    begun image (inr made) = inr (inl made.0, made_bare image made.1)
+
+pub unopened_before : (t u v : Option Clock) → IsTitledFrom t u → IsUnopened u v → IsUnopened t v
+unopened_before None u v k unopened = tt
+unopened_before (Some c) None v k unopened = absurd k.moments
+unopened_before (Some c) (Some d) v k unopened =
+    leaves_on (Some c) (Some d) v (IsOldOrBegun (Some c)) (titled_unopened (Some c) (Some d) k.moments)
+    (leaves_weaker (Some d) v (IsOldOrBegun (Some d)) (IsOldOrBegun (Some c)) (image_before c d k) unopened)
+
+told_behind : (t u : Option Clock) → IsTitledFrom t u → IsTold t → IsTold u
+told_behind None u k told = absurd told
+told_behind (Some c) None k told = absurd k.moments
+told_behind (Some c) (Some d) k told = tt
+
+pub file_behind : (t u : Option Clock) (texts : List (List ℕ)) (log : List LogEntry) → IsTitledFrom t u → IsFileOn t texts log → IsFileOn u texts log
+file_behind None u texts log k file = absurd file
+file_behind (Some c) None texts log k file = absurd k.moments
+file_behind (Some c) (Some d) texts log k file = by k.entitles
+  where
+    by : Entitles (Some c) (Some d) → IsFileOf texts log d.now.bytes
+    by (inl made) = absurd (log_not_new c.now.bytes file.titled made.0)
+    by (inr kept) = subst (IsFileOf texts log) (sym kept) file
+
+new_behind : (t u : Option Clock) → IsTitledFrom t u → IsNewOn t → IsFileOn u [] []
+new_behind None u k new = absurd new
+new_behind (Some c) None k new = absurd k.moments
+new_behind (Some c) (Some d) k new = by k.entitles
+  where
+    by : Entitles (Some c) (Some d) → IsFileOf [] [] d.now.bytes
+    by (inl made) = subst (IsFileOf [] []) (sym made.1) title_file
+    by (inr kept) = absurd (log_not_new d.now.bytes k.titled.1 (subst IsNew (sym kept) new))
+
+pub kept_before : (t u v : Option Clock) (h : List Entry) → IsTitledFrom t u → IsKeptOn u v h → IsKeptOn t v h
+kept_before t u v h k kept = record {
+  first = kept.first;
+  texts = kept.texts;
+  opened = kept.opened;
+  held = λ xs log file. kept.held xs log (file_behind t u xs log k file);
+  fresh = λ new. kept.held [] [] (new_behind t u k new);
+  opening = unopened_before t u kept.opened k kept.opening;
+  shows = λ told. kept.shows (told_behind t u k told);
+  fronts = λ told. kept.fronts (told_behind t u k told);
+}
+
+module _ {S D K : Type 0} (sites : site.Ghosts S D K) (doors : door.Ghosts D K) (sources : source.Ghosts K) (sinks : sink.Ghosts K) where
+  hosted_before : (Wrote : List ℕ → Type 0) (s : Service) (before after : S) (t u v : Option Clock) (m n o : ℕ) → IsTitledFrom t u → n ≡ m
+      → IsHosted sites doors sources sinks Wrote s before after (record { before = u; after = v; faults = n; faults_after = o })
+      → IsHosted sites doors sources sinks Wrote s before after (record { before = t; after = v; faults = m; faults_after = o })
+  hosted_before Wrote s before after t u v m n o k calm h = record {
+    log = h.log;
+    kept = kept_before t u v h.log k h.kept;
+    served = served_wider sites doors sources sinks h.kept.first (λ texts. IsTold u → IsKeptSince h.kept.texts v texts) (λ texts. IsTold t → IsKeptSince h.kept.texts v texts) (Rose n o) (Rose m o)
+        (λ texts kept told. kept (told_behind t u k told)) (subst (λ f. Rose f o) calm) Wrote s before after h.served;
+    same = h.same;
+  }
+
+  -- however a service ended over the disk that was given its title, so it did over the disk as it was given
+  pub hosts_before : {W : Type 0} (outputs : sink.Ghosts W) (s : Service) (before after : S) (output output' : W) (t u v : Option Clock) (m n o : ℕ) (end : HostEnd) → IsTitledFrom t u → n ≡ m
+      → HostsSite sites doors sources sinks outputs s before after output output' (record { before = u; after = v; faults = n; faults_after = o }) end
+      → (end ≡ ends.NotADatabase → ⊥)
+      → HostsSite sites doors sources sinks outputs s before after output output' (record { before = t; after = v; faults = m; faults_after = o }) end
+  hosts_before outputs s before after output output' t u v m n o end k calm h titled = record {
+    done = λ e. hosted_before _ s before after t u v m n o k calm (h.done e);
+    cut = λ e. ((h.cut e).0, elim (h.cut e).1 [
+      | inl idle ↦ inl (idle.0, idle.1, kept_before t u v [] k idle.2)
+      | inr hosted ↦ inr (hosted_before _ s before after t u v m n o k calm hosted)
+    ]);
+    disk = λ e. (subst (λ f. Rose f o) calm (h.disk e).0, elim (h.disk e).1 [
+      | inl none ↦ inl (none.0, unopened_before t u v k none.1)
+      | inr hosted ↦ inr (hosted_before _ s before after t u v m n o k calm hosted)
+    ]);
+    site = λ e. let x = h.site e in (x.0, x.1, x.2.0, kept_before t u v [] k x.2.1);
+    memory = λ e. let x = h.memory e in (elim x.0 [
+      | inl unopened ↦ inl (unopened_before t u v k unopened)
+      | inr idle ↦ inr (kept_before t u v [] k idle)
+    ], x.1);
+    damaged = λ at e. let x = h.damaged at e in (x.0, unopened_before t u v k x.1, λ texts log file. x.2 texts log (file_behind t u texts log k file));
+    other = λ e. absurd (titled e);
+    output_later = h.output_later;
+    site_later = h.site_later;
+  }
+
+-- ---- a disk over which a database was made again
+
+-- what is known of it, of its size of the title, and of the log that it goes on from
+pub record IsReopenedFrom (t u : Option Clock) (size : ℕ) (first : List LogEntry) : Type 0 where
+  pub present : Now t (λ s. IsImage s s.bytes)
+  pub titled : IsSettled IsLog t
+  pub shows : IsTold t → (size ≡ 16) × ((texts : List (List ℕ)) × ShowsLog u texts first)
+  pub same : (texts : List (List ℕ)) (log : List LogEntry) → ShowsLog t texts log → first ≡ log
+  pub moments : Leaves t u (IsOldOrBare t)
+
+pub bare_unopened : (t u : Option Clock) → Now t (λ s. IsImage s s.bytes) → IsSettled IsLog t → Leaves t u (IsOldOrBare t) → IsUnopened t u
+bare_unopened None u present titled moments = tt
+bare_unopened (Some c) u present titled moments = leaves_weaker (Some c) u (IsOldOrBare (Some c)) (IsOldOrBegun (Some c)) begun moments
+  where
+    begun : (image : List ℕ) → IsOldOrBare (Some c) image → IsOldOrBegun (Some c) image
+    begun image (inl same) = inl (subst (IsImage c.now) (sym same) present)
+    begun image (inr bare) = inr (inr (titled.1, bare.0), inr bare.1)
+
+module _ (t u v : Option Clock) (size : ℕ) (first : List LogEntry) (m n : ℕ) (k : IsReopenedFrom t u size first) where
+  -- the texts that the disk showed
+  texts_by : (t : Option Clock) → (IsTold t → (size ≡ 16) × ((texts : List (List ℕ)) × ShowsLog u texts first)) → List (List ℕ)
+  texts_by None shows = []
+  texts_by (Some c) shows = (shows tt).1.0
+
+  texts_shown : (t : Option Clock) (shows : IsTold t → (size ≡ 16) × ((texts : List (List ℕ)) × ShowsLog u texts first)) → IsTold t → (size ≡ 16) × ShowsLog u (texts_by t shows) first
+  texts_shown None shows told = absurd told
+  texts_shown (Some c) shows told = ((shows tt).0, (shows tt).1.1)
+
+  here : IsTold t → (size ≡ 16) × ShowsLog u (texts_by t k.shows) first
+  here = texts_shown t k.shows
+
+  shown_on : (t : Option Clock) (xs : List (List ℕ)) (log : List LogEntry) → IsSettled IsLog t → IsFileOn t xs log → ShowsLog t xs log
+  shown_on None xs log titled file = absurd file
+  shown_on (Some c) xs log titled file = (titled.0, file)
+
+  not_new : (t : Option Clock) → IsSettled IsLog t → IsNewOn t → ⊥
+  not_new None titled new = absurd new
+  not_new (Some c) titled new = log_not_new c.now.bytes titled.1 new
+
+  abbrev d : DiskSpan
+  d = record { before = u; after = v; faults = n; faults_after = m }
+
+  pub kept_opened : (h : List Entry) → LeavesFronts first size d h → IsKeptOn t v h
+  kept_opened h fronts = record {
+    first = first;
+    texts = texts_by t k.shows;
+    opened = u;
+    held = λ xs log file. k.same xs log (shown_on t xs log k.titled file);
+    fresh = λ new. absurd (not_new t k.titled new);
+    opening = bare_unopened t u k.present k.titled k.moments;
+    shows = λ told. (here told).1;
+    fronts = λ told. fronts (texts_by t k.shows) (here told).0 (here told).1;
+  }
+
+  module _ {S D K W : Type 0} (sites : site.Ghosts S D K) (doors : door.Ghosts D K) (sources : source.Ghosts K) (sinks : sink.Ghosts K) (outputs : sink.Ghosts W)
+      (s : Service) (before after : S) (output output' : W) (l : ℕ) (calm : n ≡ l) where
+    abbrev whole : DiskSpan
+    whole = record { before = t; after = v; faults = l; faults_after = m }
+
+    hosted_opened : (Wrote : List ℕ → Type 0) → ServedHere sites doors sources sinks outputs first s before after output output' size d Wrote
+        → IsHosted sites doors sources sinks Wrote s before after whole
+    hosted_opened Wrote h = record {
+      log = h.served.log;
+      kept = kept_opened h.served.log h.fronts;
+      served = served_wider sites doors sources sinks first (IsKeptBehind first size d) (λ texts. IsTold t → IsKeptSince (texts_by t k.shows) v texts) (HasFailed d) (Rose l m)
+          (λ texts kept told. kept (texts_by t k.shows) (here told).0 (here told).1) (subst (λ f. Rose f m) calm) Wrote s before after h.served;
+      same = refl;
+    }
+
+    -- however serving the opened database ended, so the service of the site did
+    pub hosts_opened : (end : HostEnd) → ServesOpened sites doors sources sinks outputs first s before after output output' size d end
+        → HostsSite sites doors sources sinks outputs s before after output output' whole end
+    hosts_opened end h = record {
+      done = λ e. hosted_opened _ (h.done e);
+      cut = λ e. ((h.cut e).0, elim (h.cut e).1 [
+        | inl idle ↦ inl (idle.0, idle.1, kept_opened [] idle.2)
+        | inr served ↦ inr (hosted_opened _ served)
+      ]);
+      disk = λ e. (subst (λ f. Rose f m) calm (h.disk e).0, inr (hosted_opened _ (h.disk e).1));
+      site = λ e. let x = h.site e in (x.0, x.1, x.2.0, kept_opened [] x.2.1);
+      memory = λ e. let x = h.memory e in (inr (kept_opened [] x.0), x.1);
+      damaged = λ at e. absurd (h.opened at e);
+      other = λ e. absurd (h.titled e);
+      output_later = h.output_later;
+      site_later = h.site_later;
+    }

@@ -1,0 +1,121 @@
+-- decides: the host
+-- What the service of a database on a disk did.
+use Rattle.std.specs.Prelude.{◌≡◌, ◌⊎◌, ℕ, ◌≤◌, List, [], length, Option, Some, None}
+use Rattle.std.specs.Io.KnownBytes.{Appends}
+use Rattle.ifdb_io.specs.Causes.{Rose, WritesShort}
+use Rattle.ifdb_io.specs.declared.outside.Source as source
+use Rattle.ifdb_io.specs.declared.outside.Sink as sink
+use Rattle.ifdb_io.specs.declared.doors.Door as door
+use Rattle.ifdb_io.specs.declared.doors.Site as site
+use Rattle.ifdb_disk.specs.Images.{IsImage}
+use Rattle.ifdb_disk.specs.Clock.{Clock, Leaves, Now}
+use Rattle.ifdb_log.specs.Title.{IsLog, IsNew, IsOther}
+use Rattle.ifdb_log.specs.declared.fault.LogFault.{LogFault}
+use Rattle.ifdb_log.specs.declared.fault.LogFault.TheVariants as fault
+use Rattle.ifdb_model.specs.Log.{Entry as LogEntry}
+use Rattle.ifdb_history.specs.declared.entry.Entry.{Entry}
+use Rattle.ifdb_words.specs.declared.service.Service.{Service}
+use Rattle.ifdb_service.specs.Site.{Exchanges, GivesNone, IsServedOver}
+use Rattle.ifdb_service.specs.Summary.{listening_line}
+use Rattle.ifdb_host.specs.Files.{IsFileOf, IsTold, ShowsLog}
+use Rattle.ifdb_host.specs.Fronts.{HasFrontOf, IsKeptSince, LeavesFrom}
+use Rattle.ifdb_host.specs.declared.end.HostEnd.{HostEnd}
+use Rattle.ifdb_host.specs.declared.end.HostEnd.TheVariants as ends
+
+-- how a service ends whose log wasn't read to its end
+abbrev pub end_of : LogFault → HostEnd
+end_of fault.Disk = ends.DiskFault
+end_of fault.NotALog = ends.NotADatabase
+end_of (fault.Damaged at) = ends.Damaged at
+end_of fault.OutOfMemory = ends.OutOfMemory
+
+-- ---- the file
+
+-- a disk tells what it holds, and these bytes are the file of a database, whose texts restore this log
+abbrev pub IsFileOn : Option Clock → List (List ℕ) → List LogEntry → Type 0
+IsFileOn None texts log = ⊥
+IsFileOn (Some c) texts log = IsFileOf texts log c.now.bytes
+
+-- it does, and nothing was kept in it
+abbrev pub IsNewOn : Option Clock → Type 0
+IsNewOn None = ⊥
+IsNewOn (Some c) = IsNew c.now.bytes
+
+-- a file without an entry: it is new, or a title and at most one byte behind it
+abbrev pub IsBare : List ℕ → Type 0
+IsBare bytes = IsNew bytes ⊎ (IsLog bytes × (length bytes ≤ 17))
+
+-- an image is one of those at a start, or without an entry where the disk was so too
+abbrev pub IsOldOrBegun : Option Clock → List ℕ → Type 0
+IsOldOrBegun old image = Now old (λ s. IsImage s image ⊎ (IsBare s.bytes × IsBare image))
+
+-- No entry was added: until now each image is one of those at the start, or without an entry where the disk was so too.
+abbrev pub IsUnopened : Option Clock → Option Clock → Type 0
+IsUnopened disk disk' = Leaves disk disk' (IsOldOrBegun disk)
+
+-- A database was opened over the log that the disk held, or over none on a new one. From then on each image is the file of that log
+-- and of a front of what this history added to it.
+pub record IsKeptOn (disk disk' : Option Clock) (h : List Entry) : Type 0 where
+  pub first : List LogEntry
+  pub texts : List (List ℕ)
+  pub opened : Option Clock
+  pub held : (xs : List (List ℕ)) (log : List LogEntry) → IsFileOn disk xs log → first ≡ log
+  pub fresh : IsNewOn disk → first ≡ []
+  pub opening : IsUnopened disk opened
+  pub shows : IsTold disk → ShowsLog opened texts first
+  pub fronts : IsTold disk → LeavesFrom opened disk' (HasFrontOf texts first h 0)
+
+-- ---- the service
+
+-- a disk before, and after, and its counts of faults
+pub record DiskSpan : Type 0 where
+  pub before : Option Clock
+  pub after : Option Clock
+  pub faults : ℕ
+  pub faults_after : ℕ
+
+module _ {S D K : Type 0} (sites : site.Ghosts S D K) (doors : door.Ghosts D K) (sources : source.Ghosts K) (sinks : sink.Ghosts K) where
+  -- A site was served by a database: by one history over the log that the disk held. What a written reply was answered from has been
+  -- on the disk since some moment, and a reply was held back only where the disk's count of faults rose.
+  pub record IsHosted (Wrote : List ℕ → Type 0) (s : Service) (before after : S) (d : DiskSpan) : Type 0 where
+    pub log : List Entry
+    pub kept : IsKeptOn d.before d.after log
+    pub served : IsServedOver sites doors sources sinks kept.first
+        (λ texts. IsTold d.before → IsKeptSince kept.texts d.after texts) (Rose d.faults d.faults_after) Wrote s before after
+    pub same : served.log ≡ log
+
+  -- the doors went back as they came
+  abbrev pub IsUnvisited : Service → S → S → Type 0
+  IsUnvisited s before after = (given : List D) × Exchanges sites s before after given given
+
+  module _ {W : Type 0} (outputs : sink.Ghosts W) (s : Service) (before after : S) (output output' : W) (d : DiskSpan) where
+    -- nothing was written, and the site wasn't asked for anything
+    abbrev pub IsUntouched : Type 0
+    IsUntouched = (after ≡ before) × (output' ≡ output)
+
+    -- these bytes were written, or a front of them
+    abbrev pub WroteAll : List ℕ → Type 0
+    WroteAll bytes = Appends (outputs.written output) (outputs.written output') bytes
+
+    abbrev pub WroteFront : List ℕ → Type 0
+    WroteFront bytes = WritesShort (outputs.written output) (outputs.written output') bytes
+
+    -- a database was opened, and nobody was served
+    abbrev pub IsIdle : Type 0
+    IsIdle = IsKeptOn d.before d.after []
+
+    -- the service ended so
+    pub record HostsSite (end : HostEnd) : Type 0 where
+      pub done : end ≡ ends.Done → IsHosted WroteAll s before after d
+      pub cut : end ≡ ends.WriteFault → Rose (outputs.faults output) (outputs.faults output')
+          × ((IsUnvisited s before after × WroteFront (listening_line s.port) × IsIdle) ⊎ IsHosted WroteFront s before after d)
+      pub disk : end ≡ ends.DiskFault → Rose d.faults d.faults_after
+          × ((IsUntouched × IsUnopened d.before d.after) ⊎ IsHosted (λ _. WroteAll (listening_line s.port)) s before after d)
+      pub site : end ≡ ends.SiteFault → Rose (sites.faults before) (sites.faults after) × GivesNone sites s before after × (output' ≡ output) × IsIdle
+      pub memory : end ≡ ends.OutOfMemory → (IsUnopened d.before d.after ⊎ IsIdle)
+          × (IsUntouched ⊎ ((GivesNone sites s before after ⊎ IsUnvisited s before after) × ((output' ≡ output) ⊎ WroteAll (listening_line s.port))))
+      pub damaged : (at : ℕ) → end ≡ ends.Damaged at → IsUntouched × IsUnopened d.before d.after
+          × ((texts : List (List ℕ)) (log : List LogEntry) → IsFileOn d.before texts log → ⊥)
+      pub other : end ≡ ends.NotADatabase → IsUntouched × (d.after ≡ d.before) × Now d.before (λ shown. IsOther shown.bytes)
+      pub output_later : outputs.faults output ≤ outputs.faults output'
+      pub site_later : sites.faults before ≤ sites.faults after
