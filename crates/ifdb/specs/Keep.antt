@@ -1,13 +1,11 @@
 -- decides: the program
 -- What the program does by the words of `keep`.
-use Rattle.std.specs.Prelude.{◌≡◌, ◌≢◌, ◌⊎◌, ℕ, List, codes, None, Some, Ok, Err}
+use Rattle.std.specs.Prelude.{◌≡◌, ◌≢◌, ◌⊎◌, ℕ, List, codes, None, Some}
 use Rattle.ifdb_io.specs.Causes.{Rose}
-use Rattle.ifdb_io.specs.declared.outside.Failed.{Failed}
 use Rattle.ifdb_io.specs.declared.outside.Source as source
 use Rattle.ifdb_io.specs.declared.outside.Sink as sink
 use Rattle.ifdb_disk.specs.declared.disk.Disk as disk
 use Rattle.ifdb_disk.specs.declared.shelf.Shelf as shelf
-use Rattle.ifdb_disk.specs.Shelf.{Opens, Closes}
 use Rattle.ifdb_journal.specs.Reading.{BreaksAt}
 use Rattle.ifdb_keep.specs.Kept.{KeptCut, KeptFront, KeptPast, KeptShort, KeptWhole}
 use Rattle.ifdb_keep.specs.Resumed.{IsUnbegun, IsUnread}
@@ -18,6 +16,7 @@ use Rattle.ifdb_words.specs.declared.keep.Keep.{Keep}
 use Rattle.ifdb.specs.declared.top.Status.TheVariants as status
 use Rattle.ifdb.specs.declared.more.MoreStatus.{MoreStatus}
 use Rattle.ifdb.specs.declared.more.MoreStatus.TheVariants.{Base, DiskFault, Damaged}
+use Rattle.ifdb.specs.Lending.{Lends, Refuses}
 use Rattle.ifdb.specs.Usage.{TellsUsage}
 
 abbrev pub keep_usage : List ℕ
@@ -52,45 +51,31 @@ IsKeptOrLacking (Damaged at) = Unit {0}
 IsKeptOrLacking _ = ⊥
 
 module _ {I O S D : Type 0} (inputs : source.Ghosts I) (outputs : sink.Ghosts O) (shelves : shelf.Ghosts S D) (disks : disk.Ghosts D) where
-  -- `open` was called once, with this name, and gave a disk; this became of it, and then it was handed to `close`
-  pub record Lends (name : List ℕ) (before after : S) (Became : D → D → Type 0) : Type 0 where
-    pub given : D
-    pub back : D
-    pub between : S
-    pub opened : Opens name (shelves.tells before) (shelves.tells between) (Ok given)
-    pub closed : Closes back (shelves.tells between) (shelves.tells after)
-    pub became : Became given back
-
-  -- `open` was called once, with this name, and failed
-  pub record Refuses (name : List ℕ) (before after : S) : Type 0 where
-    pub opened : (f : Failed) → Opens {D = D} name (shelves.tells before) (shelves.tells after) (Err f)
-    pub rose : Rose (shelves.faults before) (shelves.faults after)
-
   -- the script at the input was run over the journal in a file
   pub record KeepsScript (k : Keep) (input input' : I) (output output' : O) (before after : S) (end : MoreStatus) : Type 0 where
     -- ---- the script's output, and what the disk holds
-    pub done : end ≡ Base status.Done → Lends k.file before after (λ disk disk'. KeptWhole k.limit
+    pub done : end ≡ Base status.Done → Lends shelves k.file before after (λ disk disk'. KeptWhole k.limit
         (inputs.left input) (inputs.left input') (outputs.written output) (outputs.written output') (disks.tells disk) (disks.tells disk'))
     -- ---- faults, and what was written and kept before them
     pub read : end ≡ Base status.ReadFault → Rose (inputs.faults input) (inputs.faults input')
-    pub read_front : end ≡ Base status.ReadFault → Lends k.file before after (λ disk disk'. KeptFront k.limit
+    pub read_front : end ≡ Base status.ReadFault → Lends shelves k.file before after (λ disk disk'. KeptFront k.limit
         (inputs.left input) (inputs.left input') (outputs.written output) (outputs.written output') (disks.tells disk) (disks.tells disk'))
     pub write : end ≡ Base status.WriteFault → Rose (outputs.faults output) (outputs.faults output')
-    pub write_front : end ≡ Base status.WriteFault → Lends k.file before after (λ disk disk'. KeptCut k.limit
+    pub write_front : end ≡ Base status.WriteFault → Lends shelves k.file before after (λ disk disk'. KeptCut k.limit
         (inputs.left input) (inputs.left input') (outputs.written output) (outputs.written output') (disks.tells disk) (disks.tells disk'))
-    pub too_large : end ≡ Base status.TooLarge → Lends k.file before after (λ disk disk'. KeptPast k.limit
+    pub too_large : end ≡ Base status.TooLarge → Lends shelves k.file before after (λ disk disk'. KeptPast k.limit
         (inputs.left input) (inputs.left input') (outputs.written output) (outputs.written output') (disks.tells disk) (disks.tells disk'))
     -- ---- a fault of the shelf, or of its disk, before the first read or at a step that has a record
-    pub disk : end ≡ DiskFault → ((input' ≡ input) × (output' ≡ output) × Refuses k.file before after)
-        ⊎ Lends k.file before after (λ disk disk'. Rose (disks.faults disk) (disks.faults disk')
+    pub disk : end ≡ DiskFault → ((input' ≡ input) × (output' ≡ output) × Refuses {D = D} shelves k.file before after)
+        ⊎ Lends shelves k.file before after (λ disk disk'. Rose (disks.faults disk) (disks.faults disk')
         × (((input' ≡ input) × (output' ≡ output) × IsUnbegun (disks.tells disk) (disks.tells disk'))
         ⊎ KeptShort k.limit
         (inputs.left input) (inputs.left input') (outputs.written output) (outputs.written output') (disks.tells disk) (disks.tells disk')))
     -- ---- ends before the first read
     pub damaged : (at : ℕ) → end ≡ Damaged at → (input' ≡ input) × (output' ≡ output)
-        × Lends k.file before after (λ disk disk'. BreaksAt (disks.tells disk) at × IsUnread (disks.tells disk) (disks.tells disk'))
+        × Lends shelves k.file before after (λ disk disk'. BreaksAt (disks.tells disk) at × IsUnread (disks.tells disk) (disks.tells disk'))
     pub memory : end ≡ Base status.OutOfMemory → (input' ≡ input) × (output' ≡ output)
-        × ((after ≡ before) ⊎ Lends k.file before after (λ disk disk'. IsUnread (disks.tells disk) (disks.tells disk')))
+        × ((after ≡ before) ⊎ Lends shelves k.file before after (λ disk disk'. IsUnread (disks.tells disk) (disks.tells disk')))
     -- ---- what is so at every end
     pub unfailed : end ≢ Base status.ReadFault → inputs.faults input' ≡ inputs.faults input
     pub ends : IsKeepEnd end

@@ -1,7 +1,9 @@
 pub mod Base
 pub mod Check
 pub mod Closures
+pub mod Host
 pub mod Keep
+pub mod Lending
 pub mod More
 pub mod Project
 pub mod Status

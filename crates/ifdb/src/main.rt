@@ -4,6 +4,7 @@
 mod adapters;
 mod check;
 mod closures;
+mod hosting;
 mod keep;
 mod more;
 mod project;
@@ -12,16 +13,18 @@ mod tests;
 mod top;
 
 use adapters::{Reading, Writing};
+use hosting::{HostStatus, top_host};
 use ifdb_file::FileShelf;
+use ifdb_io::write_all;
 use ifdb_net::TcpSite;
 use ifdb_service::write_numbered;
-use more::{MoreStatus, top_more};
+use more::MoreStatus;
 use std::io;
 use std::process::ExitCode;
 use top::Status;
 
 // Hands the program's words, standard input and output, and this machine's ports and files to the top call. Tells on standard error
-// where a journal is damaged.
+// where a journal is damaged, and that a file is no database.
 fn main(rt: HostRuntime) -> ExitCode {
     let words = match words(&rt) {
         Ok(words) => words,
@@ -35,12 +38,16 @@ fn main(rt: HostRuntime) -> ExitCode {
     let mut output = Writing::new(rt.stdout());
     let mut site = TcpSite::new(&rt, rt.alloc());
     let mut shelf = FileShelf::new(&rt);
-    let end = top_more(&rt, &words, &mut input, &mut output, &mut site, &mut shelf);
-    if let MoreStatus::Damaged(at) = end {
-        let mut errors = Writing::new(rt.stderr());
-        // Where this fails too the status says it alone.
-        let _ = write_numbered(&mut errors, b"ifdb: the journal is damaged at byte", at);
-    }
+    let end = top_host(&rt, &words, &mut input, &mut output, &mut site, &mut shelf);
+    let mut errors = Writing::new(rt.stderr());
+    // Where this fails too the status says it alone.
+    let _ = match end {
+        HostStatus::More(MoreStatus::Damaged(at)) => {
+            write_numbered(&mut errors, b"ifdb: the journal is damaged at byte", at)
+        }
+        HostStatus::NotADatabase => write_all(&mut errors, b"ifdb: the file is no database\n"),
+        HostStatus::More(_) => Ok(()),
+    };
     ExitCode::from(end.exit_code())
 }
 

@@ -20,13 +20,16 @@ bare_app name = bared (new_app name)
 abbrev pub limit_app : App
 limit_app = with_rule (bare_app (codes "limit")) (option_of (codes "limit") false)
 
-abbrev pub serve_app : App
-serve_app = with_rule (with_rule (with_rule (with_rule (bare_app (codes "serve")) (option_of (codes "port") true))
+-- with the options of a service
+abbrev pub with_service : App → App
+with_service a = with_rule (with_rule (with_rule (with_rule a (option_of (codes "port") true))
     (option_of (codes "workers") false)) (option_of (codes "links") false)) (option_of (codes "limit") false)
 
+abbrev pub serve_app : App
+serve_app = with_service (bare_app (codes "serve"))
+
 abbrev pub host_app : App
-host_app = with_rule (with_rule (with_rule (with_rule (with_rule (bare_app (codes "host")) (option_of (codes "file") true))
-    (option_of (codes "port") true)) (option_of (codes "workers") false)) (option_of (codes "links") false)) (option_of (codes "limit") false)
+host_app = with_service (with_rule (bare_app (codes "host")) (option_of (codes "file") true))
 
 abbrev pub project_app : App
 project_app = with_rule (with_rule (bare_app (codes "project")) (option_of (codes "tags") true)) (option_of (codes "limit") false)

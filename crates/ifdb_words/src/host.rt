@@ -7,7 +7,7 @@ ghost use Rattle.ifdb_words.specs.Ranges.{IsService};
 
 use crate::file_name::{FileName, file_name_of};
 use crate::options::{bare_command, option, taken};
-use crate::serve::service_of;
+use crate::serve::{service_of, with_service};
 use crate::service::Service;
 use clap::ArgMatches;
 use std::alloc::{AllocError as OutOfMemory, Global};
@@ -55,8 +55,5 @@ fn host_command<'a>(alloc: Global) -> Result<clap::Command<'a>, OutOfMemory>
     ensures { IfOk result (λ command. app_of command ≡ host_app) }
 {
     let with_file = bare_command(alloc, "host").arg(option(alloc, "file", true))?;
-    let with_port = with_file.arg(option(alloc, "port", true))?;
-    let with_workers = with_port.arg(option(alloc, "workers", false))?;
-    let with_links = with_workers.arg(option(alloc, "links", false))?;
-    with_links.arg(option(alloc, "limit", false))
+    with_service(alloc, with_file)
 }

@@ -1,7 +1,7 @@
 // The words behind `serve`.
 ghost use Rattle.std.specs.Prelude.{◌≡◌, IfOk, map, string_bytes};
 ghost use Rattle.clap.specs.Words.{app_of, found_of, first_value};
-ghost use Rattle.ifdb_words.specs.Clap.{serve_app};
+ghost use Rattle.ifdb_words.specs.Clap.{serve_app, with_service};
 ghost use Rattle.ifdb_words.specs.Serve.{port_of, serve_in, serve_of, service_of, workers_of};
 
 use crate::command::Command;
@@ -78,8 +78,17 @@ fn workers_of(matches: &ArgMatches) -> Option<usize>
 fn serve_command<'a>(alloc: Global) -> Result<clap::Command<'a>, OutOfMemory>
     ensures { IfOk result (λ command. app_of command ≡ serve_app) }
 {
-    let bare = bare_command(alloc, "serve");
-    let with_port = bare.arg(option(alloc, "port", true))?;
+    with_service(alloc, bare_command(alloc, "serve"))
+}
+
+/// The command with the options of a service.
+pub fn with_service<'a>(
+    alloc: Global,
+    command: clap::Command<'a>,
+) -> Result<clap::Command<'a>, OutOfMemory>
+    ensures { IfOk result (λ with. app_of with ≡ with_service (app_of command.entry)) }
+{
+    let with_port = command.arg(option(alloc, "port", true))?;
     let with_workers = with_port.arg(option(alloc, "workers", false))?;
     let with_links = with_workers.arg(option(alloc, "links", false))?;
     with_links.arg(option(alloc, "limit", false))

@@ -1,7 +1,8 @@
 use Rattle.std.proofs.Common.{rules, ◌≡◌, ◌∙◌, sym, ap, subst, inr}
 use Rattle.ifdb_keep.specs.declared.keep.KeepEnd.{KeepEnd}
 use Rattle.ifdb.specs.declared.more.MoreStatus.{MoreStatus}
-use Rattle.ifdb.specs.Keep.{IsKeepEnd, IsKeptOrLacking, Lends, status_of}
+use Rattle.ifdb.specs.Keep.{IsKeepEnd, IsKeptOrLacking, status_of}
+use Rattle.ifdb.specs.Lending.{Lends}
 use Rattle.ifdb.proofs.Keeping.{end_for, end_for_its_status, is_keep_end, kept_or_lacking}
 use Rattle.ifdb.proofs.keep.keep_in_file.Goals as goal
 
@@ -11,7 +12,7 @@ returns-clause-kept g c =
     let is : c.status_of.result ≡ status_of end = search rules in
     let ended : (m : MoreStatus) → c.status_of.result ≡ m → end ≡ end_for m = λ m h. sym (end_for_its_status end) ∙ ap end_for (sym is ∙ h) in
     let lent : (Became : g.row.H-Disk.Denot → g.row.H-Disk.Denot → Type 0) → Became c.in-Ok.disk c.keep_script-end.new.disk
-    → Lends g.R.Source g.W.Sink g.H.Shelf g.H.Disk.Disk c.args.keep.now.file c.args.shelf.now c.close.new.self Became = λ Became became. record {
+    → Lends g.H.Shelf c.args.keep.now.file c.args.shelf.now c.close.new.self Became = λ Became became. record {
       given = c.in-Ok.disk;
       back = c.keep_script-end.new.disk;
       between = c.open.new.self;
