@@ -5,7 +5,8 @@
 #   clients/check.sh      the variable IFDB names another program than crates/ifdb/out/ifdb
 #
 # Names what failed, and says at the end how many passed. Exit statuses: 0 all passed, 1 something didn't, 69 nothing was tried: python3
-# is missing or older than 3.9, or the program isn't built. What wants stunnel, openssl or setuptools says so where that is missing.
+# is missing or older than 3.9, or the program isn't built. What wants stunnel, openssl or pip is
+# left out where that is missing.
 set -euo pipefail
 
 readonly NOT_HERE=69

@@ -544,8 +544,8 @@ def _select(request: str) -> _Select:
     return _Select(items, sources)
 
 
-def _columns_of_table(request: str) -> Dict[str, Kind]:
-    """The columns of the table that a request makes."""
+def columns_of_table(request: str) -> Dict[str, Kind]:
+    """The columns of the table that a request makes. The server must have accepted the request."""
     members = _members(_tokens(request)[4:])
     return {
         member[0].text: str if member[1].text == "text" else int
@@ -765,7 +765,7 @@ class Connection:
         """Enters the columns of the table or view that was made."""
         made, relation = (token.text for token in _tokens(request)[1:3])
         if made == "table":
-            self.columns[relation] = _columns_of_table(request)
+            self.columns[relation] = columns_of_table(request)
         elif made == "view":
             self.columns[relation] = dict(self._described(request))
 
