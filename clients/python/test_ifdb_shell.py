@@ -219,7 +219,7 @@ class Piped(OverAServer):
 
     def test_rows_go_out_and_come_back(self) -> None:
         file = self.folder / "rows.csv"
-        file.write_text("\ufeffbody,id\r\nflu,-7\r\n\"a, \"\"b\"\"\",8\r\n\r\n\"\",9\r\n,10\r\n", newline="")
+        file.write_bytes(b'\xef\xbb\xbfbody,id\r\nflu,-7\r\n"a, ""b""",8\r\n\r\n"",9\r\n,10\r\n')
         made = "CREATE TABLE went (id INT, body TEXT, PRIMARY KEY (id))\n"
         status, out, err = self.shell(f"{made}.import {file} went\n.dump went\n.dump went body\n")
         rows = ['-7,"flu"', '8,"a, ""b"""', '9,""', "10,"]
