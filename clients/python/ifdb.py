@@ -985,6 +985,7 @@ class Pool:
         self._size = size
         self._autocommit = autocommit
         self._columns: Columns = {} if columns is None else columns
+        self._kinds: Dict[Tuple[Tuple[str, ...], str], Kind] = {}
         self._changed = threading.Condition()
         """Guards what follows; told of each connection that is given back, and of the end."""
         self._free: list[Session] = []
@@ -999,6 +1000,7 @@ class Pool:
         It waits for a free one, at most the `timeout` of the pool. Raises OperationalError where none came in that time and where
         `connect` does, and InterfaceError where the pool is closed. What a commit may raise, the end of the block raises."""
         connection = Connection(self._take(), self.user, self._autocommit, self._columns, self._way)
+        connection._kinds = self._kinds  # (so that each kind is asked for once)
         try:
             yield connection
             if connection.is_open:

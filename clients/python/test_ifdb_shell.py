@@ -88,6 +88,11 @@ class Csv(unittest.TestCase):
 class Completing(unittest.TestCase):
     """What Tab makes of what was typed."""
 
+    def test_the_words_are_those_of_the_grammar(self) -> None:
+        page = (program.ROOT / "docs/GRAMMAR.md").read_text()
+        reserved = page.partition("These are reserved:\n\n")[2].partition("\n\n")[0].split()
+        self.assertEqual(ifdb_shell.WORDS, [word for word in reserved if word not in ("CALL", "CLOSURE")])
+
     def test_words_names_and_commands(self) -> None:
         completer = ifdb_shell.Completer([".read", ".label"])
         completer.learn("INSERT INTO Note (id, body) VALUES (1, 'nothing it''s'), (2, NULL)")
