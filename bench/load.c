@@ -1,14 +1,16 @@
 // Statements a second of a server that answers ifdb's lines, by clients that are threads with a raw socket each.
 //
-//   load PORT CLIENTS SECONDS ROWS TABLE TAG KEY
+//   load PORT CLIENTS SECONDS ROWS TABLE TAG KEY [selects | updates | inserts [MOST]]
 //
 // Each client says HELLO as admin, raises its label to TAG, and then does, until the time is over, a SELECT of a row by its key
-// and BEGIN, an UPDATE of such a row, and COMMIT: four statements, the keys at random below ROWS. Written at the end: how many
-// statements a second, and how many of them were refused with Conflict and otherwise. A server that sends each line back is
-// loaded in the same way.
+// and BEGIN, an UPDATE of such a row, and COMMIT: four statements, the keys at random below ROWS. With a last word it does those
+// statements alone, outside transactions, and no more than MOST of them; an INSERT is of a row that nobody has. Written at the
+// end: how many statements a second, how many there were, and how many of them were refused with Conflict and otherwise. A server
+// that sends each line back is loaded in the same way.
 #define _GNU_SOURCE
 #include <arpa/inet.h>
 #include <errno.h>
+#include <limits.h>
 #include <netinet/tcp.h>
 #include <pthread.h>
 #include <stdio.h>
@@ -24,6 +26,7 @@ typedef struct {
   pthread_t thread;
   int socket;
   unsigned seed;
+  int number;
   size_t from, to;
   char bytes[BYTES];
   char line[LINE];
@@ -32,7 +35,9 @@ typedef struct {
 } Client;
 
 static int port, rows;
+static long most;
 static double seconds;
+static enum { MIXED, SELECTS, UPDATES, INSERTS } kind;
 static const char *table, *tag, *key;
 static pthread_barrier_t start;
 
@@ -97,32 +102,56 @@ static void begin_work(Client *client) {
   if (ask(client, text)) fail(client->line);
 }
 
+static int do_select(Client *client) {
+  char text[LINE];
+  snprintf(text, LINE, "SELECT v FROM %s WHERE id = %d", table, rand_r(&client->seed) % rows);
+  return counted(client, text);
+}
+
+static int do_update(Client *client) {
+  char text[LINE];
+  snprintf(text, LINE, "UPDATE %s SET v = %d WHERE id = %d", table, rand_r(&client->seed) % 1000, rand_r(&client->seed) % rows);
+  return counted(client, text);
+}
+
+static int do_insert(Client *client) {
+  char text[LINE];
+  snprintf(text, LINE, "INSERT INTO %s VALUES (%ld, 0)", table, (client->number + 1) * 1000000000L + client->statements);
+  return counted(client, text);
+}
+
+static void do_some(Client *client) {
+  if (kind == SELECTS) do_select(client);
+  else if (kind == UPDATES) do_update(client);
+  else if (kind == INSERTS) do_insert(client);
+  else {
+    do_select(client);
+    if (!counted(client, "BEGIN")) counted(client, do_update(client) ? "ROLLBACK" : "COMMIT");
+  }
+}
+
 static void *work(void *it) {
   Client *client = it;
-  char text[LINE];
   begin_work(client);
   pthread_barrier_wait(&start);
   double begun = now();
-  while ((client->took = now() - begun) < seconds) {
-    snprintf(text, LINE, "SELECT v FROM %s WHERE id = %d", table, rand_r(&client->seed) % rows);
-    counted(client, text);
-    if (counted(client, "BEGIN")) continue;
-    snprintf(text, LINE, "UPDATE %s SET v = %d WHERE id = %d", table, rand_r(&client->seed) % 1000, rand_r(&client->seed) % rows);
-    counted(client, counted(client, text) ? "ROLLBACK" : "COMMIT");
-  }
+  while ((client->took = now() - begun) < seconds && client->statements < most) do_some(client);
   close(client->socket);
   return 0;
 }
 
 int main(int count, char **words) {
-  if (count != 8) fail("usage: load PORT CLIENTS SECONDS ROWS TABLE TAG KEY");
+  if (count < 8 || count > 10) fail("usage: load PORT CLIENTS SECONDS ROWS TABLE TAG KEY [selects | updates | inserts [MOST]]");
   int clients = atoi(words[2]);
   port = atoi(words[1]), seconds = atof(words[3]), rows = atoi(words[4]);
   table = words[5], tag = words[6], key = words[7];
+  if (count > 8) kind = *words[8] == 's' ? SELECTS : *words[8] == 'u' ? UPDATES : INSERTS;
+  most = count > 9 ? atol(words[9]) : LONG_MAX;
   Client *all = calloc(clients, sizeof *all);
   if (!all || clients < 1 || rows < 1 || pthread_barrier_init(&start, 0, clients)) fail("wrong words");
   for (int at = 0; at < clients; at++) {
     all[at].seed = at + 1;
+    all[at].number = at;
     if (pthread_create(&all[at].thread, 0, work, &all[at])) fail("no thread");
   }
   double rate = 0;

@@ -125,32 +125,51 @@ def said_of(said: str, word: str) -> str:
     return found[1] if found else "0"
 
 
-def measure_postgres(folder: pathlib.Path, options: argparse.Namespace) -> None:
-    def psql(*statements: str) -> None:
-        words = ["psql", "-q", "-v", "ON_ERROR_STOP=1", "-h", "127.0.0.1", "-p", str(options.postgres), "-U", options.user]
+class Postgres(typing.NamedTuple):
+    """A running PostgreSQL at a port of 127.0.0.1, with a superuser and a database."""
+
+    port: int
+    user: str
+    database: str
+
+    def psql(self, *statements: str) -> None:
+        words = ["psql", "-q", "-v", "ON_ERROR_STOP=1", "-h", "127.0.0.1", "-p", str(self.port), "-U", self.user]
         for statement in statements:
             words += ["-c", statement]
-        subprocess.run([*words, options.database], check=True, stderr=subprocess.DEVNULL)
+        subprocess.run([*words, self.database], check=True, stderr=subprocess.DEVNULL)
 
+    def pgbench(self, script: pathlib.Path, clients: int, seconds: float, rows: int, *settings: str) -> str:
+        """What pgbench says of a script that some clients do for some seconds, by prepared statements, as the role at its tag."""
+        words = ["pgbench", "-n", "-M", "prepared", "-h", "127.0.0.1", "-p", str(self.port), "-U", ROLE, "-f", str(script),
+                 "-c", str(clients), "-j", str(clients), "-T", str(max(1, round(seconds))), "-D", f"rows={rows}"]
+        chosen = " ".join(f"-c {setting}" for setting in (f"served.tags={TAG}", *settings))
+        ran = subprocess.run([*words, self.database], check=True, capture_output=True, text=True, env={**os.environ, "PGOPTIONS": chosen})
+        return ran.stdout
+
+
+def make_rows_of_postgres(server: Postgres, rows: int) -> None:
+    """Makes the table, whose rows the role sees at the tag alone."""
     with contextlib.suppress(subprocess.CalledProcessError):
-        psql(f"CREATE ROLE {ROLE} LOGIN")
-    psql(
+        server.psql(f"CREATE ROLE {ROLE} LOGIN")
+    server.psql(
         f"DROP TABLE IF EXISTS {TABLE}",
         f"CREATE TABLE {TABLE} (id INT PRIMARY KEY, v INT, tags TEXT[])",
-        f"INSERT INTO {TABLE} SELECT id, 0, ARRAY['{TAG}'] FROM generate_series(0, {options.rows} - 1) AS id",
+        f"INSERT INTO {TABLE} SELECT id, 0, ARRAY['{TAG}'] FROM generate_series(0, {rows} - 1) AS id",
         f"ALTER TABLE {TABLE} ENABLE ROW LEVEL SECURITY",
         f"CREATE POLICY flows ON {TABLE} USING (tags <@ string_to_array(current_setting('served.tags', true), ','))",
         f"GRANT SELECT, INSERT, UPDATE, DELETE ON {TABLE} TO {ROLE}",
         f"ANALYZE {TABLE}",
     )
+
+
+def measure_postgres(folder: pathlib.Path, options: argparse.Namespace) -> None:
+    server = Postgres(options.postgres, options.user, options.database)
+    make_rows_of_postgres(server, options.rows)
     script = folder / "load.sql"
     script.write_text(PGBENCH)
 
     def load(clients: int) -> Run:
-        words = ["pgbench", "-n", "-M", "prepared", "-h", "127.0.0.1", "-p", str(options.postgres), "-U", ROLE, "-f", str(script),
-                 "-c", str(clients), "-j", str(clients), "-T", str(max(1, round(options.seconds))), "-D", f"rows={options.rows}"]
-        settings = {**os.environ, "PGOPTIONS": f"-c served.tags={TAG} -c synchronous_commit=off"}
-        said = subprocess.run([*words, options.database], check=True, capture_output=True, text=True, env=settings).stdout
+        said = server.pgbench(script, clients, options.seconds, options.rows, "synchronous_commit=off")
         done, failed = int(said_of(said, "actually processed: ")), int(said_of(said, "failed transactions: "))
         return Run(4 * float(said_of(said, "tps = ")), 4 * done + 3 * failed, failed, 0)
 

@@ -1,11 +1,12 @@
 #!/usr/bin/env bash
-# Tests what runs outside the kit, over the built program: the client, the shell, each stored dialogue, the clinic, recorded runs of the
-# example scripts, journals in files, ranges of keys beside passes, and transactions of many writes.
+# Tests what runs outside the kit, over the built program: the client, the shell, each stored dialogue, the clinic, TLS in front of a
+# server, recorded runs of the example scripts, journals in files, ranges of keys beside passes, transactions of many writes, and packages.
 #
 #   clients/check.sh      the variable IFDB names another program than crates/ifdb/out/ifdb
 #
 # Names what failed, and says at the end how many passed. Exit statuses: 0 all passed, 1 something didn't, 69 nothing was tried: python3
-# is missing or older than 3.9, or the program isn't built.
+# is missing or older than 3.9, or the program isn't built. What wants stunnel, openssl, pip,
+# git or dpkg-deb is left out where that is missing.
 set -euo pipefail
 
 readonly NOT_HERE=69
@@ -17,12 +18,16 @@ not_here() {
 }
 
 try() {
-  if "$@"; then
-    passed=$((passed + 1))
-  else
-    failed=$((failed + 1))
-    echo "clients/check.sh: failed: $*" >&2
-  fi
+  local status=0
+  "$@" || status=$?
+  case $status in
+    0) passed=$((passed + 1)) ;;
+    "$NOT_HERE") ;; # (it has said what is missing)
+    *)
+      failed=$((failed + 1))
+      echo "clients/check.sh: failed: $*" >&2
+      ;;
+  esac
 }
 
 program=$(realpath -m -- "${IFDB:-$(dirname "${BASH_SOURCE[0]}")/../crates/ifdb/out/ifdb}")
@@ -37,6 +42,8 @@ try python3 -m unittest discover -s clients/python
 # The dialogue of browsers is played by the clinic's test.
 mapfile -t dialogues < <(find examples -name '*.dialogue' ! -name web.dialogue | LC_ALL=C sort)
 try python3 clients/python/dialogue.py "${dialogues[@]}"
+try examples/tls/try.sh
 for test in clinic traces kept ranges many; do try python3 "tests/$test.py"; done
+try tests/package.sh
 echo "clients: $passed passed, $failed failed"
 ((failed == 0))

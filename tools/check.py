@@ -19,7 +19,8 @@ import edits
 
 TOP = Path(__file__).resolve().parent.parent
 CRATES = TOP / "crates"
-PAGES = [TOP / "README.md", *sorted((TOP / "docs").glob("*.md")), *sorted(CRATES.glob("*/README.md"))]
+READMES = [*TOP.glob("*/README.md"), *(TOP / "examples").glob("*/README.md")]  # (of folders that are no crates)
+PAGES = [TOP / "README.md", *sorted((TOP / "docs").glob("*.md")), *sorted(READMES), *sorted(CRATES.glob("*/README.md"))]
 REPLY = re.compile(r"\d+ (?:OK|OPEN|ERR|ROWS|LABEL)\b")
 
 

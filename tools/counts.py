@@ -55,6 +55,10 @@ class House:
     def pages(self) -> list[Path]:
         return [self.top / "README.md", *(self.top / "docs").glob("*.md")]
 
+    def readmes(self) -> list[Path]:
+        """The READMEs of folders that are no crates."""
+        return [*self.top.glob("*/README.md"), *(self.top / "examples").glob("*/README.md")]
+
     def python(self) -> list[Path]:
         return [file for file in self.top.rglob("*.py") if not {"out", "wip", ".git"} & set(file.relative_to(self.top).parts)]
 
@@ -116,7 +120,9 @@ def counts(house: House) -> dict[str, str]:
         "longest file of code, of proofs": f"{longest(sources)}; {longest(proofs)}",
         "edits tried in each run, aside": f"{house.edits('edit')}; {house.edits('edit.md')}",
         "lines of Python, in files": f"{lines_in(house.python()):,}; {len(house.python())}",
-        "words on pages, on READMEs of crates": f"{words_in(house.pages()):,}; {words_in((house.top / 'crates').glob('*/README.md')):,}",
+        "words on pages, on READMEs of crates, of other folders": "; ".join(
+            f"{words_in(files):,}" for files in (house.pages(), (house.top / "crates").glob("*/README.md"), house.readmes())
+        ),
         "pairs of files that share six lines or more": f"{repeats(house)} in {len(house.files):,}",
     }
     for change, (pattern, crates) in CHANGES.items():

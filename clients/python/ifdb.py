@@ -10,7 +10,7 @@
             print(cursor.fetchall())                  # [(10, 'cough')]
 
 A connection is one session of one principal, from its HELLO to its BYE. Beyond the standard it has a label, by
-`Connection.label` and `Connection.at`.
+`Connection.label` and `Connection.at`. A `Pool` keeps connections of one principal, for threads to take and give back.
 
 **Transactions.** Unless `Connection.autocommit` is set, the first SELECT, INSERT, UPDATE or DELETE opens one, and `commit` or
 `rollback` ends it. Public changes (CREATE, GRANT, REVOKE) are steps of their own, and are refused inside a transaction.
@@ -32,9 +32,11 @@ from __future__ import annotations
 import datetime
 import re
 import socket
+import threading
 import time
 from collections.abc import Iterable, Iterator, Sequence, Set
 from contextlib import contextmanager
+from ssl import SSLContext, SSLWantReadError
 from types import TracebackType
 from typing import Dict, NamedTuple, Optional, Tuple, Type, Union
 
@@ -303,20 +305,35 @@ def _unescaped(value: str) -> Optional[str]:
         raise _strange(value) from None
 
 
+def _linked(port: int, host: str, timeout: Optional[float], ssl: Optional[SSLContext]) -> socket.socket:
+    """A connection to a port, by TLS where there is a context for it."""
+    link = socket.create_connection((host, port), timeout)
+    try:
+        link.setsockopt(socket.IPPROTO_TCP, socket.TCP_NODELAY, 1)
+        return link if ssl is None else ssl.wrap_socket(link, server_hostname=host)
+    except BaseException:
+        link.close()
+        raise
+
+
 class Session:
     """A connection without the standard about it: a request is a line, and its reply a value.
 
     Whatever isn't a whole reply ends the connection, since no later reply could be told from the rest of this one.
     """
 
-    def __init__(self, port: int, host: str = "127.0.0.1", timeout: Optional[float] = None) -> None:
+    def __init__(
+        self, port: int, host: str = "127.0.0.1", timeout: Optional[float] = None, *, ssl: Optional[SSLContext] = None
+    ) -> None:
         """Connects to a served ifdb. `timeout` is in seconds, for connecting and for each wait for more of a reply: also for the
-        first reply of all, which comes when a worker of the server is free. Raises OperationalError where nobody serves there."""
+        first reply of all, which comes when a worker of the server is free. With `ssl` it speaks TLS, to what stands in front of
+        the server; a context that checks names, as that of `ssl.create_default_context`, wants a certificate for `host`.
+
+        Raises OperationalError where nobody serves there, or not by that TLS."""
         try:
-            self._socket = socket.create_connection((host, port), timeout)
+            self._socket = _linked(port, host, timeout, ssl)
         except OSError as fault:
             raise OperationalError(f"no connection to port {port} of {host}: {fault}") from fault
-        self._socket.setsockopt(socket.IPPROTO_TCP, socket.TCP_NODELAY, 1)
         self._lines = self._socket.makefile("rb")
         self._timeout = timeout
         self.is_open = True
@@ -336,6 +353,19 @@ class Session:
         if isinstance(told, Error):
             raise told
         return told
+
+    def has_ended(self) -> bool:
+        """Whether the session is over, or the other side has ended it since the last reply. It sends nothing."""
+        if self.is_open:
+            self._socket.settimeout(0)
+            try:
+                self._socket.recv(1)  # (nothing comes unasked: this is the end, or no ifdb)
+                self._drop()
+            except (BlockingIOError, SSLWantReadError):
+                self._socket.settimeout(self._timeout)
+            except OSError:
+                self._drop()
+        return not self.is_open
 
     def close(self) -> None:
         """Ends the session by BYE, if it isn't over. What a transaction that is open wrote is dropped."""
@@ -514,8 +544,8 @@ def _select(request: str) -> _Select:
     return _Select(items, sources)
 
 
-def _columns_of_table(request: str) -> Dict[str, Kind]:
-    """The columns of the table that a request makes."""
+def columns_of_table(request: str) -> Dict[str, Kind]:
+    """The columns of the table that a request makes. The server must have accepted the request."""
     members = _members(_tokens(request)[4:])
     return {
         member[0].text: str if member[1].text == "text" else int
@@ -537,6 +567,27 @@ def item_names(request: str) -> Optional[list[str]]:
 _ON_ROWS = frozenset({"SELECT", "INSERT", "UPDATE", "DELETE"})
 
 
+class _Way(NamedTuple):
+    """How sessions of a principal begin."""
+
+    port: int
+    host: str
+    timeout: Optional[float]
+    ssl: Optional[SSLContext]
+    hello: str
+
+    def session(self, *requests: str) -> Session:
+        """A session that has said HELLO, and then these requests."""
+        session = Session(self.port, self.host, self.timeout, ssl=self.ssl)
+        try:
+            for request in (self.hello, *requests):
+                session.ask(request)
+        except BaseException:
+            session.close()
+            raise
+        return session
+
+
 def connect(
     port: int,
     user: str,
@@ -544,23 +595,22 @@ def connect(
     host: str = "127.0.0.1",
     timeout: Optional[float] = None,
     *,
+    ssl: Optional[SSLContext] = None,
+    reconnect: bool = False,
     autocommit: bool = False,
     columns: Optional[Columns] = None,
 ) -> Connection:
     """Connects to a served ifdb as a principal, and says HELLO.
 
     `timeout` is in seconds, for connecting and for each wait for more of a reply. A server that has no worker free answers later,
-    so it counts for HELLO too. `columns` may be shared by connections to one server, which then needn't ask for kinds.
+    so it counts for HELLO too. With `ssl` it speaks TLS, as `Session` does. With `reconnect`, if the server ended the connection
+    while nobody asked and no transaction was open, the next request goes over a new one, at the same label: nothing of it was sent
+    before. A connection that is lost within a request is closed all the same, since nobody knows what became of that. `columns`
+    may be shared by connections to one server, which then needn't ask for kinds.
 
     Raises OperationalError where nobody serves there and where the key is wrong; ProgrammingError where `user` is no name."""
-    hello = f"HELLO {name(user)} KEY {literal(key)}"
-    session = Session(port, host, timeout)
-    try:
-        session.ask(hello)
-    except BaseException:
-        session.close()
-        raise
-    return Connection(session, user.lower(), autocommit, {} if columns is None else columns)
+    way = _Way(port, host, timeout, ssl, f"HELLO {name(user)} KEY {literal(key)}")
+    return Connection(way.session(), user.lower(), autocommit, {} if columns is None else columns, way if reconnect else None)
 
 
 class Connection:
@@ -587,11 +637,17 @@ class Connection:
     columns: Columns
     """What is known of tables and views: write into it, or hand it to `connect`, what the program knows."""
 
-    def __init__(self, session: Session, user: str, autocommit: bool, columns: Columns) -> None:
+    def __init__(
+        self, session: Session, user: str, autocommit: bool, columns: Columns, way: Optional[_Way] = None
+    ) -> None:
+        """A connection over a session that has said HELLO as `user`. It is made anew only where there is a way."""
         self.user = user
         self.autocommit = autocommit
         self.columns = columns
         self._session = session
+        self._way = way
+        self._labelling: Tuple[str, ...] = ()
+        """The last SET LABEL, if one was accepted."""
         self._kinds: Dict[Tuple[Tuple[str, ...], str], Kind] = {}
 
     @property
@@ -647,7 +703,7 @@ class Connection:
     def label(self) -> Set[str]:
         """The session's label, which the server is asked for. Setting it raises the label freely, and lowers it where the principal
         holds each tag that is given up: else it is refused by 8 NoAuthority (ProgrammingError) and stays."""
-        reply = self._session.ask("SHOW LABEL")
+        reply = self._tell("SHOW LABEL")
         assert isinstance(reply, Label)
         return frozenset(reply.tags)
 
@@ -655,7 +711,7 @@ class Connection:
     def label(self, tags: Set[str]) -> None:
         if isinstance(tags, str):
             raise ProgrammingError("a label is a set of tags, and no text")
-        self._session.ask(f"SET LABEL ({', '.join(name(tag) for tag in sorted(tags))})")
+        self._tell(f"SET LABEL ({', '.join(name(tag) for tag in sorted(tags))})")
 
     @contextmanager
     def at(self, *tags: str) -> Iterator[None]:
@@ -689,17 +745,27 @@ class Connection:
         """Asks a request of the program's, in a transaction if it is to be."""
         word = _first_word(request)
         if word in _ON_ROWS and not self.autocommit and not self.in_transaction:
-            self._session.ask("BEGIN")
-        reply = self._session.ask(request)
+            self._tell("BEGIN")
+        reply = self._tell(request)
         if word == "CREATE":
             self._enter(request)
+        return reply
+
+    def _tell(self, request: str) -> Reply:
+        """Asks a request, over a new session where there is a way and the old one ended while nobody asked."""
+        if self._way is not None and self.is_open and not self.in_transaction and self._session.has_ended():
+            self._kinds.clear()
+            self._session = self._way.session(*self._labelling)
+        reply = self._session.ask(request)
+        if _first_word(request) == "SET":
+            self._labelling = (request,)
         return reply
 
     def _enter(self, request: str) -> None:
         """Enters the columns of the table or view that was made."""
         made, relation = (token.text for token in _tokens(request)[1:3])
         if made == "table":
-            self.columns[relation] = _columns_of_table(request)
+            self.columns[relation] = columns_of_table(request)
         elif made == "view":
             self.columns[relation] = dict(self._described(request))
 
@@ -738,7 +804,7 @@ class Connection:
     def _asked_kind(self, among: Iterable[str], column: str) -> Kind:
         """What arithmetic with the column says of its kind. The condition holds for no row, so no row is looked at."""
         try:
-            self._session.ask(f"SELECT {column} + 0 FROM {', '.join(among)} WHERE 0 = 1")
+            self._tell(f"SELECT {column} + 0 FROM {', '.join(among)} WHERE 0 = 1")
         except ProgrammingError as refusal:
             if refusal.name != "TypeMismatch":
                 raise
@@ -871,3 +937,142 @@ class Cursor:
         begin = self._next
         self._next += count
         return self._rows[begin : self._next]
+
+
+# ---- A pool
+
+
+class _Over(Session):
+    """A session that is over: what a connection has once it was given back."""
+
+    def __init__(self) -> None:
+        self.is_open = self.in_transaction = False
+
+    def close(self) -> None:
+        """Does nothing."""
+
+
+class Pool:
+    """Connections of one principal, which threads take and give back:
+
+        with ifdb.Pool(7070, "ann", "the key of ann", size=4) as pool:
+            with pool.connection() as connection:         # nobody else has it
+                connection.cursor().execute("INSERT INTO visit VALUES (?, ?)", (10, "cough"))
+
+    Before a connection goes back it is rolled back, and its label set to the empty one. Where the principal may not lower the label
+    so far, the connection is closed: it has read what whoever takes it next must not tell. As a context manager the pool closes
+    behind the block."""
+
+    def __init__(
+        self,
+        port: int,
+        user: str,
+        key: str,
+        host: str = "127.0.0.1",
+        timeout: Optional[float] = None,
+        *,
+        size: int = 4,
+        ssl: Optional[SSLContext] = None,
+        autocommit: bool = False,
+        columns: Optional[Columns] = None,
+    ) -> None:
+        """A pool of at most `size` connections at a time, each made by `connect` once it is wanted. Each holds a worker of the
+        server, also while nobody has it. Raises ProgrammingError where `user` is no name or `size` isn't positive."""
+        if size < 1:
+            raise ProgrammingError(f"a pool of {size} connections has none")
+        self.user = user.lower()
+        self._way = _Way(port, host, timeout, ssl, f"HELLO {name(user)} KEY {literal(key)}")
+        self._size = size
+        self._autocommit = autocommit
+        self._columns: Columns = {} if columns is None else columns
+        self._kinds: Dict[Tuple[Tuple[str, ...], str], Kind] = {}
+        self._changed = threading.Condition()
+        """Guards what follows; told of each connection that is given back, and of the end."""
+        self._free: list[Session] = []
+        self._taken = 0
+        self._is_open = True
+
+    @contextmanager
+    def connection(self) -> Iterator[Connection]:
+        """A connection for a block, outside a transaction and at the empty label. The end of the block commits, or rolls back where
+        the block raised, and gives the connection back; from then on it is closed to who had it.
+
+        It waits for a free one, at most the `timeout` of the pool. Raises OperationalError where none came in that time and where
+        `connect` does, and InterfaceError where the pool is closed. What a commit may raise, the end of the block raises."""
+        connection = Connection(self._take(), self.user, self._autocommit, self._columns, self._way)
+        connection._kinds = self._kinds  # (so that each kind is asked for once)
+        try:
+            yield connection
+            if connection.is_open:
+                connection.commit()
+        finally:
+            self._give(connection)
+
+    def close(self) -> None:
+        """Closes the connections that nobody has, and the others once they are given back."""
+        with self._changed:
+            self._is_open = False
+            free, self._free = self._free, []
+            self._changed.notify_all()
+        for session in free:
+            session.close()
+
+    def __enter__(self) -> Pool:
+        return self
+
+    def __exit__(
+        self, kind: Optional[Type[BaseException]], fault: Optional[BaseException], trace: Optional[TracebackType]
+    ) -> None:
+        self.close()
+
+    def _take(self) -> Session:
+        """A session that nobody else has: one that was given back and goes on, else a new one."""
+        with self._changed:
+            is_in_time = self._changed.wait_for(self._has_room, self._way.timeout)
+            if not self._is_open:
+                raise InterfaceError("the pool is closed")
+            if not is_in_time:
+                raise OperationalError(f"none of {self._size} connections was free within {self._way.timeout} s")
+            self._taken += 1
+            session = self._free.pop() if self._free else None
+        try:
+            return self._way.session() if session is None or session.has_ended() else session
+        except BaseException:
+            self._forget()
+            raise
+
+    def _has_room(self) -> bool:
+        return not self._is_open or bool(self._free) or self._taken < self._size
+
+    def _give(self, connection: Connection) -> None:
+        """Takes a connection's session back, and closes it unless another may have it."""
+        session, connection._session = connection._session, _Over()
+        is_clear = False
+        try:
+            is_clear = _is_cleared(session)
+        finally:
+            if not is_clear:
+                session.close()
+            self._forget(session if is_clear else None)
+
+    def _forget(self, session: Optional[Session] = None) -> None:
+        """Notes that a session is no longer taken: it is free, if it goes on."""
+        with self._changed:
+            self._taken -= 1
+            keeps = session is not None and self._is_open
+            if session is not None and keeps:
+                self._free.append(session)
+            self._changed.notify()
+        if session is not None and not keeps:
+            session.close()
+
+
+def _is_cleared(session: Session) -> bool:
+    """Whether a session could be rolled back and come down to the empty label."""
+    try:
+        if session.in_transaction:
+            session.ask("ROLLBACK")
+        session.ask("SET LABEL ()")
+    except Error:
+        return False
+    return True

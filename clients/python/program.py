@@ -213,29 +213,49 @@ def connected(port: int) -> Session:
         return Session(link.makefile("wb"), link.makefile("rb"))
 
 
-class Server:
-    """`ifdb serve` at a free port, until the end of the `with` block."""
+class NotServing(OSError):
+    """A server ended, or told something else, before it listened."""
 
-    def __init__(self, workers: int = 8, links: int = 1_000_000, limit: int = 2**30) -> None:
+    def __init__(self, told: str, status: int) -> None:
+        super().__init__(f"{path()} told {told!r} in place of LISTENING, and ended with status {status}")
+        self.status = status
+
+
+class Server:
+    """`ifdb serve`, or another command that serves, at a free port, until the end of the `with` block."""
+
+    def __init__(
+        self, workers: int = 8, links: int = 1_000_000, limit: int = 2**30, command: Sequence[Word] = ("serve",), quiet: bool = False
+    ) -> None:
+        """Waits until it listens, and raises NotServing where it doesn't. If `quiet`, what it says on standard error is dropped."""
         self.port = free_port()
         words = [f"--port={self.port}", f"--workers={workers}", f"--links={links}", f"--limit={limit}"]
-        self._process = subprocess.Popen([path(), "serve", *words], stdout=subprocess.PIPE, text=True)
+        said = subprocess.DEVNULL if quiet else None
+        self._process = subprocess.Popen([path(), *command, *words], stdout=subprocess.PIPE, stderr=said, text=True)
         self.pid = self._process.pid
         assert self._process.stdout is not None
         told = self._process.stdout.readline()
         if told != f"LISTENING {self.port}\n":
+            with contextlib.suppress(subprocess.TimeoutExpired):
+                self._process.wait(PATIENCE)
             self.stop()
-            raise OSError(f"{path()} told {told!r} in place of LISTENING {self.port}")
+            raise NotServing(told, self._process.returncode)
 
     def summary(self, patience: float = PATIENCE) -> Dict[str, int]:
         """What the server counts at its end, which comes when it has served all its connections."""
         told, _ = self._process.communicate(timeout=patience)
         return {word: int(number) for word, number in map(str.split, told.splitlines())}
 
+    def status(self, patience: float = PATIENCE) -> int:
+        """The status with which it ends."""
+        return self._process.wait(patience)
+
     def stop(self) -> None:
-        """Ends the server at once."""
+        """Ends the server at once, if it hasn't ended."""
         self._process.kill()
-        self._process.communicate()
+        self._process.wait()
+        if self._process.stdout is not None:
+            self._process.stdout.close()
 
     def __enter__(self) -> Server:
         return self

@@ -16,6 +16,8 @@ import unittest
 from typing import Dict, List, Optional, Tuple
 from unittest import mock
 
+import ifdb
+import ifdb_csv
 import ifdb_shell
 import program
 
@@ -51,6 +53,64 @@ class Showing(unittest.TestCase):
         self.assertEqual(ifdb_shell.pointed("SHOW", 4), "  SHOW\n      ^")
         self.assertEqual(ifdb_shell.pointed("SELECT '\u6f22\u00e9', #", 16), "  SELECT '\u6f22\u00e9', #\n                ^")
         self.assertEqual(ifdb_shell.pointed("a\t#", 2), "  a\\t#\n     ^")
+
+
+class Csv(unittest.TestCase):
+    """A row as a line of CSV, there and back."""
+
+    ROWS: List[Tuple[str, List[Optional[str]], List[ifdb.Value]]] = [
+        ('1,"x"', ["1", "x"], [1, "x"]),
+        ('-7,"a, ""b"" \\t"', ["-7", 'a, "b" \\t'], [-7, 'a, "b" \\t']),
+        ('0,""', ["0", ""], [0, ""]),
+        (",", [None, None], [None, None]),
+        ('9,"\u6f22\r"', ["9", "\u6f22\r"], [9, "\u6f22\r"]),
+    ]
+
+    def test_there_and_back(self) -> None:
+        for line, fields, values in self.ROWS:
+            with self.subTest(line=line):
+                self.assertEqual(ifdb_csv.written(values), line)
+                for end in ("", "\n", "\r\n"):
+                    self.assertEqual(ifdb_csv.fields_of(line + end), fields)
+                self.assertEqual(list(map(ifdb_csv.value_of, fields, (int, str))), values)
+
+    def test_what_others_write(self) -> None:
+        self.assertEqual(ifdb_csv.fields_of("a b,\"7\",'x'\r\n"), ["a b", "7", "'x'"])
+        self.assertEqual(ifdb_csv.fields_of(""), [None])
+        for line in ('"a', 'a"', '"a"b', '1,"a""', '"a" ,1'):
+            with self.subTest(line=line), self.assertRaises(ifdb_csv.BadLine):
+                ifdb_csv.fields_of(line)
+        for field in ("x", "", "1.5"):
+            with self.subTest(field=field), self.assertRaises(ifdb_csv.BadLine):
+                ifdb_csv.value_of(field, int)
+
+
+class Completing(unittest.TestCase):
+    """What Tab makes of what was typed."""
+
+    def test_the_words_are_those_of_the_grammar(self) -> None:
+        page = (program.ROOT / "docs/GRAMMAR.md").read_text()
+        reserved = page.partition("These are reserved:\n\n")[2].partition("\n\n")[0].split()
+        self.assertEqual(ifdb_shell.WORDS, [word for word in reserved if word not in ("CALL", "CLOSURE")])
+
+    def test_words_names_and_commands(self) -> None:
+        completer = ifdb_shell.Completer([".read", ".label"])
+        completer.learn("INSERT INTO Note (id, body) VALUES (1, 'nothing it''s'), (2, NULL)")
+        completer.learn("SELECT n.id FROM note n WHERE body = 'nought")
+        cases = [
+            ("SEL", "", ["SELECT "]),
+            ("gra", "", ["grant "]),
+            ("no", "SELECT id FROM ", ["not ", "note"]),
+            ("NO", "SELECT id FROM ", ["NOT ", "note"]),
+            ("n.", "SELECT ", ["n.body", "n.id", "n.n", "n.note"]),
+            ("n.b", "SELECT ", ["n.body"]),
+            (".l", "", [".label "]),
+            ("n", ".dump ", ["n", "note"]),
+            (".x", "", []),
+        ]
+        for text, before, found in cases:
+            with self.subTest(text=text):
+                self.assertEqual(completer.matches(text, before), found)
 
 
 class OverAServer(unittest.TestCase):
@@ -161,6 +221,57 @@ class Piped(OverAServer):
         words = [sys.executable, SHELL, str(self.server.port), "admin", str(inner)]
         ran = subprocess.run(words, capture_output=True, text=True, timeout=program.PATIENCE, env=environment("admin"))
         self.assertEqual((ran.returncode, ran.stdout), (1, "{}\n{}\nOK\n{ann}\n"))
+
+    def test_rows_go_out_and_come_back(self) -> None:
+        file = self.folder / "rows.csv"
+        file.write_bytes(b'\xef\xbb\xbfbody,id\r\nflu,-7\r\n"a, ""b""",8\r\n\r\n"",9\r\n,10\r\n')
+        made = "CREATE TABLE went (id INT, body TEXT, PRIMARY KEY (id))\n"
+        status, out, err = self.shell(f"{made}.import {file} went\n.dump went\n.dump went body\n")
+        rows = ['-7,"flu"', '8,"a, ""b"""', '9,""', "10,"]
+        told = ["OK", "OK, 4 rows", "id,body", *rows, "body", *(row.partition(",")[2] for row in rows), ""]
+        self.assertEqual((status, out, err), (0, "\n".join(told), ""))
+        file.write_text("\n".join(told[2:7]))
+        again = self.shell(f"DELETE FROM went\n.import {file} went\n.dump went id, body\n")
+        self.assertEqual(again, (0, "\n".join(["OK, 4 rows", *told[1:7], ""]), ""))
+
+    def test_what_is_no_table_of_rows(self) -> None:
+        file = self.folder / "rows.csv"
+        cases = [
+            ("id,body\n" + "".join(f"{it},x\n" for it in range(100, 220)) + "107,x\n", "122: ERR 13 DuplicateKey"),
+            ("id,body\n30,x\nx,y\n", "3: 'x' is no number"),
+            ("id,body\n30,x\n31\n", "3: 1 values, and 2 columns"),
+            ('id,body\n30,"x\ny"\n', "2: a quote isn't closed"),
+            ("id,body\n30,x\n9223372036854775808,x\n", "3: 9223372036854775808 is no 64-bit number"),
+            ("id,nothing\n30,x\n", "1: ERR 6 UnknownName"),
+            ("id,no name\n30,x\n", "1: 'no name' is no name"),
+            ("id\n30\n", "2: ERR 11 TypeMismatch"),
+            ("", "1: '' is no name"),
+        ]
+        for text, said in cases:
+            file.write_text(text)
+            with self.subTest(said=said):
+                status, out, err = self.shell(f".import {file} note\n.dump note id\n")
+                self.assertEqual((status, out), (1, "id\n1\n20\n"))
+                self.assertIn(f"stdin:1: {file}:{said}", err)
+        status, out, err = self.shell(f".import {self.folder}/none note\n.import\n.dump\n.dump none\n.dump note x\n")
+        self.assertEqual((status, out), (1, ""))
+        self.assertEqual(
+            [line.partition(": ")[2] for line in err.splitlines()],
+            [
+                f"can't read {self.folder}/none: No such file or directory",
+                "can't read nothing: Is a directory",
+                "the server doesn't tell which columns a table has: .dump TABLE COLUMN..",
+                "the server doesn't tell which columns none has: .dump TABLE COLUMN..",
+                "ERR 6 UnknownName: a name stands for nothing of the kind wanted there",
+            ],
+        )
+
+    def test_rows_that_come_in_an_open_transaction(self) -> None:
+        file = self.folder / "rows.csv"
+        file.write_text("id,body\n30,x\n31,x\n30,x\n")
+        status, out, err = self.shell(f"BEGIN\n.import {file} note\n.dump note id\nROLLBACK\n.dump note id\n")
+        self.assertEqual((status, out), (1, "OK\nid\n1\n20\n30\n31\nOK\nid\n1\n20\n"))
+        self.assertIn(f"stdin:2: {file}:4: ERR 13 DuplicateKey", err)
 
     def test_all_columns_go_by_their_places(self) -> None:
         _, out, _ = self.shell("SELECT * FROM note WHERE id = 1\n")
@@ -301,6 +412,31 @@ class AtATerminal(OverAServer):
         shell.type("SHOW LABEL\n")
         shell.expect("{}\nann {}> ")
         shell.type("\x04")
+        self.assertEqual(shell.status(), 0)
+
+    def test_tab_completes(self) -> None:
+        shell = self.terminal()
+        shell.expect("> ")
+        shell.type("SHO\tLAB\t\n")
+        shell.expect("{}\nann {}> ")
+        shell.type(".tim\toff\n")
+        shell.expect("times are not shown\nann {}> ")
+        shell.type("SELECT body FROM note WHERE id = 1\n")
+        shell.expect("cough\n(1 row)\n\nann {}> ")
+        shell.type("SEL\tid FR\tnote WH\tbo\t = 'cough'\n")
+        shell.expect(" 1\n(1 row)\n\nann {}> ")
+        shell.type("\x04")
+        self.assertEqual(shell.status(), 0)
+
+    def test_an_import_tells_how_far_it_is(self) -> None:
+        file = self.folder / "rows.csv"
+        file.write_text("id,body\n" + "".join(f"{it},x\n" for it in range(100, 350)))
+        shell = self.terminal()
+        shell.expect("> ")
+        shell.type(f".label ann\n.timing off\n.import {file} note\n")
+        shell.expect(f"{file}: 100 rows")
+        shell.expect("OK, 250 rows\nann {ann}> ")
+        shell.type("DELETE FROM note WHERE id >= 100\n\x04")
         self.assertEqual(shell.status(), 0)
 
     def test_a_history_without_keys(self) -> None:

@@ -1,0 +1,386 @@
+#!/usr/bin/env python3
+"""Whether what `ifdb host` acknowledges is there after it was killed, and what it makes of a file that is cut or changed.
+
+    tests/host_kills.py [--kills N] [--clients 1,4,63] [--every N] [--seed S] [--folder DIR]
+
+The variable IFDB names another program than crates/ifdb/out/ifdb.
+
+Three parts, each over a file of its own in DIR, a new folder if it isn't named:
+
+- **Kills.** Each round starts the program over the same file and looks at what is there. Then clients, as many as the list says by
+  turns, insert numbered rows, every other one at a secret label, and move amounts between accounts in transactions, until the program
+  gets SIGKILL at a random moment; at times that is while it starts. The next round has to find every row that was acknowledged, of
+  what was sent and not answered at most the last of each client, nothing else, and on each account what the moves that are there leave.
+- **Damage.** A small file is cut at each byte, and each byte of it is changed, or each Nth one. The program has to refuse it with status 8 and leave it as
+  it is, or to show what was there after one of its steps: all of those before the damage at least.
+- **Two at once.** A second start over a file that is served ends with a status other than 0, and the first one goes on.
+
+The status is 1 where something was lost, 0 where not, and 69 where nothing was tried: the program isn't there, or has no such command.
+"""
+
+from __future__ import annotations
+
+import argparse
+import pathlib
+import random
+import subprocess
+import sys
+import tempfile
+import threading
+import time
+from typing import Counter, Dict, List, NamedTuple, Optional, Sequence, Set, Tuple, Union
+
+sys.path.append(str(pathlib.Path(__file__).resolve().parents[1] / "clients/python"))
+import program  # noqa: E402
+
+NOT_HERE = 69
+DAMAGED = 8
+HELLO = "HELLO admin KEY 'admin'"
+ACCOUNTS, AMOUNT = 10, 1000
+LONGEST_LIFE = 0.25
+"""Seconds at most from the clients' start to the kill."""
+KILLED_EARLY = 0.15
+"""In what part of the rounds the program is killed while it starts."""
+
+
+class Lost(Exception):
+    """What is there isn't what has to be."""
+
+
+def host(file: pathlib.Path, workers: int, links: int = 1_000_000, quiet: bool = False) -> program.Server:
+    return program.Server(workers=workers, links=links, command=("host", "--file", file), quiet=quiet)
+
+
+def told(session: program.Session, request: str) -> List[List[str]]:
+    """The rows of a SELECT."""
+    return [row.split("\t") for row in session.answer(request)[1:]]
+
+
+# ---- Kills
+
+
+class Entry(NamedTuple):
+    """A row that a client inserts."""
+
+    client: int
+    number: int
+
+    @property
+    def label(self) -> str:
+        """The label at which it stands: every other client writes secrets."""
+        return "{secret}" if self.client % 2 else "{}"
+
+
+class Move(NamedTuple):
+    """An amount that a client moves from an account to another."""
+
+    client: int
+    number: int
+    source: int
+    target: int
+    amount: int
+
+
+Work = Union[Entry, Move]
+
+
+class Client(threading.Thread):
+    """A client of one round: what was acknowledged to it, and what it had sent last without an answer."""
+
+    def __init__(self, port: int, client: int, numbers: Counter[int], seed: int) -> None:
+        super().__init__()
+        self.done: List[Work] = []
+        self.unanswered: Optional[Work] = None
+        self.fault: Optional[str] = None
+        self._port = port
+        self._client = client
+        self._numbers = numbers
+        self._rng = random.Random(seed)
+
+    def run(self) -> None:
+        try:
+            with program.connected(self._port) as session:
+                session.answer(HELLO)
+                if self._client % 2:
+                    session.answer("SET LABEL (secret)")
+                while True:
+                    if self._client % 2 or self._rng.random() < 0.5:
+                        self._insert(session)
+                    else:
+                        self._move(session)
+        except (program.Ended, OSError):
+            pass  # (of the kill)
+        except program.Refused as refusal:
+            self.fault = str(refusal)
+
+    def _number(self) -> int:
+        """A number that the client has given to nothing yet. Each client counts for itself."""
+        self._numbers[self._client] += 1
+        return self._numbers[self._client]
+
+    def _insert(self, session: program.Session) -> None:
+        entry = Entry(self._client, self._number())
+        self._send(session, f"INSERT INTO entry VALUES ({entry.client}, {entry.number})", entry)
+
+    def _move(self, session: program.Session) -> None:
+        source, target = self._rng.sample(range(ACCOUNTS), 2)
+        move = Move(self._client, self._number(), source, target, self._rng.randint(1, 9))
+        session.answer("BEGIN")
+        session.answer(f"UPDATE account SET amount = amount - {move.amount} WHERE id = {source}")
+        session.answer(f"UPDATE account SET amount = amount + {move.amount} WHERE id = {target}")
+        session.answer(f"INSERT INTO move VALUES ({', '.join(map(str, move))})")
+        try:
+            self._send(session, "COMMIT", move)
+        except program.Refused as refusal:
+            if refusal.name != "Conflict":
+                raise
+            self.unanswered = None
+
+    def _send(self, session: program.Session, request: str, work: Work) -> None:
+        """Sends what commits some work."""
+        self.unanswered = work
+        session.answer(request)
+        self.unanswered = None
+        self.done.append(work)
+
+
+class Ledger:
+    """What has to be there, over all rounds."""
+
+    def __init__(self) -> None:
+        self.there: Set[Work] = set()
+        self.sent_last: Set[Work] = set()
+        """What was sent and not answered in the last round."""
+        self.numbers: Counter[int] = Counter()
+        self.kept_unanswered = 0
+
+    def note(self, clients: Sequence[Client]) -> None:
+        """Takes in what the clients of a round were told."""
+        for client in clients:
+            if client.fault:
+                raise Lost(client.fault)
+            self.there.update(client.done)
+            if client.unanswered:
+                self.sent_last.add(client.unanswered)
+
+    def check(self, session: program.Session) -> None:
+        """Looks at what is there, from a session at the label of all secrets."""
+        rows = told(session, "SELECT client, number, LABEL OF entry FROM entry")
+        labels = {Entry(int(client), int(number)): label for client, number, label in rows}
+        moves = [Move(*map(int, row)) for row in told(session, "SELECT client, number, source, target, amount FROM move")]
+        found: Set[Work] = {*labels, *moves}
+        if len(found) != len(rows) + len(moves):
+            raise Lost("a row is there twice")
+        if self.there - found:
+            raise Lost(f"acknowledged, and not there: {sorted(self.there - found)[:5]}")
+        if found - self.there - self.sent_last:
+            raise Lost(f"there, and not sent, or known to be lost: {sorted(found - self.there - self.sent_last)[:5]}")
+        wrong = [(entry, label) for entry, label in labels.items() if label != entry.label]
+        if wrong:
+            raise Lost(f"at another label: {wrong[:5]}")
+        self._check_accounts(moves, {int(it): int(amount) for it, amount in told(session, "SELECT id, amount FROM account")})
+        self.kept_unanswered += len(found - self.there)
+        self.there, self.sent_last = found, set()
+
+    @staticmethod
+    def _check_accounts(moves: Sequence[Move], accounts: Dict[int, int]) -> None:
+        left = dict.fromkeys(range(ACCOUNTS), AMOUNT)
+        for move in moves:
+            left[move.source] -= move.amount
+            left[move.target] += move.amount
+        if accounts != left:
+            raise Lost(f"the accounts have {accounts}, and the moves leave {left}")
+
+
+SETTING = [
+    "CREATE TAG secret",
+    "CREATE TABLE entry (client INT, number INT, PRIMARY KEY (client, number))",
+    "CREATE TABLE move (client INT, number INT, source INT, target INT, amount INT, PRIMARY KEY (client, number))",
+    "CREATE TABLE account (id INT, amount INT, PRIMARY KEY (id))",
+    f"INSERT INTO account VALUES {', '.join(f'({it}, {AMOUNT})' for it in range(ACCOUNTS))}",
+]
+
+
+def killed_early(file: pathlib.Path, rng: random.Random) -> None:
+    """Kills the program while it starts, or soon behind that."""
+    words: List[program.Word] = ["host", "--file", file, f"--port={program.free_port()}"]
+    with subprocess.Popen([program.path(), *words], stdout=subprocess.DEVNULL) as process:
+        time.sleep(rng.uniform(0, 0.05))
+        process.kill()
+
+
+def try_kills(file: pathlib.Path, kills: int, sizes: Sequence[int], rng: random.Random) -> str:
+    """Kills the program so many times. What is to be told of it."""
+    ledger = Ledger()
+    slowest = 0.0
+    for round in range(kills + 1):
+        begun = time.monotonic()
+        with host(file, workers=max(sizes) + 1) as server:
+            slowest = max(slowest, time.monotonic() - begun)
+            with program.connected(server.port) as session:
+                session.answer(HELLO)
+                for request in SETTING if round == 0 else []:
+                    session.answer(request)
+                session.answer("SET LABEL (secret)")
+                ledger.check(session)
+            if round == kills:
+                break
+            clients = [Client(server.port, it, ledger.numbers, rng.randrange(2**32)) for it in range(sizes[round % len(sizes)])]
+            for client in clients:
+                client.start()
+            time.sleep(rng.uniform(0, LONGEST_LIFE))
+            server.stop()
+            for client in clients:
+                client.join()
+        ledger.note(clients)
+        if rng.random() < KILLED_EARLY:
+            killed_early(file, rng)
+    sent = sum(ledger.numbers.values())
+    return (
+        f"{kills} kills: {len(ledger.there):,} commits of {sent:,} tried are there, {ledger.kept_unanswered} of them unanswered before the"
+        f" kill; {file.stat().st_size:,} bytes, and {slowest:.2f} s for the slowest start"
+    )
+
+
+# ---- Damage
+
+State = Tuple[Tuple[str, ...], ...]
+"""What is told to some requests that tell what is there."""
+
+SHOWN = ["SET LABEL (secret)", "SELECT id, body, LABEL OF entry FROM entry", "SELECT id FROM other"]
+STEPS = [
+    ["CREATE TAG secret"],
+    ["CREATE TABLE entry (id INT, body TEXT, PRIMARY KEY (id))"],
+    ["INSERT INTO entry VALUES (1, 'one')"],
+    ["BEGIN", "INSERT INTO entry VALUES (2, 'two'), (3, NULL)", "UPDATE entry SET body = 'first' WHERE id = 1", "COMMIT"],
+    ["SET LABEL (secret)", "INSERT INTO entry VALUES (4, 'hidden')", "SET LABEL ()"],
+    ["DELETE FROM entry WHERE id = 2"],
+    ["CREATE TABLE other (id INT, PRIMARY KEY (id))"],
+    ["INSERT INTO other VALUES (7)"],
+]
+
+
+def state_at(port: int) -> State:
+    with program.connected(port) as session:
+        session.answer(HELLO)
+        state = tuple(tuple(session.ask(request)) for request in SHOWN)
+        session.answer("BYE")
+    return state
+
+
+class Front(NamedTuple):
+    """What is there after some steps, and how long the file is then."""
+
+    state: State
+    size: int
+
+
+def small(file: pathlib.Path) -> List[Front]:
+    """Makes a small file, and returns what was there before the steps and after each."""
+    fronts = []
+    steps: List[List[str]] = [[], *STEPS]
+    with host(file, workers=2) as server, program.connected(server.port) as session:
+        session.answer(HELLO)
+        for step in steps:
+            for request in step:
+                session.answer(request)
+            fronts.append(Front(state_at(server.port), file.stat().st_size))
+    return fronts
+
+
+def shown(file: pathlib.Path) -> Optional[State]:
+    """What the program shows of a file, or None where it refuses it, as it has to: with status 8, and leaving it as it is."""
+    before = file.read_bytes()
+    try:
+        with host(file, workers=1, links=1, quiet=True) as server:
+            state = state_at(server.port)
+            if server.status() != 0:
+                raise Lost(f"it ended with status {server.status()}")
+            return state
+    except program.NotServing as refusal:
+        if refusal.status != DAMAGED:
+            raise Lost(str(refusal)) from refusal
+        if file.read_bytes() != before:
+            raise Lost("a file that was refused was changed") from refusal
+        return None
+
+
+def try_damage(folder: pathlib.Path, every: int, rng: random.Random) -> str:
+    """Cuts and changes a small file at every so many bytes. What is to be told of it."""
+    file, copy = folder / "small", folder / "damaged"
+    fronts = small(file)
+    whole = file.read_bytes()
+    came: Counter[str] = Counter()
+    cuts = [(f"cut at byte {at}", whole[:at], at) for at in range(len(whole) + 1)]
+    changes = []
+    for at, byte in enumerate(whole):
+        other = (byte + rng.randrange(1, 256)) % 256
+        changes.append((f"byte {at} is {other} in place of {byte}", whole[:at] + bytes([other]) + whole[at + 1 :], at))
+    for what, damaged, at in cuts[::every] + changes[::every]:
+        copy.write_bytes(damaged)
+        state = shown(copy)
+        # The last byte of a front may be written again by the step behind it.
+        least = max((steps for steps, front in enumerate(fronts) if front.size <= at), default=0)
+        if state is None:
+            came["refused"] += 1
+        elif state in [front.state for front in fronts[least:]]:
+            came["read to a step before"] += 1
+        else:
+            raise Lost(f"{what} of {len(whole)}: it shows {state}, which was not there after {least} steps or later")
+    if shown(file) != fronts[-1].state:
+        raise Lost("the whole file doesn't show the last step")
+    tried = f"{len(cuts[::every])} cuts and {len(changes[::every])} changed bytes of {len(whole)}"
+    return f"{tried}: {', '.join(f'{count} {how}' for how, count in sorted(came.items()))}"
+
+
+# ---- Two at once
+
+
+def try_two(file: pathlib.Path) -> str:
+    with host(file, workers=2) as first, program.connected(first.port) as session:
+        session.answer(HELLO)
+        session.answer("CREATE TABLE entry (id INT, PRIMARY KEY (id))")
+        try:
+            host(file, workers=1, quiet=True).stop()
+        except program.NotServing as refusal:
+            status = refusal.status
+        else:
+            raise Lost("two programs serve one file")
+        if status == 0:
+            raise Lost("the second start ended with status 0")
+        session.answer("INSERT INTO entry VALUES (1)")
+    with host(file, workers=1) as again, program.connected(again.port) as session:
+        session.answer(HELLO)
+        if told(session, "SELECT id FROM entry") != [["1"]]:
+            raise Lost("what the first one kept isn't there")
+    return f"a second start over a served file ended with status {status}"
+
+
+def main() -> int:
+    words = argparse.ArgumentParser(description=__doc__, formatter_class=argparse.RawDescriptionHelpFormatter)
+    words.add_argument("--kills", type=int, default=300)
+    words.add_argument("--clients", type=lambda text: [int(it) for it in text.split(",")], default=[1, 4, 63])
+    words.add_argument("--every", type=int, default=1)
+    words.add_argument("--seed", type=int, default=1)
+    words.add_argument("--folder", type=pathlib.Path)
+    given = words.parse_args()
+    if not program.path().is_file() or b"--file" not in program.run("host").written:
+        print(f"host_kills: nothing was tried: {program.path()} isn't there, or has no command host", file=sys.stderr)
+        return NOT_HERE
+    rng = random.Random(given.seed)
+    folder: pathlib.Path = given.folder or pathlib.Path(tempfile.mkdtemp(prefix="ifdb-host-"))
+    try:
+        print(try_two(folder / "two"), flush=True)
+        print(try_damage(folder, given.every, rng), flush=True)
+        print(try_kills(folder / "kills", given.kills, given.clients, rng), flush=True)
+    except Lost as lost:
+        print(f"LOST: {lost} (seed {given.seed}, {folder})")
+        return 1
+    return 0
+
+
+if __name__ == "__main__":
+    start = time.monotonic()
+    status = main()
+    print(f"{time.monotonic() - start:.0f} seconds")
+    sys.exit(status)
