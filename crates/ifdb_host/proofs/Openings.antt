@@ -134,19 +134,28 @@ module _ {S D K : Type 0} (sites : site.Ghosts S D K) (doors : door.Ghosts D K) 
       → HostsSite sites doors sources sinks outputs s before after output output' (record { before = t; after = v; faults = m; faults_after = o }) end
   hosts_before outputs s before after output output' t u v m n o end k calm h titled = record {
     done = λ e. hosted_before _ s before after t u v m n o k calm (h.done e);
-    cut = λ e. ((h.cut e).0, elim (h.cut e).1 [
-      | inl idle ↦ inl (idle.0, idle.1, kept_before t u v [] k idle.2)
-      | inr hosted ↦ inr (hosted_before _ s before after t u v m n o k calm hosted)
-    ]);
-    disk = λ e. (subst (λ f. Rose f o) calm (h.disk e).0, elim (h.disk e).1 [
-      | inl none ↦ inl (none.0, unopened_before t u v k none.1)
-      | inr hosted ↦ inr (hosted_before _ s before after t u v m n o k calm hosted)
-    ]);
+    cut = λ e. (
+      (h.cut e).0,
+      elim (h.cut e).1 [
+        | inl idle ↦ inl (idle.0, idle.1, kept_before t u v [] k idle.2)
+        | inr hosted ↦ inr (hosted_before _ s before after t u v m n o k calm hosted)
+      ],
+    );
+    disk = λ e. (
+      subst (λ f. Rose f o) calm (h.disk e).0,
+      elim (h.disk e).1 [
+        | inl none ↦ inl (none.0, unopened_before t u v k none.1)
+        | inr hosted ↦ inr (hosted_before _ s before after t u v m n o k calm hosted)
+      ],
+    );
     site = λ e. let x = h.site e in (x.0, x.1, x.2.0, kept_before t u v [] k x.2.1);
-    memory = λ e. let x = h.memory e in (elim x.0 [
-      | inl unopened ↦ inl (unopened_before t u v k unopened)
-      | inr idle ↦ inr (kept_before t u v [] k idle)
-    ], x.1);
+    memory = λ e. let x = h.memory e in (
+      elim x.0 [
+        | inl unopened ↦ inl (unopened_before t u v k unopened)
+        | inr idle ↦ inr (kept_before t u v [] k idle)
+      ],
+      x.1,
+    );
     damaged = λ at e. let x = h.damaged at e in (x.0, unopened_before t u v k x.1, λ texts log file. x.2 texts log (file_behind t u texts log k file));
     other = λ e. absurd (titled e);
     output_later = h.output_later;
@@ -227,10 +236,13 @@ module _ (t u v : Option Clock) (size : ℕ) (first : List LogEntry) (m n : ℕ)
         → HostsSite sites doors sources sinks outputs s before after output output' whole end
     hosts_opened end h = record {
       done = λ e. hosted_opened _ (h.done e);
-      cut = λ e. ((h.cut e).0, elim (h.cut e).1 [
-        | inl idle ↦ inl (idle.0, idle.1, kept_opened [] idle.2)
-        | inr served ↦ inr (hosted_opened _ served)
-      ]);
+      cut = λ e. (
+        (h.cut e).0,
+        elim (h.cut e).1 [
+          | inl idle ↦ inl (idle.0, idle.1, kept_opened [] idle.2)
+          | inr served ↦ inr (hosted_opened _ served)
+        ],
+      );
       disk = λ e. (subst (λ f. Rose f m) calm (h.disk e).0, inr (hosted_opened _ (h.disk e).1));
       site = λ e. let x = h.site e in (x.0, x.1, x.2.0, kept_opened [] x.2.1);
       memory = λ e. let x = h.memory e in (inr (kept_opened [] x.0), x.1);

@@ -69,14 +69,13 @@ pub fn host<R: Threads + Wait + Sync, W: Sink, S: Site, D: Disk + Send + Drop>(
 }
 
 // The same of a disk that begins with the title.
-fn host_titled<B: Origin, R: Threads + Wait + Sync, W: Sink, S: Site, D: Disk + Send + Drop>(
-    rt: &R,
-    alloc: Global,
-    output: &mut W,
-    site: &mut S,
-    service: Service,
-    disk: D,
-) -> Hosted<D>
+fn host_titled<
+    B: Origin + Send + Sync,
+    R: Threads + Wait + Sync,
+    W: Sink,
+    S: Site,
+    D: Disk + Send + Drop,
+>(rt: &R, alloc: Global, output: &mut W, site: &mut S, service: Service, disk: D) -> Hosted<D>
     requires service { IsService service }
     requires begun { B.begun ≡ D.tells disk }
     requires titled { IsSettled IsLog (D.tells disk) }
@@ -97,8 +96,8 @@ fn host_titled<B: Origin, R: Threads + Wait + Sync, W: Sink, S: Site, D: Disk + 
 
 // The same of a database that was made again, whose log the type names.
 fn host_reopened<
-    N: Begins,
-    B: Origin,
+    N: Begins + Send + Sync,
+    B: Origin + Send + Sync,
     R: Threads + Wait + Sync,
     W: Sink,
     S: Site,
@@ -133,7 +132,14 @@ fn host_reopened<
 }
 
 // The same of a database that was opened.
-fn serve<N: Begins, B: Origin, R: Threads + Wait + Sync, W: Sink, S: Site, D: Disk + Send + Drop>(
+fn serve<
+    N: Begins + Send + Sync,
+    B: Origin + Send + Sync,
+    R: Threads + Wait + Sync,
+    W: Sink,
+    S: Site,
+    D: Disk + Send + Drop,
+>(
     rt: &R,
     alloc: Global,
     output: &mut W,
@@ -199,8 +205,8 @@ struct Visited<G, D> {
 
 // Serves each door in a thread of its own, and closes the database.
 fn visit<
-    N: Begins,
-    B: Origin,
+    N: Begins + Send + Sync,
+    B: Origin + Send + Sync,
     R: Threads + Wait + Sync,
     G: Door + Send + Drop,
     D: Disk + Send + Drop,
