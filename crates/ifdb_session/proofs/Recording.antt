@@ -1,10 +1,10 @@
 -- What turns record.
-use Rattle.std.proofs.Common.{◌≡◌, ℕ, Bool, true, false, List, [], ◌∷◌, ◌++◌, ◌∙◌, length, refl, sym, ap, subst, arith, cond, Option, Some, None}
+use Rattle.std.proofs.Common.{◌≡◌, ℕ, Bool, true, false, List, [], ◌∷◌, ◌++◌, ◌∙◌, length, refl, sym, ap, arith, cond, Option, Some, None}
 use Rattle.std.specs.Prelude.{option_to_list}
 use Rattle.std.proofs.lemmas.List.{append_assoc, append-nil, length-append}
 use Rattle.ifdb_redo.specs.declared.record.RedoRecord.{RedoRecord}
 use Rattle.ifdb_model.specs.Log.{Entry as LogEntry}
-use Rattle.ifdb_model.specs.Step.{Reader, Outcome, ask}
+use Rattle.ifdb_model.specs.Step.{Reader, ask}
 use Rattle.ifdb_model.specs.Run.{State, Step, session_of, with_outcome, opens, asks, refused, long, stray, leaves, next, run}
 use Rattle.ifdb_restore.specs.Redone.{recorded, records_at, records}
 use Rattle.ifdb_db.specs.Reading.{read_line}

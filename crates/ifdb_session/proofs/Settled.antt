@@ -1,21 +1,19 @@
 -- What was said of a line still holds once its connection has waited: others alone may have added entries.
-use Rattle.std.proofs.Common.{◌≡◌, ℕ, Bool, true, false, List, [], ◌∷◌, ◌++◌, ◌∙◌, length, refl, sym, ap, subst}
+use Rattle.std.proofs.Common.{◌≡◌, ℕ, Bool, true, false, List, ◌∙◌, length, refl, sym, ap, subst}
 use Rattle.std.proofs.lemmas.List.{append-nil}
 use Rattle.ifdb_turn.specs.declared.turnstile.Turnstile.{Turnstile}
 use Rattle.ifdb_turn.specs.declared.turnstile.Pass.{Pass}
 use Rattle.ifdb_turn.specs.Histories.{NoRootsFrom}
 use Rattle.ifdb_turn.specs.Passes.{history, places}
 use Rattle.ifdb_history.specs.declared.entry.Entry.{Entry}
-use Rattle.ifdb_history.specs.History.{IsRight}
 use Rattle.ifdb_history.specs.Lines.{lines_of, lines_with}
 use Rattle.ifdb_history.proofs.Others.{kept_among_others}
 use Rattle.ifdb_history.proofs.Entries.{entries_later}
 use Rattle.ifdb_history.proofs.Over.{shut_on}
 use Rattle.ifdb_session.specs.declared.seat.Seat.{Seat}
-use Rattle.ifdb_session.specs.Closings.{AsksBye}
 use Rattle.ifdb_session.specs.Acknowledged.{sources_of}
-use Rattle.ifdb_session.specs.Passes.{Sees, Adds, Asks}
-use Rattle.ifdb_session.specs.Seats.{work_of, lines_in, IsToldIn, IsSeated, IsGone}
+use Rattle.ifdb_session.specs.Passes.{Sees, Asks}
+use Rattle.ifdb_session.specs.Seats.{lines_in, IsToldIn, IsSeated, IsGone}
 use Rattle.ifdb_session.proofs.MayAdd.{seat_found}
 use Rattle.ifdb_session.proofs.Passes.{sees_on}
 use Rattle.ifdb_session.proofs.Serving.{turn_later}

@@ -4,6 +4,7 @@ use Rattle.std.specs.List.{flat_map}
 use Rattle.ifdb_redo.specs.declared.record.RedoRecord.{RedoRecord}
 use Rattle.ifdb_log.specs.Pieces.{pieces, size_of}
 use Rattle.ifdb_durable.specs.Queues.{Queued, all_of, free_of}
+use Rattle.ifdb_durable.specs.declared.naming.Naming as naming
 use Rattle.ifdb_durable.specs.declared.view.Told.{Told}
 use Rattle.ifdb_durable.specs.Told.{Begins, kept_by}
 use Rattle.ifdb_durable.specs.Groups.{IsMember, shares_of}
@@ -23,23 +24,23 @@ HasRoomFor q text = size_of (length text) ≤ free_of q
 abbrev pub count_of : List (List ℕ) → ℕ
 count_of texts = length (flat_map pieces texts)
 
-module _ {B D : Type 0} where
+module _ {B D : Type 0} {named : naming.Ghosts B} where
   -- the thread may wait: its pass is one to the writer that all threads share
-  abbrev pub IsReady : Durable B D → Type 0
+  abbrev pub IsReady : Durable B D named → Type 0
   IsReady s = IsMember s.group.now.writer s.member
 
   -- it was told of an append behind which so many records are on the disk, or more
-  abbrev pub KnowsOnDisk : Durable B D → ℕ → Type 0
+  abbrev pub KnowsOnDisk : Durable B D named → ℕ → Type 0
   KnowsOnDisk s n = (receipt : Told D) × Begins receipt s.member.receipt × (n ≤ length (kept_by receipt))
 
   -- it was told that the disk has failed
-  abbrev pub KnowsFailed : Durable B D → Type 0
+  abbrev pub KnowsFailed : Durable B D named → Type 0
   KnowsFailed s = s.member.receipt.has_failed ≡ true
 
   -- the second is at the same writer, and was told all that the first one was
-  abbrev pub GoesOn : Durable B D → Durable B D → Type 0
+  abbrev pub GoesOn : Durable B D named → Durable B D named → Type 0
   GoesOn s t = (t.group ≡ s.group) × Begins s.member.receipt t.member.receipt
 
   -- it has so many shares of the writer
-  abbrev pub HasShares : Durable B D → ℕ → Type 0
+  abbrev pub HasShares : Durable B D named → ℕ → Type 0
   HasShares s n = shares_of s.member ≡ n

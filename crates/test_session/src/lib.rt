@@ -1,5 +1,7 @@
-//! Tests of `serve_link`: connections in memory over one room.
+//! Tests of `serve_link`: connections in memory over one room, and over a room that records in a journal.
 #![tactic(auto)]
 
+#[cfg(test)]
+mod kept;
 #[cfg(test)]
 mod tests;

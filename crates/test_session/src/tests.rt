@@ -11,7 +11,12 @@ use std::test::Fail;
 const ROOM: usize = 4096;
 
 // A link that gives these bytes in pieces of 7 and takes 4096. Its calls of these numbers fail.
-fn link_of(alloc: Global, input: &str, reads: &[u64], writes: &[u64]) -> Result<MemoryLink, Fail> {
+pub(crate) fn link_of(
+    alloc: Global,
+    input: &str,
+    reads: &[u64],
+    writes: &[u64],
+) -> Result<MemoryLink, Fail> {
     let bytes = Vec::from_slice(alloc, input.as_bytes())?;
     Ok(MemoryLink {
         source: MemorySource::new(bytes, 7, reads.to_vec(alloc)?),

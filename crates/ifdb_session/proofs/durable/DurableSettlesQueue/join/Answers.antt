@@ -1,6 +1,6 @@
 use Rattle.std.proofs.Common.{arith, refl}
 use Rattle.ifdb_session.proofs.Sharing.{one_group, one_writer}
-use Rattle.ifdb_session.proofs.durable.DurableSettles.join.Goals as goal
+use Rattle.ifdb_session.proofs.durable.DurableSettlesQueue.join.Goals as goal
 
 pub join-requires-clause-other : goal.join-requires-clause-other
 join-requires-clause-other g c =

@@ -1,6 +1,6 @@
 use Rattle.std.proofs.Common.{arith, refl}
 use Rattle.ifdb_session.proofs.Sharing.{told_as_much}
-use Rattle.ifdb_session.proofs.durable.DurableSettles.split.Goals as goal
+use Rattle.ifdb_session.proofs.durable.DurableSettlesQueue.split.Goals as goal
 
 pub split-requires-clause-shares : goal.split-requires-clause-shares
 split-requires-clause-shares g c = let is = c.requires.shares.1 in omega (arith, is)

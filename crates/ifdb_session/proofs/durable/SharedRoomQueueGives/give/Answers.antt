@@ -2,7 +2,7 @@ use Rattle.std.proofs.Common.{sym, subst}
 use Rattle.ifdb_session.specs.Durable.{HasRecords}
 use Rattle.ifdb_session.specs.Records.{records_of}
 use Rattle.ifdb_session.proofs.Queueing.{records_taken}
-use Rattle.ifdb_session.proofs.durable.SharedRoomGives.give.Goals as goal
+use Rattle.ifdb_session.proofs.durable.SharedRoomQueueGives.give.Goals as goal
 
 pub returns-clause-stands : goal.returns-clause-stands
 returns-clause-stands g c = λ h s.
