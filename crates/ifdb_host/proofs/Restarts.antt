@@ -27,7 +27,7 @@ use Rattle.ifdb_host.proofs.Titles.{IsTitle, title_of, title_then}
 
 -- ---- a file that restores a log
 
-some_or : {X : Type 0} → X → Option X → X
+abbrev some_or : {X : Type 0} → X → Option X → X
 some_or x None = x
 some_or x (Some y) = y
 

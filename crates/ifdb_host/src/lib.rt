@@ -10,5 +10,5 @@ mod laws;
 mod reopening;
 
 pub use database::{Closed, Database};
-pub use laws::files_are_restarted;
-pub use reopening::{NotReopened, Reopened, reopen};
+pub use laws::{files_are_restarted, title_is_a_file};
+pub use reopening::{Means, NotReopened, Reopened, reopen};
