@@ -63,7 +63,7 @@ shut_leaves None u present short moments = tt
 shut_leaves (Some c) u present short moments =
     let old = Some c in
     leaves_on old (goes synced old) u (IsOldOrShort old) (sync_leaves old present)
-    (leaves_weaker (goes synced old) u (Torn c.now.bytes 0 1) (IsOldOrShort old) (λ image torn. inr (omega (arith, torn.no_longer, short))) (moments c.now.bytes refl))
+    (leaves_weaker (goes synced old) u (Torn c.now.bytes 0 1) (IsOldOrShort old) (λ image torn. inr (short, omega (arith, torn.no_longer, short))) (moments c.now.bytes refl))
 
 pub told_of : (t u : Option Clock) (P Q : Shown → Type 0) → u ≡ t → Now u P → ((s : Shown) → P s → Q s) → Now t Q
 told_of None u P Q is told imply = tt

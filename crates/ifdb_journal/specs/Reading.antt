@@ -52,9 +52,9 @@ Holds (Some c) rs at = (bytes : List ℕ) × (c.now ≡ settled bytes) × IsEnd 
 abbrev pub IsReady : Option Clock → ℕ → Type 0
 IsReady t at = (rs : List Record) × Holds t rs at
 
--- an image is one of those at a start, or too short for a record
+-- an image is one of those at a start, or too short for a record where the disk was so too
 abbrev pub IsOldOrShort : Option Clock → List ℕ → Type 0
-IsOldOrShort old image = Now old (λ s. IsImage s image ⊎ (length image ≤ 1))
+IsOldOrShort old image = Now old (λ s. IsImage s image ⊎ ((length s.bytes ≤ 1) × (length image ≤ 1)))
 
 -- a disk's bytes spell what they spelled, as far as they do
 abbrev pub SpellsSame : Option Clock → Option Clock → Type 0

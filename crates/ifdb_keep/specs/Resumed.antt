@@ -41,8 +41,8 @@ AllHave rs t = Now t (λ s. (image : List ℕ) → IsImage s image → ReadsAs r
 abbrev pub HasBegun : List Record → List Record → List ℕ → Type 0
 HasBegun rs more image = ReadsAs rs image ⊎ ((n : ℕ) × ReadsAs (front_of rs ++ take n more) image)
 
--- The journal was read to its end: it had these records, and wasn't damaged. Until then each image was one of those at the start or
--- too short for a record; from then on each reads whole, as these records, and may have others behind them.
+-- The journal was read to its end: it had these records, and wasn't damaged. Until then each image was one of those at the start or,
+-- where the disk was so too, too short for a record; from then on each reads whole, as these records, and may have others behind them.
 pub record Journaled (rs more : List Record) (old new : Option Clock) : Type 0 where
   pub spelled : SpellsWhole old rs
   pub mid : Option Clock
@@ -69,7 +69,7 @@ pub record Began (old new : Option Clock) (room : Hall) (at : ℕ) : Type 0 wher
   pub holds : Holds new (front_of before) at
   pub stands : StandsFor room (begun before)
 
--- The journal was not read to its end: each image is one of those at the start or too short for a record.
+-- The journal was not read to its end: each image is one of those at the start or, where the disk was so too, too short for a record.
 abbrev pub IsUnread : Option Clock → Option Clock → Type 0
 IsUnread old new = Leaves old new (IsOldOrShort old)
 

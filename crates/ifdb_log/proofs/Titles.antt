@@ -141,8 +141,10 @@ pub sync_made : (t : Option Clock) → Now t (λ s. IsImage s s.bytes) → Leave
 sync_made None present = tt
 sync_made (Some c) present = (synced c.now ∷ [], refl, ((λ image left. inl (subst (IsImage c.now) (sym (settled_only c.now.bytes image left)) present)), tt))
 
-pub made_leaves : (t u v : Option Clock) → Leaves t u (IsOldOrMade t) → Leaves u v IsNewOrTitle → Leaves t v (IsOldOrMade t)
-made_leaves t u v first second = leaves_on t u v (IsOldOrMade t) first (leaves_weaker u v IsNewOrTitle (IsOldOrMade t) (λ image is. inr is) second)
+pub made_leaves : (t u v : Option Clock) → Now t (λ s. IsNew s.bytes) → Leaves t u (IsOldOrMade t) → Leaves u v IsNewOrTitle → Leaves t v (IsOldOrMade t)
+made_leaves None u v new first second = tt
+made_leaves (Some c) u v new first second =
+    leaves_on (Some c) u v (IsOldOrMade (Some c)) first (leaves_weaker u v IsNewOrTitle (IsOldOrMade (Some c)) (λ image is. inr (new, is)) second)
 
 -- after a sync the bytes are what they were
 pub sync_settled : (t u : Option Clock) (P : List ℕ → Type 0) → u ≡ goes synced t → Now t (λ s. P s.bytes) → IsSettled P u

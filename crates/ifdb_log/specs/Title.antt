@@ -47,9 +47,9 @@ IsSettled P t = Now t (λ s. (s ≡ settled s.bytes) × P s.bytes)
 abbrev pub IsNewOrTitle : List ℕ → Type 0
 IsNewOrTitle bytes = IsNew bytes ⊎ ((first : ℕ) × (first ≢ 0) × (bytes ≡ first ∷ title_rest))
 
--- an image is one of those from before, or that of a file that is being made
+-- an image is one of those from before, or that of a file that is being made where the disk was new
 abbrev pub IsOldOrMade : Option Clock → List ℕ → Type 0
-IsOldOrMade old image = Now old (λ s. IsImage s image) ⊎ IsNewOrTitle image
+IsOldOrMade old image = Now old (λ s. IsImage s image ⊎ (IsNew s.bytes × IsNewOrTitle image))
 
 -- a new file became the title, and a log stayed as it was
 abbrev pub Entitles : Option Clock → Option Clock → Type 0
