@@ -1,5 +1,5 @@
 -- What a restart says of a file, and what it leaves.
-use Rattle.std.proofs.Common.{◌≡◌, ◌⊎◌, inl, inr, ℕ, suc, ◌+◌, ◌≤◌, false, List, [], ◌∷◌, ◌++◌, ◌∙◌, length, map, take, drop, refl, sym, ap, subst, arith, length-append}
+use Rattle.std.proofs.Common.{◌≡◌, ◌⊎◌, inl, inr, ℕ, suc, ◌+◌, ◌≤◌, false, List, [], ◌∷◌, ◌++◌, ◌∙◌, length, map, take, drop, refl, sym, ap, subst, arith, length-append, length-drop}
 use Rattle.std.specs.Prelude.{Option, Some, None, nat_le, if◌then◌else◌}
 use Rattle.std.proofs.lemmas.List.{append-nil, drop_at, take-append-drop, take_at}
 use Rattle.std.proofs.lemmas.Bool.Decides.{nat_tests}
@@ -27,7 +27,7 @@ use Rattle.ifdb_host.proofs.Titles.{IsTitle, title_of, title_then}
 
 -- ---- a file that restores a log
 
-some_or : {X : Type 0} → X → Option X → X
+abbrev some_or : {X : Type 0} → X → Option X → X
 some_or x None = x
 some_or x (Some y) = y
 
@@ -132,13 +132,14 @@ bare_or_old b image titled has = by has.2 where
   title : IsTitle (take 16 b.now.bytes)
   title = title_of b.now.bytes titled.1
 
-  by : IsImage (shown_behind 16 b.now) has.0 ⊎ (length has.0 ≤ 1) → IsOldOrBare (Some b) image
+  by : IsImage (shown_behind 16 b.now) has.0 ⊎ ((length (drop 16 b.now.bytes) ≤ 1) × (length has.0 ≤ 1)) → IsOldOrBare (Some b) image
   by (inl old) =
       let still : IsImage (settled (drop 16 b.now.bytes)) has.0 = subst (λ s. IsImage (shown_behind 16 s) has.0) titled.0 old in
       inl (has.1 ∙ ap (λ (l : List ℕ). take 16 b.now.bytes ++ l) (settled_only (drop 16 b.now.bytes) has.0 still) ∙ take-append-drop 16 b.now.bytes)
   by (inr short) = inr (
+    omega (arith, length-drop 16 b.now.bytes, short.0),
     subst IsLog (sym has.1) (title_then (take 16 b.now.bytes) has.0 title),
-    omega (arith, ap length has.1, length-append (take 16 b.now.bytes) has.0, title.1, short),
+    omega (arith, ap length has.1, length-append (take 16 b.now.bytes) has.0, title.1, short.1),
   )
 
 -- a file that spells the same restores the same

@@ -18,11 +18,12 @@ front_within n begun c fronted =
     let stands = fronted.1.0 in
     omega (arith, stands.1.1.0, ap length stands.1.1.1.0, length-take n c.now.bytes)
 
+abbrev head_or : {X : Type 0} → X → List X → X
+head_or d [] = d
+head_or d (z ∷ zs) = z
+
 pub head_same : {X : Type 0} (a b : X) (x y : List X) → a ∷ x ≡ b ∷ y → a ≡ b
-head_same a b x y e = ap (first a) e where
-  first : {X : Type 0} → X → List X → X
-  first d [] = d
-  first d (z ∷ zs) = z
+head_same a b x y e = ap (head_or a) e
 
 pub sizes_same : (m n : ℕ) (begun : Option Clock) (c : Clock) (u : Option Clock) (P : List ℕ → Type 0) → Fronted m begun (Some c) → Fronted n begun u → Leaves (behind m (Some c)) (behind n u) P → m ≡ n
 sizes_same m n begun c None P first last leaves = absurd leaves

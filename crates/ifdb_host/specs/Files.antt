@@ -34,6 +34,6 @@ abbrev pub ShowsLog : Option Clock → List (List ℕ) → List Entry → Type 0
 ShowsLog None texts log = ⊥
 ShowsLog (Some c) texts log = HoldsLog (Some c) texts log
 
--- an image is the file as it was, or the title and at most one byte behind it
+-- an image is the file as it was; or, as the file was, the title and at most one byte behind it
 abbrev pub IsOldOrBare : Option Clock → List ℕ → Type 0
-IsOldOrBare old image = Now old (λ s. (image ≡ s.bytes) ⊎ (IsLog image × (length image ≤ 17)))
+IsOldOrBare old image = Now old (λ s. (image ≡ s.bytes) ⊎ ((length s.bytes ≤ 17) × IsLog image × (length image ≤ 17)))

@@ -4,7 +4,8 @@ ghost use mathlib.Core.List.{IsPrefix};
 ghost use Rattle.ifdb_io.specs.Causes.{Rose};
 ghost use Rattle.ifdb_journal.specs.Reading.{Holds};
 ghost use Rattle.ifdb_log.specs.Behind.{behind};
-ghost use Rattle.ifdb_turn.specs.Passes.{history, places, shares, BelongsTo, IsOrderly};
+ghost use Rattle.ifdb_turn.specs.Passes.{history, places, shares, BelongsTo, IsOrderly, OwnsAll};
+ghost use Rattle.ifdb_turn.specs.Histories.{AllRight};
 ghost use Rattle.ifdb_turn.specs.Views.{all_shares};
 ghost use Rattle.ifdb_durable.specs.Groups.{IsMember, shares_of};
 ghost use Rattle.ifdb_durable.specs.Seats.{IsOpened};
@@ -118,6 +119,8 @@ impl<B: Origin, N: Begins, D: Disk + Drop> Database<N, Behind<B, D>> {
         requires shares { shares self.pass ≡ all_shares }
         requires member { IsMember self.group.writer self.member }
         requires member_shares { shares_of self.member ≡ all_shares }
+        ensures order { AllRight (IsRight (start_of N.first)) (history self.pass) }
+        ensures own { OwnsAll self.pass }
         ensures counts { result.counts ≡ counts_of N.first (history self.pass) }
         ensures fronts { (opening : _) (before : List (List ℕ))
             → Begins (opening_of opening) self.member.receipt → opening.size ≡ 16

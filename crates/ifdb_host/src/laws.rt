@@ -1,5 +1,5 @@
 // What is true of every database's file.
-ghost use Rattle.ifdb_host.specs.Laws.{FilesAreRestarted};
+ghost use Rattle.ifdb_host.specs.Laws.{FilesAreRestarted, TitleIsAFile};
 
 use ifdb_log::damaged_has_no_texts;
 
@@ -9,3 +9,8 @@ pub fn files_are_restarted()
 {
     damaged_has_no_texts();
 }
+
+/// The title alone is the file of no log. A law: it does nothing.
+pub fn title_is_a_file()
+    ensures { TitleIsAFile }
+{}

@@ -13,6 +13,6 @@ mod serving;
 
 pub use database::{Closed, Database};
 pub use end::HostEnd;
-pub use laws::files_are_restarted;
-pub use reopening::{NotReopened, Reopened, reopen};
+pub use laws::{files_are_restarted, title_is_a_file};
+pub use reopening::{Means, NotReopened, Reopened, reopen};
 pub use serving::{Hosted, host};

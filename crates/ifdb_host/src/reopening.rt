@@ -87,7 +87,7 @@ pub fn reopen<B: Origin, D: Disk + Drop>(
         Leaves (D.tells disk) (D.tells e.disk) (IsOldOrBare (D.tells disk))) }
     ensures cause { IfErr result (λ e. IsCaused (D.faults disk) (D.faults e.disk) e.fault) }
 {
-    let Ok(means) = means(alloc, room) else {
+    let Ok(means) = take_means(alloc, room) else {
         return Err(NotReopened {
             fault: LogFault::OutOfMemory,
             disk,
@@ -108,7 +108,7 @@ pub fn reopen<B: Origin, D: Disk + Drop>(
 }
 
 // A mark, and two batches for so many bytes of records.
-fn means<D: Drop>(alloc: Global, room: usize) -> Result<Means<D>, AllocError>
+fn take_means<D: Drop>(alloc: Global, room: usize) -> Result<Means<D>, AllocError>
     ensures mark { IfOk result (λ it. IsOpened it.mark) }
     ensures empty { IfOk result (λ it. (it.waiting.records ≡ []) × (it.in_hand.records ≡ [])) }
 {

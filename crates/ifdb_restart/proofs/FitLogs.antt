@@ -38,7 +38,7 @@ use Rattle.ifdb_db.specs.Reading.{read_line}
 use Rattle.ifdb_db.specs.Redoing.{closed_state}
 use Rattle.ifdb_restart.specs.Restarted.{log_behind, with_record}
 use Rattle.ifdb_restart.proofs.ReadCommits.{AreInPlace, read_in_place}
-use Rattle.ifdb_restart.proofs.FitStates.{IsFit, asked_fit, commit_content, commit_public, commit_rows, idle_fits}
+use Rattle.ifdb_restart.proofs.FitStates.{FitsSession, IsFit, asked_fit, commit_content, commit_public, commit_rows, idle_fits}
 
 -- nobody's session is open
 closed_fit : (st : State) → IsFit st → IsFit (closed_state st.log)
@@ -46,12 +46,12 @@ closed_fit st v = record {
   sound = record { sound_log = v.sound.sound_log; sound_sessions = All-nil (SoundSession st.log) };
   content = v.content;
   rooted = v.rooted;
-  sessions = All-nil _;
+  sessions = All-nil (FitsSession st.log);
 }
 
 -- there is no log
 opening_fit : IsFit (closed_state [])
-opening_fit = record { sound = opening_sound; content = refl; rooted = refl; sessions = All-nil _ }
+opening_fit = record { sound = opening_sound; content = refl; rooted = refl; sessions = All-nil (FitsSession []) }
 
 -- ---- a change
 
@@ -63,7 +63,7 @@ idle_fit log asker v = record {
   };
   content = v.content;
   rooted = v.rooted;
-  sessions = All-push _ [] (idle asker) (All-nil _) (idle_fits log [] refl);
+  sessions = All-push (FitsSession log) [] (idle asker) (All-nil (FitsSession log)) (idle_fits log [] refl);
 }
 
 change_fit : (log : List Entry) (asker : ℕ) (line : List ℕ) → IsFit (closed_state log) → IsFit (closed_state (log ++ option_to_list (ask read_line log (idle asker) line).added))
@@ -159,11 +159,11 @@ commit_fit log ws v are test =
           formed = subst AreWellFormed (sym same) v.sound.sound_log.formed;
           writes = subst (λ m. all_commits (are_sound m) (log ++ commits ws ∷ []) ≡ true) (ap length (sym same)) all;
         };
-        sound_sessions = All-nil _;
+        sound_sessions = All-nil (SoundSession (log ++ commits ws ∷ []));
       };
       content = content;
       rooted = ap (λ x. are_rooted x x) (commit_rows log ws) ∙ parts.1;
-      sessions = All-nil _;
+      sessions = All-nil (FitsSession (log ++ commits ws ∷ []));
     }
 
 -- ---- texts

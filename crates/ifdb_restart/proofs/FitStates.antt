@@ -78,7 +78,7 @@ content_grows log (Some (commits ws)) h k = commit_content log ws h (grind (arit
 -- ---- sessions
 
 -- what a transaction saw at its BEGIN fits, and so do its own writes
-abbrev FitsTxn : List Entry → Option Txn → Type 0
+abbrev pub FitsTxn : List Entry → Option Txn → Type 0
 FitsTxn log None = Unit {0}
 FitsTxn log (Some x) = ContentFits (take x.begin log) × (are_fit (public_of (take x.begin log)) x.own ≡ true)
 
@@ -87,7 +87,7 @@ pub record FitsAs (log : List Entry) (label : List ℕ) (o : Option Txn) : Type 
   made : are_made (length (tags_of (seen_in log o).public)) label ≡ true
   txn : FitsTxn log o
 
-abbrev FitsSession : List Entry → Session → Type 0
+abbrev pub FitsSession : List Entry → Session → Type 0
 FitsSession log s = FitsAs log s.label s.txn
 
 pub idle_fits : (log : List Entry) (label : List ℕ) → are_made (tag_count log) label ≡ true → FitsAs log label None
