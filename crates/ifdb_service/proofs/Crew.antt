@@ -31,8 +31,8 @@ use Rattle.ifdb_session.specs.Passes.{Sees}
 use Rattle.ifdb_session.specs.Starts.{start_of}
 use Rattle.ifdb_session.proofs.Passes.{prefix-trans}
 use Rattle.ifdb_service.specs.Doors.{Connection, Run, AllLinked, IsRunIn, ServedAll, faults_in, faults_of, one_unless, turns_of, turns_at}
-use Rattle.ifdb_service.specs.Workers.{HasMore, LacksShares, GoesOnWithout, IsFresh, Hiring, IsHome, AllHome, Joining, hosts, one_if}
-use Rattle.ifdb_service.proofs.Links.{Laws, linked1, all_later, run_later}
+use Rattle.ifdb_service.specs.Workers.{HoldLaws, HasMore, LacksShares, GoesOnWithout, IsFresh, Hiring, IsHome, AllHome, Joining, hosts, one_if}
+use Rattle.ifdb_service.proofs.Links.{AllLinkedBy, linked1, all_later, run_later}
 
 all_snoc : {X : Type 0} (P : X → Type 0) (xs : List X) (x : X) → All P xs → P x → All P (xs ++ x ∷ [])
 all_snoc P xs x all one = All-append P xs (x ∷ []) all (All-cons P x [] one (λ k d lt. absurd (omega arith)))
@@ -51,23 +51,23 @@ split_orderly right old own orderly seen none =
 
 module _ {D K R Q S : Type 0} (recorders : recorder.Ghosts Q) (settlers : settler.Ghosts S Q) (doors : door.Ghosts D K) (hall : Turnstile (SharedRoom Q) Entry) (limit : ℕ) (first : S) where
   -- nobody is hired yet
-  pub not_hired : (pass : Pass (SharedRoom Q) Entry) (given : List D) (ws : List (Worker D (SessionHost R K Q S))) (room : ℕ) → Laws settlers
+  pub not_hired : (pass : Pass (SharedRoom Q) Entry) (given rest : List D) (ws : List (Worker D (SessionHost R K Q S))) (room : ℕ) → HoldLaws settlers → rest ≡ given
       → BelongsTo hall pass → settlers.ready first → HasMore settlers first (length given) → All (λ d. doors.most d < 2 ^ 64) given → ws ≡ [] → length given ≤ room
-      → Hiring recorders settlers doors hall limit first pass pass first given ws given room
-  not_hired pass given ws room laws belongs ready more few none fits =
+      → Hiring recorders settlers doors hall limit first pass pass first given ws rest room
+  not_hired pass given rest ws room laws same belongs ready more few none fits =
       let len : length ws ≡ 0 = ap length none in
-      record {
+      subst (λ l. Hiring recorders settlers doors hall limit first pass pass first given ws l room) (sym same) (record {
         belongs = belongs;
         share = omega arith;
-        keeper_left = record { ready = ready; knows = laws.itself first; shares = record { all = more.0; left = more.0; had = more.1.0; has = more.1.0; lacks = omega arith } };
-        keeper_more = more.1.1;
+        keeper_left = record { ready = ready; knows = laws.itself first; shares = record { all = more.0; left = more.0; had = more.1; has = more.1; lacks = omega arith } };
+        keeper_more = more.2;
         taken = ap (λ l. map (λ w. w.door) l ++ given) none;
         fresh = subst (All (IsFresh recorders settlers doors hall limit first)) (sym none) (λ k d lt. absurd (omega (arith, lt)));
         few = few;
         fits = omega arith;
         seen = refl;
         own = refl;
-      }
+      })
 
   -- a share more can be split off for the next door
   pub can_split : (old now : Pass (SharedRoom Q) Entry) (keeper : S) (given : List D) (ws : List (Worker D (SessionHost R K Q S))) (d : D) (rs rest : List D) (room : ℕ)
@@ -80,7 +80,7 @@ module _ {D K R Q S : Type 0} (recorders : recorder.Ghosts Q) (settlers : settle
       (left - 2, subst (settlers.has_shares keeper) two h.keeper_left.shares.has)
 
   pub hired : (old now now' : Pass (SharedRoom Q) Entry) (keeper keeper' : S) (given : List D) (ws ws' : List (Worker D (SessionHost R K Q S))) (d : D) (rs rest : List D) (room room' : ℕ)
-      (w : Worker D (SessionHost R K Q S)) → Laws settlers → rs ≡ d ∷ rest → Hiring recorders settlers doors hall limit first old now keeper given ws rs room
+      (w : Worker D (SessionHost R K Q S)) → HoldLaws settlers → rs ≡ d ∷ rest → Hiring recorders settlers doors hall limit first old now keeper given ws rs room
       → BelongsTo hall now' → shares now' + 1 ≡ shares now → history now' ≡ history now → places now' ≡ places now
       → settlers.ready keeper' → settlers.goes_on keeper keeper' → ((n : ℕ) → settlers.has_shares keeper (n + 1) → settlers.has_shares keeper' n)
       → w.door ≡ d → (doors.most d < 2 ^ 64 → IsFresh recorders settlers doors hall limit first w) → ws' ≡ ws ++ w ∷ [] → room ≤ room'
@@ -167,15 +167,11 @@ turns_snoc : {D K : Type 0} (k : ℕ) (rs : List (Run D K)) (r : Run D K) → tu
 turns_snoc k [] r = omega arith
 turns_snoc k (x ∷ xs) r = let i = turns_snoc k xs r in omega arith
 
-module _ {K R Q S : Type 0} (sources : source.Ghosts K) (sinks : sink.Ghosts K) (recorders : recorder.Ghosts Q) (settlers : settler.Ghosts S Q) (laws : Laws settlers) where
-  -- connections were served so, by what a keeper knows
-  abbrev AllLinkedBy : S → ℕ → List Entry → List (Visit K) → List Connection → Type 0
-  AllLinkedBy keeper = AllLinked sources sinks recorders.first (KnowsKept recorders settlers keeper) (settlers.has_failed keeper)
-
+module _ {K R Q S : Type 0} (sources : source.Ghosts K) (sinks : sink.Ghosts K) (recorders : recorder.Ghosts Q) (settlers : settler.Ghosts S Q) (laws : HoldLaws settlers) where
   -- one service after another
   record Chained (a b : SessionHost R K Q S) (vs : List (Visit K)) : Type 0 where
     connections : List Connection
-    linked : AllLinkedBy b.keeper a.limit (history b.pass) vs connections
+    linked : AllLinkedBy sources sinks recorders settlers b.keeper a.limit (history b.pass) vs connections
     own : places b.pass ≡ places a.pass ++ turns_of connections
     faults : b.faults ≡ capped (a.faults + faults_in connections)
     share : shares b.pass ≡ shares a.pass
@@ -205,10 +201,10 @@ module _ {K R Q S : Type 0} (sources : source.Ghosts K) (sinks : sink.Ghosts K) 
       let rest = chained m b vs (capped_lt _ m.faults one.faults) right s.2 in
       let l = linked1 sources sinks recorders settlers a m v one in
       let here = all_later sources sinks recorders.first (KnowsKept recorders settlers m.keeper) (KnowsKept recorders settlers b.keeper) (settlers.has_failed m.keeper) (settlers.has_failed b.keeper)
-      (λ x. laws.kept m.keeper b.keeper (recorders.count_of x) rest.knows) (laws.failed m.keeper b.keeper rest.knows) (history m.pass) (history b.pass) rest.begins right a.limit (v ∷ []) (l.connection ∷ []) (l.linked, tt) in
+      (history m.pass) (history b.pass) (λ x front. laws.kept m.keeper b.keeper (recorders.count_of x) rest.knows) (laws.failed m.keeper b.keeper rest.knows) rest.begins right a.limit (v ∷ []) (l.connection ∷ []) (l.linked, tt) in
       record {
         connections = l.connection ∷ rest.connections;
-        linked = (here.0, subst (λ n. AllLinkedBy b.keeper n (history b.pass) vs rest.connections) one.limit rest.linked);
+        linked = (here.0, subst (λ n. AllLinkedBy sources sinks recorders settlers b.keeper n (history b.pass) vs rest.connections) one.limit rest.linked);
         own = rest.own ∙ ap (λ p. p ++ turns_of rest.connections) l.own ∙ append_assoc (places a.pass) l.connection.turns (turns_of rest.connections);
         faults = rest.faults ∙ ap (λ n. capped (n + faults_in rest.connections)) one.faults ∙ capped_more a.faults (fault_of one.service.ending) (faults_in rest.connections)
             ∙ ap (λ e. capped (a.faults + (fault_of e + faults_in rest.connections))) (sym l.same);
@@ -223,7 +219,7 @@ module _ {K R Q S : Type 0} (sources : source.Ghosts K) (sinks : sink.Ghosts K) 
 -- ---- workers come home, and are joined
 
 module _ {D K R Q S : Type 0} (recorders : recorder.Ghosts Q) (settlers : settler.Ghosts S Q) (doors : door.Ghosts D K) (hall : Turnstile (SharedRoom Q) Entry) (limit : ℕ) (first : S)
-    (sources : source.Ghosts K) (sinks : sink.Ghosts K) (laws : Laws settlers) where
+    (sources : source.Ghosts K) (sinks : sink.Ghosts K) (laws : HoldLaws settlers) where
   home_of : (w w' : Worker D (SessionHost R K Q S)) → IsFresh recorders settlers doors hall limit first w → Worked doors (hosts sources sinks recorders settlers) w w'
       → IsHome recorders settlers doors hall limit first sources sinks w.door w'
   home_of w w' f d =

@@ -62,7 +62,7 @@ texts_front : (first : List LogEntry) (h k : List Entry) → IsPrefix (texts_of 
 texts_front first h k =
     let more = records read_line (after (start_of first) h) (flat k) in
     let all : records_of first (h ++ k) ≡ records_of first h ++ more =
-        ap (records read_line (first_state (start_of first))) (flat-append h k) ∙ records-append read_line (first_state (start_of first)) (flat h) (flat k) in
+    ap (records read_line (first_state (start_of first))) (flat-append h k) ∙ records-append read_line (first_state (start_of first)) (flat h) (flat k) in
     (texts_for more, sym (map-append text (records_of first h) more) ∙ ap texts_for (sym all))
 
 sources_front : (first : List LogEntry) (n : ℕ) (before h whole : List Entry) → before ++ h ≡ whole → All (λ xs. IsPrefix xs (texts_of first whole)) (sources_from first n before h)
@@ -94,7 +94,7 @@ all_left P xs ys all = λ k d lt.
 acknowledges_with : (ending : Ending) (P R P' : List (List ℕ) → Type 0) (xs : List (List (List ℕ))) → ((x : List (List ℕ)) → R x → P x → P' x) → All R xs
     → Acknowledges ending P xs → Acknowledges ending P' xs
 acknowledges_with ends.Unkept P R P' xs wider fronts all =
-    (all.0, all.1, all.2.0, all_with P R P' all.0 wider (all_left R all.0 (all.1 ∷ []) (subst (All R) all.2.0 fronts)) all.2.1)
+    (all.0, all.1, all.2, all_with P R P' all.0 wider (all_left R all.0 (all.1 ∷ []) (subst (All R) all.2 fronts)) all.3)
 acknowledges_with ends.Bye P R P' xs wider fronts all = all_with P R P' xs wider fronts all
 acknowledges_with ends.End P R P' xs wider fronts all = all_with P R P' xs wider fronts all
 acknowledges_with ends.LinkRead P R P' xs wider fronts all = all_with P R P' xs wider fronts all
@@ -103,17 +103,13 @@ acknowledges_with ends.TooMuch P R P' xs wider fronts all = all_with P R P' xs w
 acknowledges_with ends.TooLong P R P' xs wider fronts all = all_with P R P' xs wider fronts all
 acknowledges_with ends.OutOfMemory P R P' xs wider fronts all = all_with P R P' xs wider fronts all
 
--- the laws of what a thread waits by
-pub record Laws {Q S : Type 0} (settlers : settler.Ghosts S Q) : Type 0 where
-  pub itself : (s : S) → settlers.goes_on s s
-  pub further : (r s t : S) → settlers.goes_on r s → settlers.goes_on s t → settlers.goes_on r t
-  pub kept : (s t : S) (n : ℕ) → settlers.goes_on s t → settlers.is_kept s n → settlers.is_kept t n
-  pub failed : (s t : S) → settlers.goes_on s t → settlers.has_failed s → settlers.has_failed t
-
 module _ {K Q S : Type 0} (sources : source.Ghosts K) (sinks : sink.Ghosts K) (recorders : recorder.Ghosts Q) (settlers : settler.Ghosts S Q) where
   -- a connection was served so, by what a keeper knows
   abbrev pub IsLinkedBy : S → ℕ → List Entry → Visit K → Connection → Type 0
   IsLinkedBy keeper = IsLinked sources sinks recorders.first (KnowsKept recorders settlers keeper) (settlers.has_failed keeper)
+
+  abbrev pub AllLinkedBy : S → ℕ → List Entry → List (Visit K) → List Connection → Type 0
+  AllLinkedBy keeper = AllLinked sources sinks recorders.first (KnowsKept recorders settlers keeper) (settlers.has_failed keeper)
 
   -- what a host did with one connection, by the turns that its pass has got
   pub record Linked1 {R : Type 0} (a m : SessionHost R K Q S) (v : Visit K) (ending : Ending) : Type 0 where

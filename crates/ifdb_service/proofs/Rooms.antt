@@ -67,10 +67,14 @@ room_send : IsSend db.the_row → IsSend session.the_row → IsSend room.the_row
 room_send d s = view_send _ _ _ _ _ (recorded_send in_room.the_field.row _ _ in_room.the_type.to_one
     (struct_send (shape in_room.the_type) (heap.the_field_send, (d, (Vec-send session.the_row s, tt)))))
 
-pub shared_room_send : (Q : RattleType) → CatalogSends → CatalogSyncs → IsSend store.the_row → IsSend content.the_row → IsSend Q → IsSend (shared_room.the_row Q)
-shared_room_send Q sends syncs s c q =
+pub room_crosses : CatalogSends → CatalogSyncs → IsSend store.the_row → IsSend content.the_row → IsSend room.the_row
+room_crosses sends syncs s c =
     let state = shared_state_send (public_send (catalog_send sends)) (public_sync (catalog_sync syncs)) in
-    let r = room_send (db_send state s) (session_send (txn_send state c)) in
+    room_send (db_send state s) (session_send (txn_send state c))
+
+-- so may a room that connections share, if what records its entries may
+pub shared_room_send : (Q : RattleType) → IsSend room.the_row → IsSend Q → IsSend (shared_room.the_row Q)
+shared_room_send Q r q =
     recorded_send (shared_room.the_field Q).row _ _ (shared_room.the_type Q).to_one
     (struct_send (shape (shared_room.the_type Q))
     (r, (search sendable depth 30, (search sendable depth 30, (search sendable depth 30, (search sendable depth 30, tt))))))

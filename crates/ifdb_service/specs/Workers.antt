@@ -32,6 +32,13 @@ abbrev pub one_if : Bool → ℕ
 one_if so = if so then 1 else 0
 
 module _ {Q S : Type 0} (settlers : settler.Ghosts S Q) where
+  -- the laws of what replies wait by
+  pub record HoldLaws : Type 0 where
+    pub itself : (s : S) → settlers.goes_on s s
+    pub further : (r s t : S) → settlers.goes_on r s → settlers.goes_on s t → settlers.goes_on r t
+    pub kept : (s t : S) (n : ℕ) → settlers.goes_on s t → settlers.is_kept s n → settlers.is_kept t n
+    pub failed : (s t : S) → settlers.goes_on s t → settlers.has_failed s → settlers.has_failed t
+
   -- it has more shares than so many
   abbrev pub HasMore : S → ℕ → Type 0
   HasMore keeper many = (n : ℕ) × settlers.has_shares keeper n × (many < n)

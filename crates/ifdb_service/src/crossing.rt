@@ -1,6 +1,6 @@
 // That a room may go to another thread.
 ghost use Rattle.std.specs.Thread.{IsSend, IsSync};
-ghost use Rattle.ifdb_session.specs.contracts.shared.SharedRoom as room;
+ghost use Rattle.ifdb_db.specs.contracts.room.Room as room;
 
 use ifdb_bound::{Schema, ViewDef};
 use ifdb_catalog::Credentials;
@@ -9,10 +9,9 @@ use ifdb_value::Name;
 use indexmap::{IndexMap, IndexSet};
 use std::marker::{Send, Sync};
 
-/// A room may go to another thread, if what records its entries may. Does nothing: the checker finds it of the parts that hold
-/// themselves, and not of the whole.
-pub(crate) fn room_crosses<Q: Send>()
-    ensures { IsSend (room.the_row Q.row) }
+/// A room may go to another thread. Does nothing: the checker finds it of the parts that hold themselves, and not of the whole.
+pub(crate) fn room_crosses()
+    ensures { IsSend room.the_row }
 {
     sends::<IndexMap<Name, Credentials>>();
     sends::<IndexSet<Name>>();

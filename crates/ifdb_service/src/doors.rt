@@ -8,6 +8,7 @@ ghost use Rattle.ifdb_session.specs.Starts.{start_of};
 ghost use Rattle.ifdb_service.specs.Doors.{ServedAll};
 ghost use Rattle.ifdb_service.specs.Workers.{GoesOnWithout, HasMore};
 
+use crate::laws::laws_hold;
 use crate::workers::{hire, more_faults, send};
 use ifdb_io::Door;
 use ifdb_pool::Worker;
@@ -68,6 +69,7 @@ pub fn serve_doors<
         (KnowsKept Q.Records S.Settles keeper.new) (S.Settles.has_failed keeper.new) D.Door limit
         pass.old pass.new doors.items e.doors.items e.faults) }
 {
+    laws_hold::<Q, S>();
     let Ok(mut workers) = Vec::with_capacity(alloc, doors.len()) else {
         return Err(Unserved { doors });
     };

@@ -4,6 +4,7 @@
 mod crossing;
 mod doors;
 mod end;
+mod laws;
 mod numbered_line;
 mod service;
 mod summary;

@@ -10,11 +10,7 @@ use ifdb_session::Counts;
 
 /// Writes what was counted of a service, and how many faults there were, each on a line. After `Failed` a front of it that lacks
 /// at least the last byte was written. Takes no memory.
-pub fn write_summary<W: Sink>(
-    output: &mut W,
-    counts: Counts,
-    faults: u64,
-) -> Result<(), Failed>
+pub fn write_summary<W: Sink>(output: &mut W, counts: Counts, faults: u64) -> Result<(), Failed>
     ensures ok { OnOk result (Appends (W.written output.old) (W.written output.new)
         (summary_text counts faults)) }
     ensures err { OnErr result (WritesShort (W.written output.old) (W.written output.new)

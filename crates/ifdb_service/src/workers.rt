@@ -8,6 +8,7 @@ ghost use Rattle.ifdb_session.specs.Starts.{start_of};
 ghost use Rattle.ifdb_service.specs.Workers.{GoesOnWithout, HasMore, IsFresh, hosts, one_if};
 
 use crate::crossing::room_crosses;
+use crate::laws::laws_hold;
 use ifdb_io::Door;
 use ifdb_pool::{Worker, run_all};
 use ifdb_session::{Records, SessionHost, Settles, SharedRoom};
@@ -46,6 +47,7 @@ pub(crate) fn hire<'a, R: Wait, D: Door + Drop, Q: Records, S: Settles<Q> + Drop
     ensures fresh { All (IsFresh Q.Records S.Settles D.Door hall.now limit keeper.old)
         workers.new.items }
 {
+    laws_hold::<Q, S>();
     for door in doors {
         let own = hall.split(pass);
         let own_keeper = keeper.split();
@@ -106,14 +108,14 @@ pub(crate) fn send<
     limit: u64,
     workers: &mut Vec<Worker<D, SessionHost<'_, R, D::Link, Q, S>>>,
 )
-    requires { (first : S)
+    requires fresh { (first : S)
         × All (IsFresh Q.Records S.Settles D.Door hall.now limit first) workers.old.items }
     ensures { AllWorked (Worked D.Door (hosts D.Link.Source D.Link.Sink Q.Records S.Settles))
         workers.old.items workers.new.items }
 {
     let _ = hall;
     let _ = limit;
-    room_crosses::<Q>();
+    room_crosses();
     run_all(rt, workers);
 }
 

@@ -1,11 +1,11 @@
 use Rattle.std.proofs.alloc.Global.TheSendSync as heap
 use Rattle.ifdb_label.proofs.tag.Tags.TheSendSync.{the_send as tags_send, the_sync as tags_sync}
 use Rattle.ifdb_authority.proofs.authority.Authority.TheSendSync.{the_send as authority_send, the_sync as authority_sync}
-use Rattle.ifdb_service.proofs.Rooms.{CatalogSends, CatalogSyncs, shared_room_send}
+use Rattle.ifdb_service.proofs.Rooms.{CatalogSends, CatalogSyncs, room_crosses}
 use Rattle.ifdb_service.proofs.crossing.room_crosses.Goals as goal
 
 pub returns : goal.returns
-returns g c =
+returns c =
     let sends : CatalogSends = (
       heap.the_field_send,
       (
@@ -44,4 +44,4 @@ returns g c =
         ),
       ),
     ) in
-    shared_room_send _ sends syncs (record { owned = c.sends-5.ensures.owned; leaving = λ k x w. tt }) (record { owned = c.sends-6.ensures.owned; leaving = λ k x w. tt }) c.type_bounds.send-Q
+    room_crosses sends syncs (record { owned = c.sends-5.ensures.owned; leaving = λ k x w. tt }) (record { owned = c.sends-6.ensures.owned; leaving = λ k x w. tt })

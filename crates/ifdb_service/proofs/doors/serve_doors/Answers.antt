@@ -1,60 +1,61 @@
-use Rattle.std.proofs.Common.{rules, refl, ◌≡◌, ◌∷◌, [], ◌++◌, ◌+◌, ◌∙◌, ap, length, length-append, arith}
+use Rattle.std.proofs.Common.{rules, refl, subst, vec_len, ◌≡◌, ◌∷◌, [], ◌++◌, ◌+◌, ◌∙◌, ap, length, length-append, arith}
 use Rattle.ifdb_service.specs.Workers.{GoesOnWithout}
 use Rattle.ifdb_service.proofs.Crew.{sent, joined, next_joins, all_served, all_seen, all_back}
-use Rattle.ifdb_service.proofs.Links.{Laws}
 use Rattle.ifdb_service.proofs.doors.serve_doors.Goals as goal
 
-pub send-requires : goal.send-requires
-send-requires g c κs within = (c.args.keeper.now, c.hire.ensures.fresh)
+pub send-requires-clause-fresh : goal.send-requires-clause-fresh
+send-requires-clause-fresh g c κs within = (c.args.keeper.now, c.hire.ensures.fresh)
 
 pub loop-worker-init : goal.loop-worker-init
 loop-worker-init g c =
-    let laws : Laws g.S.Settles = record { itself = g.met.S.Settles.goes_itself; further = g.met.S.Settles.goes_further; kept = g.met.S.Settles.stays_kept; failed = g.met.S.Settles.stays_failed } in
+    let laws = c.laws_hold.ensures in
     let e = c.hire.ensures in
+    let lens = c.args.doors.ok in
+    let same : vec_len c.args.doors ≡ length c.args.doors.items = omega arith in
     let j = sent g.Q.Records g.S.Settles g.D.Door c.args.hall.now c.args.limit c.args.keeper.now g.D.Link.Source g.D.Link.Sink laws c.args.pass.now c.hire.new.pass c.hire.new.keeper c.args.doors.items _ c.hire.new.workers.items c.send.new.workers.items c.into_iter-worker-iterator.result.rest.items c.in-Ok-with_capacity.back.items
-    e.pass c.requires.orderly (search rules) e.history e.places e.keeper e.doors e.fresh refl c.send.ensures (search rules) (search rules) in
+    e.pass c.requires.orderly (search rules) e.history e.places (subst (GoesOnWithout g.S.Settles c.args.keeper.now c.hire.new.keeper) same e.keeper) e.doors e.fresh refl c.send.ensures (search rules) (search rules) in
     (j, search rules)
 
 pub join_pass-requires-clause-from : goal.join_pass-requires-clause-from
-join_pass-requires-clause-from g c κs within =
-    let laws : Laws g.S.Settles = record { itself = g.met.S.Settles.goes_itself; further = g.met.S.Settles.goes_further; kept = g.met.S.Settles.stays_kept; failed = g.met.S.Settles.stays_failed } in
+join_pass-requires-clause-from g c =
+    let laws = c.laws_hold.ensures in
     let gone : c.loop-worker.worker-iterator.rest.items ≡ c.in-Some.worker ∷ c.next.new.self.rest.items = search rules in
     (next_joins g.Q.Records g.S.Settles g.D.Door c.args.hall.now c.args.limit c.args.keeper.now g.D.Link.Source g.D.Link.Sink laws c.loop-worker.invariant.0.left _ _ c.in-Some.worker c.loop-worker.invariant.0.home gone).belongs
 
 pub join-requires-clause-ready : goal.join-requires-clause-ready
-join-requires-clause-ready g c κs within = c.loop-worker.invariant.0.keeper_left.ready
+join-requires-clause-ready g c = c.loop-worker.invariant.0.keeper_left.ready
 
 pub join-requires-clause-other : goal.join-requires-clause-other
-join-requires-clause-other g c κs within =
-    let laws : Laws g.S.Settles = record { itself = g.met.S.Settles.goes_itself; further = g.met.S.Settles.goes_further; kept = g.met.S.Settles.stays_kept; failed = g.met.S.Settles.stays_failed } in
+join-requires-clause-other g c =
+    let laws = c.laws_hold.ensures in
     let gone : c.loop-worker.worker-iterator.rest.items ≡ c.in-Some.worker ∷ c.next.new.self.rest.items = search rules in
     (next_joins g.Q.Records g.S.Settles g.D.Door c.args.hall.now c.args.limit c.args.keeper.now g.D.Link.Source g.D.Link.Sink laws c.loop-worker.invariant.0.left _ _ c.in-Some.worker c.loop-worker.invariant.0.home gone).ready
 
 pub join-requires-clause-one : goal.join-requires-clause-one
-join-requires-clause-one g c κs within =
-    let laws : Laws g.S.Settles = record { itself = g.met.S.Settles.goes_itself; further = g.met.S.Settles.goes_further; kept = g.met.S.Settles.stays_kept; failed = g.met.S.Settles.stays_failed } in
+join-requires-clause-one g c =
+    let laws = c.laws_hold.ensures in
     let gone : c.loop-worker.worker-iterator.rest.items ≡ c.in-Some.worker ∷ c.next.new.self.rest.items = search rules in
     let can = next_joins g.Q.Records g.S.Settles g.D.Door c.args.hall.now c.args.limit c.args.keeper.now g.D.Link.Source g.D.Link.Sink laws c.loop-worker.invariant.0.left _ _ c.in-Some.worker c.loop-worker.invariant.0.home gone in
     (c.args.keeper.now, c.loop-worker.invariant.0.keeper_left.knows, can.knows)
 
 pub returns-clause-ended : goal.returns-clause-ended
 returns-clause-ended g c =
-    let laws : Laws g.S.Settles = record { itself = g.met.S.Settles.goes_itself; further = g.met.S.Settles.goes_further; kept = g.met.S.Settles.stays_kept; failed = g.met.S.Settles.stays_failed } in
+    let laws = c.laws_hold.ensures in
     all_served g.Q.Records g.S.Settles g.D.Door c.args.hall.now c.args.limit c.args.keeper.now g.D.Link.Source g.D.Link.Sink laws _ _ _ _ c.loop-worker.worker-iterator.rest.items _ _ c.loop-worker.invariant.0 (search rules)
 
 pub returns-clause-sees : goal.returns-clause-sees
 returns-clause-sees g c =
-    let laws : Laws g.S.Settles = record { itself = g.met.S.Settles.goes_itself; further = g.met.S.Settles.goes_further; kept = g.met.S.Settles.stays_kept; failed = g.met.S.Settles.stays_failed } in
+    let laws = c.laws_hold.ensures in
     all_seen g.Q.Records g.S.Settles g.D.Door c.args.hall.now c.args.limit c.args.keeper.now g.D.Link.Source g.D.Link.Sink laws _ _ _ _ c.loop-worker.worker-iterator.rest.items _ _ c.loop-worker.invariant.0 (search rules)
 
 pub returns-clause-keeper : goal.returns-clause-keeper
 returns-clause-keeper g c =
-    let laws : Laws g.S.Settles = record { itself = g.met.S.Settles.goes_itself; further = g.met.S.Settles.goes_further; kept = g.met.S.Settles.stays_kept; failed = g.met.S.Settles.stays_failed } in
+    let laws = c.laws_hold.ensures in
     all_back g.Q.Records g.S.Settles g.D.Door c.args.hall.now c.args.limit c.args.keeper.now g.D.Link.Source g.D.Link.Sink laws _ _ _ _ c.loop-worker.worker-iterator.rest.items _ _ c.loop-worker.invariant.0 (search rules)
 
 pub loop-worker-preserved : goal.loop-worker-preserved
 loop-worker-preserved g c =
-    let laws : Laws g.S.Settles = record { itself = g.met.S.Settles.goes_itself; further = g.met.S.Settles.goes_further; kept = g.met.S.Settles.stays_kept; failed = g.met.S.Settles.stays_failed } in
+    let laws = c.laws_hold.ensures in
     let e = c.join_pass.ensures in
     let k = c.join.ensures in
     let gone : c.loop-worker.worker-iterator.rest.items ≡ c.in-Some.worker ∷ c.next.new.self.rest.items = search rules in

@@ -1,16 +1,20 @@
-use Rattle.std.proofs.Common.{rules, refl, ◌≡◌, ◌<◌, ◌+◌, ◌∷◌, [], ◌++◌, ◌∙◌, ap, length, vec_len, vec_capacity, arith}
+use Rattle.std.proofs.Common.{rules, refl, subst, ◌≡◌, ◌<◌, ◌+◌, ◌∷◌, [], ◌++◌, ◌∙◌, ap, length, vec_len, vec_capacity, arith}
 use Rattle.ifdb_history.specs.History.{IsRight}
 use Rattle.ifdb_session.specs.Starts.{start_of}
+use Rattle.ifdb_service.specs.Workers.{GoesOnWithout}
 use Rattle.ifdb_service.proofs.Crew.{not_hired, can_split, hired, all_hired, pushed_so, split_orderly}
-use Rattle.ifdb_service.proofs.Links.{Laws}
 use Rattle.ifdb_service.proofs.workers.hire.Goals as goal
 
 pub loop-door-init : goal.loop-door-init
 loop-door-init g c =
     let r = c.requires in
-    let laws : Laws g.S.Settles = record { itself = g.met.S.Settles.goes_itself; further = g.met.S.Settles.goes_further; kept = g.met.S.Settles.stays_kept; failed = g.met.S.Settles.stays_failed } in
-    not_hired g.Q.Records g.S.Settles g.D.Door c.args.hall.now c.args.limit c.args.keeper.now c.args.pass.now c.args.doors.items c.args.workers.now.items (vec_capacity c.args.workers.now)
-    laws r.pass r.keeper r.keeper_shares r.most r.none r.room
+    let laws = c.laws_hold.ensures in
+    let lens = c.args.doors.ok in
+    let same : vec_len c.args.doors ≡ length c.args.doors.items = omega arith in
+    let more = r.keeper_shares in
+    let room = r.room in
+    not_hired g.Q.Records g.S.Settles g.D.Door c.args.hall.now c.args.limit c.args.keeper.now c.args.pass.now c.args.doors.items c.into_iter-door-iterator.result.rest.items c.args.workers.now.items (vec_capacity c.args.workers.now)
+    laws (search rules) r.pass r.keeper (more.0, more.1, omega arith) r.most r.none (omega arith)
 
 pub begin-worker-requires-clause-orderly : goal.begin-worker-requires-clause-orderly
 begin-worker-requires-clause-orderly g c κs within =
@@ -18,10 +22,10 @@ begin-worker-requires-clause-orderly g c κs within =
     split_orderly (IsRight (start_of g.Q.Records.first)) c.args.pass.now c.split-own.result c.requires.orderly (e.given_history ∙ c.loop-door.invariant.seen) e.given_places
 
 pub split-own_keeper-requires-clause-ready : goal.split-own_keeper-requires-clause-ready
-split-own_keeper-requires-clause-ready g c κs within = c.loop-door.invariant.keeper_left.ready
+split-own_keeper-requires-clause-ready g c = c.loop-door.invariant.keeper_left.ready
 
 pub split-own_keeper-requires-clause-shares : goal.split-own_keeper-requires-clause-shares
-split-own_keeper-requires-clause-shares g c κs within =
+split-own_keeper-requires-clause-shares g c =
     let left : c.loop-door.door-iterator.rest.items ≡ c.in-Some.door ∷ c.next.new.self.rest.items = search rules in
     can_split g.Q.Records g.S.Settles g.D.Door c.args.hall.now c.args.limit c.args.keeper.now _ _ _ _ _ _ _ _ _ left c.loop-door.invariant
 
@@ -29,7 +33,7 @@ pub loop-door-preserved : goal.loop-door-preserved
 loop-door-preserved g c =
     let e = c.split-own.ensures in
     let k = c.split-own_keeper.ensures in
-    let laws : Laws g.S.Settles = record { itself = g.met.S.Settles.goes_itself; further = g.met.S.Settles.goes_further; kept = g.met.S.Settles.stays_kept; failed = g.met.S.Settles.stays_failed } in
+    let laws = c.laws_hold.ensures in
     let left : c.loop-door.door-iterator.rest.items ≡ c.in-Some.door ∷ c.next.new.self.rest.items = search rules in
     let one : length c.loop-door.door-iterator.rest.items ≡ length c.next.new.self.rest.items + 1 = ap length left ∙ omega arith in
     let fits = c.loop-door.invariant.fits in
@@ -41,4 +45,7 @@ loop-door-preserved g c =
 
 pub returns-clause-keeper : goal.returns-clause-keeper
 returns-clause-keeper g c =
-    all_hired g.Q.Records g.S.Settles g.D.Door c.args.hall.now c.args.limit c.args.keeper.now _ _ _ _ c.loop-door.door-iterator.rest.items _ _ (search rules) c.loop-door.invariant
+    let lens = c.args.doors.ok in
+    let same : length c.args.doors.items ≡ vec_len c.args.doors = omega arith in
+    subst (GoesOnWithout g.S.Settles c.args.keeper.now c.loop-door.keeper) same
+    (all_hired g.Q.Records g.S.Settles g.D.Door c.args.hall.now c.args.limit c.args.keeper.now _ _ _ _ c.loop-door.door-iterator.rest.items _ _ (search rules) c.loop-door.invariant)
