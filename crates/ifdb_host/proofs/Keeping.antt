@@ -1,20 +1,19 @@
 -- What crashes leave of a database, since its opening and since each append that was told of.
-use Rattle.std.proofs.Common.{◌≡◌, ◌⊎◌, inl, inr, ℕ, ◌+◌, ◌-◌, ◌≤◌, true, List, [], ◌∷◌, ◌++◌, ◌∙◌, length, take, drop, refl, sym, ap, subst, arith, append_assoc, append-nil}
+use Rattle.std.proofs.Common.{◌≡◌, ◌⊎◌, inl, inr, ℕ, ◌+◌, ◌-◌, ◌≤◌, List, [], ◌∷◌, ◌++◌, ◌∙◌, length, take, drop, refl, sym, ap, subst, arith, append_assoc, append-nil}
 use Rattle.std.specs.Prelude.{Option, Some, None}
-use Rattle.std.specs.List.{flat_map}
 use Rattle.std.proofs.Math.Seq.{take-append-add, take-append_seam}
 use mathlib.Core.List.{IsPrefix}
 use Rattle.atomic_table.specs.Seated.{TableId}
-use Rattle.ifdb_disk.specs.Images.{Shown, IsImage}
+use Rattle.ifdb_disk.specs.Images.{IsImage}
 use Rattle.ifdb_disk.specs.Clock.{Clock, Leaves, Now}
 use Rattle.ifdb_disk.proofs.Moments.{leaves_weaker}
 use Rattle.ifdb_journal.specs.declared.record.Record.{Record}
-use Rattle.ifdb_journal.specs.Records.{records, ReadsAs}
+use Rattle.ifdb_journal.specs.Records.{ReadsAs}
 use Rattle.ifdb_journal.specs.Reading.{Holds}
 use Rattle.ifdb_journal.proofs.Images.{held}
-use Rattle.ifdb_log.specs.Behind.{behind, front_of, shown_behind, Fronted, HasBehind}
+use Rattle.ifdb_log.specs.Behind.{behind, front_of, Fronted, HasBehind}
 use Rattle.ifdb_log.specs.Fronted.{image_behind}
-use Rattle.ifdb_log.specs.Pieces.{pieces, FrontsAreFirstTexts}
+use Rattle.ifdb_log.specs.Pieces.{FrontsAreFirstTexts}
 use Rattle.ifdb_log.proofs.Fronts.{image_both, leaves_behind}
 use Rattle.ifdb_turn.specs.Histories.{AllRight}
 use Rattle.ifdb_turn.proofs.HistoryLemmas.{prefix_length}
@@ -27,7 +26,7 @@ use Rattle.ifdb_durable.specs.Writing.{disk_of, in_hand, taken, told}
 use Rattle.ifdb_durable.specs.Appends.{IsFirst, IsLast, IsRight, Stands}
 use Rattle.ifdb_durable.specs.Worth.{HasFront, IsWorth}
 use Rattle.ifdb_durable.proofs.Appends.{last_kept}
-use Rattle.ifdb_durable.proofs.Begins.{prefix_more, prefix_on}
+use Rattle.ifdb_durable.proofs.Begins.{prefix_on}
 use Rattle.ifdb_durable.proofs.Worth.{appends_keep}
 use Rattle.ifdb_model.specs.Log.{Entry as LogEntry}
 use Rattle.ifdb_history.specs.declared.entry.Entry.{Entry}
@@ -88,9 +87,6 @@ texts_there before first h texts image front has =
 
 module _ {X B : Type 0} (size : X → ℕ) (raw : X → Option Clock) (faults : X → ℕ) (begun : Option Clock) (fronted : (x : X) → Fronted (size x) begun (raw x)) (present : (x : X) → Now (raw x) (λ s. IsImage s s.bytes))
     (fronts : FrontsAreFirstTexts) (adds : FirstTextsAddAFront) (id : TableId) (rs : List Record) (first : List LogEntry) (h : List Entry) (w : Writer B X) (q : Queued) (receipt : Told X) where
-  tells : X → Option Clock
-  tells x = behind (size x) (raw x)
-
   module _ (stands : Stands (λ x. behind (size x) (raw x)) rs faults id w) (heard : Begins receipt (told w)) (same : q.taken ≡ taken w) (has : HasRecords q (records_of first h))
       (worth : (r : Told X) → Begins r receipt → IsWorth (λ x. behind (size x) (raw x)) rs (disk_of w) (all_of q) r.flushes) where
     -- an append that was told of is among those of the writer
@@ -121,7 +117,7 @@ module _ {X B : Type 0} (size : X → ℕ) (raw : X → Option Clock) (faults : 
         (front.0, sym front.1)
 
     module _ (opening : X) (before : List (List ℕ)) (begins : Begins (opening_of opening) receipt) (sized : size opening ≡ 16) (shows : ShowsLog (raw opening) before first) where
-      opened : Flush X
+      abbrev opened : Flush X
       opened = record { disk = opening; kept = [] }
 
       opened_told : IsToldOf opened receipt
@@ -136,17 +132,17 @@ module _ {X B : Type 0} (size : X → ℕ) (raw : X → Option Clock) (faults : 
 
       there : (c : Clock) → raw opening ≡ Some c → Restore rs before first
       there c is =
-          let holds = (right opened (among opened opened_told)).holds in
-          let at_16 : Holds (behind 16 (Some c)) (rs ++ []) _ = subst (λ t. Holds (behind 16 t) (rs ++ []) _) is (subst (λ k. Holds (behind k (raw opening)) (rs ++ []) _) sized holds) in
+          let r = right opened (among opened opened_told) in
+          let at_16 : Holds (behind 16 (Some c)) (rs ++ []) r.at = subst (λ t. Holds (behind 16 t) (rs ++ []) r.at) is (subst (λ k. Holds (behind k (raw opening)) (rs ++ []) r.at) sized r.holds) in
           let now = subst (λ t. Now t (λ s. IsImage s s.bytes)) is (present opening) in
-          let reads = held (rs ++ []) (behind 16 (Some c)) _ at_16 (drop 16 c.now.bytes) (image_behind 16 c.now c.now.bytes now) in
+          let reads = held (rs ++ []) (behind 16 (Some c)) r.at at_16 (drop 16 c.now.bytes) (image_behind 16 c.now c.now.bytes now) in
           let file = (subst (λ t. ShowsLog t before first) is shows).1 in
           subst (λ l. Restore l before first) (reads.has ∙ append-nil rs) file.restores
 
       told_opening : (c : Clock) × (raw opening ≡ Some c)
       told_opening = by (raw opening) refl shows where
         by : (t : Option Clock) → raw opening ≡ t → ShowsLog t before first → (c : Clock) × (raw opening ≡ Some c)
-        by None is no = absurd no
+        by None is shown = absurd shown
         by (Some c) is shown = (c, is)
 
       title : IsTitle (front_of 16 begun)
@@ -176,10 +172,10 @@ module _ {X B : Type 0} (size : X → ℕ) (raw : X → Option Clock) (faults : 
         at_moment d (Some c) is tells told le = λ image of.
             let in_writer = among d told in
             let here = subst (λ t. Fronted 16 begun t) tells (subst (λ k. Fronted k begun (raw d.disk)) is (fronted d.disk)) in
-            let holds = (right d in_writer).holds in
-            let at_16 : Holds (behind 16 (Some c)) (rs ++ d.kept) _ = subst (λ t. Holds (behind 16 t) (rs ++ d.kept) _) tells (subst (λ k. Holds (behind k (raw d.disk)) (rs ++ d.kept) _) is holds) in
+            let r = right d in_writer in
+            let at_16 : Holds (behind 16 (Some c)) (rs ++ d.kept) r.at = subst (λ t. Holds (behind 16 t) (rs ++ d.kept) r.at) tells (subst (λ k. Holds (behind k (raw d.disk)) (rs ++ d.kept) r.at) is r.holds) in
             let both = image_both 16 (front_of 16 begun) c.now image here.1.0 of in
-            let reads = held (rs ++ d.kept) (behind 16 (Some c)) _ at_16 both.0 both.2 in
+            let reads = held (rs ++ d.kept) (behind 16 (Some c)) r.at at_16 both.0 both.2 in
             let front = front_of_kept rs d.kept (all_of q) both.0 (kept_first d in_writer) reads in
             file_of (front_of 16 begun) before first h (length texts) image title (both.0, both.1, behind_rest (length d.kept) le both.0 front)
 

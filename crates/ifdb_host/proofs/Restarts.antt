@@ -1,18 +1,18 @@
 -- What a restart says of a file, and what it leaves.
-use Rattle.std.proofs.Common.{◌≡◌, ◌⊎◌, inl, inr, ℕ, suc, ◌+◌, ◌≤◌, false, List, [], ◌∷◌, ◌++◌, ◌∙◌, length, map, take, drop, refl, sym, ap, subst, arith, length-append, length-drop}
+use Rattle.std.proofs.Common.{◌≡◌, ◌⊎◌, inl, inr, ℕ, suc, ◌≤◌, false, List, [], ◌∷◌, ◌++◌, ◌∙◌, length, map, take, drop, refl, sym, ap, subst, arith, length-append, length-drop}
 use Rattle.std.specs.Prelude.{Option, Some, None, nat_le, if◌then◌else◌}
-use Rattle.std.proofs.lemmas.List.{append-nil, drop_at, take-append-drop, take_at}
+use Rattle.std.proofs.lemmas.List.{append-nil, take-append-drop}
 use Rattle.std.proofs.lemmas.Bool.Decides.{nat_tests}
 use Rattle.ifdb_disk.specs.Images.{Range, Shown, IsImage, settled}
-use Rattle.ifdb_disk.specs.Clock.{Clock, Leaves, Now}
+use Rattle.ifdb_disk.specs.Clock.{Clock, Leaves}
 use Rattle.ifdb_disk.proofs.Moments.{leaves_weaker}
 use Rattle.ifdb_disk.proofs.Store.{settled_only}
 use Rattle.ifdb_journal.specs.declared.record.Record.{Record}
-use Rattle.ifdb_journal.specs.Records.{IsFront, damage, records, scan}
-use Rattle.ifdb_journal.specs.Reading.{Holds, IsOldOrShort, IsReadTo, Place, ReadTo, SpellsSame}
+use Rattle.ifdb_journal.specs.Records.{IsFront, records, scan}
+use Rattle.ifdb_journal.specs.Reading.{IsOldOrShort, IsReadTo, Place, ReadTo, SpellsSame}
 use Rattle.ifdb_log.specs.Behind.{behind, front_of, shown_behind, range_behind, Fronted, HasBehind, Stands}
-use Rattle.ifdb_log.specs.Pieces.{texts_behind, texts_of, with_texts}
-use Rattle.ifdb_log.specs.Reading.{DamagedHasNoTexts, HasRead, HoldsTexts, IsDamaged, held}
+use Rattle.ifdb_log.specs.Pieces.{texts_of, with_texts}
+use Rattle.ifdb_log.specs.Reading.{DamagedHasNoTexts, IsDamaged}
 use Rattle.ifdb_log.specs.Title.{IsLog, IsSettled}
 use Rattle.ifdb_log.proofs.Fronts.{leaves_behind}
 use Rattle.ifdb_model.specs.Log.{Entry}
@@ -68,7 +68,7 @@ pub file_restarted : DamagedHasNoTexts → FilesAreRestarted
 file_restarted damaged c texts log file = record {
   same = λ at made h it.
       let texts_are : it.0 ≡ texts = same_some it.0 texts (sym it.1.are_texts ∙ file.restores.are) in
-      same_some made log (sym it.2.is ∙ ap log_of texts_are ∙ file.restores.log);
+      same_some made log (sym it.2.is ∙ ap log_of texts_are ∙ file.restores.is);
   whole = λ at found. no at found;
 } where
   bytes : List ℕ
@@ -81,7 +81,7 @@ file_restarted damaged c texts log file = record {
       (stood (shown_behind 16 c.now) (map (shown_behind 16) c.before) found.read.0 found.next found.read.1) file.restores.are in
       let lost : log_of texts ≡ None =
       ap log_of first.1 ∙ behind_more (Some []) (found.before ++ found.unfit ∷ []) first.0 ∙ ap (λ o. log_behind o first.0) found.none ∙ none_behind first.0 in
-      cc (sym lost ∙ file.restores.log)
+      cc (sym lost ∙ file.restores.is)
 
 -- ---- the disk behind its title
 
@@ -121,7 +121,7 @@ holds_log b c at log h titled fronted it =
         record {
           titled = still_titled (Some b) (Some c) titled fronted b c refl refl;
           whole = it.1.whole.whole;
-          restores = record { are = it.1.are_texts; log = it.2.is };
+          restores = record { are = it.1.are_texts; is = it.2.is };
         },
       ),
     )
@@ -150,6 +150,17 @@ spells_on b c texts log titled same file = record {
   restores = subst (λ rs. Restore rs texts log) (sym same.0) file.restores;
 }
 
+-- what lies behind the title of a disk, as it was when it began
+pub behind_begun : {X : Type 0} (tells : X → Option Clock) (a b : X) (begun : Option Clock) (m : ℕ) → a ≡ b → begun ≡ tells b → m ≡ 16 → behind m (tells a) ≡ behind 16 begun
+behind_begun tells a b begun m same is size =
+    let clock : tells a ≡ begun = ap tells same ∙ sym is in
+    λ i. behind (size i) (clock i)
+
+pub front_begun : {X : Type 0} (tells : X → Option Clock) (a b : X) (begun : Option Clock) (m : ℕ) → a ≡ b → begun ≡ tells b → m ≡ 16 → Fronted m begun (tells a) → Fronted 16 begun begun
+front_begun tells a b begun m same is size fronted =
+    let clock : tells a ≡ begun = ap tells same ∙ sym is in
+    subst (λ k. Fronted k begun begun) size (subst (Fronted m begun) clock fronted)
+
 -- of a disk whose title has stood since a restart began
 module _ (law : FilesAreRestarted) (n : ℕ) (begun t : Option Clock) (P : List ℕ → Type 0) (titled : IsSettled IsLog begun) (first : Fronted 16 begun begun) (fronted : Fronted n begun t) (leaves : Leaves (behind 16 begun) (behind n t) P) where
   sized : (b c : Clock) → begun ≡ Some b → t ≡ Some c → 16 ≡ n
@@ -166,8 +177,8 @@ module _ (law : FilesAreRestarted) (n : ℕ) (begun t : Option Clock) (P : List 
   pub reopened_shows : (at : ℕ) (made : List Entry) (h : Hall) → IsTold begun → IsRestarted (behind n t) at made h → (n ≡ 16) × ((texts : List (List ℕ)) × ShowsLog t texts made)
   reopened_shows at made h told it = by begun refl told where
     by : (o : Option Clock) → begun ≡ o → IsTold o → (n ≡ 16) × ((texts : List (List ℕ)) × ShowsLog t texts made)
-    by None is no = absurd no
-    by (Some b) is yes =
+    by None is shown = absurd shown
+    by (Some b) is shown =
         let now = both b is in
         let size = sized b now.0 is now.1 in
         let titled_b = subst (IsSettled IsLog) is titled in
@@ -179,7 +190,7 @@ module _ (law : FilesAreRestarted) (n : ℕ) (begun t : Option Clock) (P : List 
   restarted_now : (texts : List (List ℕ)) (log : List Entry) → ShowsLog begun texts log → SpellsSame (behind 16 begun) (behind n t) → (c : Clock) × (t ≡ Some c) × (16 ≡ n) × IsRestartedAs (Some c) log
   restarted_now texts log shows same = by begun refl shows where
     by : (o : Option Clock) → begun ≡ o → ShowsLog o texts log → (c : Clock) × (t ≡ Some c) × (16 ≡ n) × IsRestartedAs (Some c) log
-    by None is no = absurd no
+    by None is shown = absurd shown
     by (Some b) is shown =
         let now = both b is in
         let size = sized b now.0 is now.1 in

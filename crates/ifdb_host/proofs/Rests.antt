@@ -1,6 +1,6 @@
 -- What an image with a front of the records of a history restores.
-use Rattle.std.proofs.Common.{◌≡◌, ℕ, ◌+◌, ◌≤◌, List, [], ◌∷◌, ◌++◌, ◌∙◌, length, take, drop, refl, sym, ap, subst, arith, length-append}
-use Rattle.std.specs.Prelude.{Option, Some, None}
+use Rattle.std.proofs.Common.{◌≡◌, ℕ, ◌+◌, ◌≤◌, List, ◌++◌, ◌∙◌, length, take, drop, sym, ap, subst, arith, length-append}
+use Rattle.std.specs.Prelude.{Some, None}
 use Rattle.std.specs.List.{flat_map}
 use Rattle.std.proofs.Math.Seq.{drop-append_seam, take-append-add, take-append_seam}
 use mathlib.Core.List.{IsPrefix}
@@ -20,7 +20,7 @@ use Rattle.ifdb_session.specs.Durable.{count_of}
 use Rattle.ifdb_session.specs.Records.{records_of, texts_of}
 use Rattle.ifdb_session.specs.Starts.{start_of}
 use Rattle.ifdb_session.specs.Texts.{AreReadAgain}
-use Rattle.ifdb_host.specs.Files.{IsFileOf, Restore}
+use Rattle.ifdb_host.specs.Files.{Restore}
 use Rattle.ifdb_host.specs.Fronts.{HasFrontOf}
 use Rattle.ifdb_host.proofs.Titles.{IsTitle, title_then}
 
@@ -42,7 +42,7 @@ rest_of fronts adds rs before first h texts least rest restore again front le ha
     let n = has.0 in
     let found = fronts rs before all n restore.are in
     let k = found.0 in
-    let one = adds before first (flat h) all restore.log again in
+    let one = adds before first (flat h) all restore.is again in
     let log = log_added (start_of first) h in
     let short : take (length texts) all ≡ texts = ap (take (length texts)) (sym front.1) ∙ take-append_seam texts front.0 in
     let fits : length (flat_map pieces (take (length texts) all)) ≤ n = subst (λ l. length (flat_map pieces l) ≤ n) (sym short) (omega (arith, le, has.1)) in
@@ -54,7 +54,7 @@ rest_of fronts adds rs before first h texts least rest restore again front le ha
       whole = has.3.whole;
       restores = record {
         are = ap Rattle.ifdb_log.specs.Pieces.texts_of has.3.has ∙ found.2;
-        log = one.front k ∙ ap (λ l. Some (take (length first + k) l)) log ∙ ap Some (take-append-add first added k);
+        is = one.front k ∙ ap (λ l. Some (take (length first + k) l)) log ∙ ap Some (take-append-add first added k);
       };
     }
 

@@ -1,5 +1,5 @@
 -- The title of a file is told by its first 16 bytes.
-use Rattle.std.proofs.Common.{◌≡◌, ℕ, ◌+◌, ◌≤◌, List, [], ◌∷◌, ◌++◌, ◌∙◌, length, take, drop, refl, sym, ap, subst, arith, length-append}
+use Rattle.std.proofs.Common.{◌≡◌, ℕ, ◌≤◌, List, [], ◌∷◌, ◌++◌, ◌∙◌, length, take, refl, sym, ap, arith, length-append}
 use Rattle.std.specs.Prelude.{Option, Some, None}
 use Rattle.std.proofs.lemmas.List.{append-nil, take_at}
 use Rattle.ifdb_disk.specs.Clock.{Clock}
@@ -38,5 +38,5 @@ pub title_file : TitleIsAFile
 title_file = record {
   titled = (105, [], λ e. omega (arith, e), sym (append-nil title));
   whole = refl;
-  restores = record { are = refl; log = refl };
+  restores = record { are = refl; is = refl };
 }

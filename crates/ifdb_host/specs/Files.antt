@@ -1,6 +1,5 @@
 -- The file of a database, at one moment: a title, and behind it records, whose texts restore a log.
 use Rattle.std.specs.Prelude.{◌≡◌, ◌⊎◌, ℕ, ◌≤◌, List, length, drop, Option, Some, None, ⊤}
-use Rattle.ifdb_disk.specs.Images.{settled}
 use Rattle.ifdb_disk.specs.Clock.{Clock, Now}
 use Rattle.ifdb_journal.specs.declared.record.Record.{Record}
 use Rattle.ifdb_journal.specs.Records.{damage, records}
@@ -12,7 +11,7 @@ use Rattle.ifdb_restart.specs.Restarted.{log_of}
 -- some records are the pieces of these texts, which restore this log
 pub record Restore (rs : List Record) (texts : List (List ℕ)) (log : List Entry) : Type 0 where
   pub are : texts_of rs ≡ Some texts
-  pub log : log_of texts ≡ Some log
+  pub is : log_of texts ≡ Some log
 
 -- bytes that begin with the title, and behind it read whole, as the records of these texts, which restore this log
 pub record IsFileOf (texts : List (List ℕ)) (log : List Entry) (bytes : List ℕ) : Type 0 where

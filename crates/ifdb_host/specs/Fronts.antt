@@ -1,6 +1,5 @@
 -- What crashes leave of a database's file: what it began with, and a front of what a history added to it.
 use Rattle.std.specs.Prelude.{◌≡◌, ℕ, ◌≤◌, false, List, [], ◌∷◌, ◌++◌, length, take, Option, Some, None, ⊤}
-use mathlib.Core.List.{IsPrefix}
 use Rattle.ifdb_disk.specs.Images.{IsImage}
 use Rattle.ifdb_disk.specs.Clock.{Clock, Leaves, Now}
 use Rattle.ifdb_durable.specs.declared.view.Flush.{Flush}

@@ -93,7 +93,7 @@ fn serve_named<B: Origin, N: Begins, R: Wait>(
         group,
         member,
     };
-    let Closed { counts, disk } = database.close();
+    let Closed { counts, disk, .. } = database.close();
     Ok(Served {
         ending,
         entries: counts.entries,

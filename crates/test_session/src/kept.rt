@@ -88,7 +88,7 @@ fn serve<R: Wait>(
     fail: u64,
 ) -> Result<Option<Outcome>, Fail> {
     let fails = Vec::from_slice(alloc, &[fail])?;
-    let mut disk = MemoryDisk::new(alloc, Vec::new(alloc), ROOM, NO_CALL, fails)?;
+    let mut disk = MemoryDisk::new(alloc, Vec::new(alloc), 4096, NO_CALL, fails)?;
     let Ok(mut journal) = Journal::start(alloc, &mut disk) else {
         return Ok(None);
     };
