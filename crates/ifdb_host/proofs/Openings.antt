@@ -1,5 +1,5 @@
 -- From a disk as it was given to the database that was opened over it.
-use Rattle.std.proofs.Common.{◌≡◌, ◌≢◌, ◌⊎◌, inl, inr, ℕ, ◌≤◌, List, [], ◌∷◌, ◌++◌, ◌∙◌, length, drop, refl, sym, ap, subst, arith, cc, append-nil}
+use Rattle.std.proofs.Common.{◌≡◌, ◌≢◌, ◌⊎◌, inl, inr, ℕ, ◌≤◌, List, [], ◌∷◌, ◌++◌, ◌∙◌, length, drop, refl, sym, ap, subst, arith, append-nil}
 use Rattle.std.specs.Prelude.{Option, Some, None}
 use Rattle.ifdb_io.specs.Causes.{Rose}
 use Rattle.ifdb_io.specs.declared.outside.Source as source
@@ -10,14 +10,17 @@ use Rattle.ifdb_disk.specs.Images.{IsImage, settled}
 use Rattle.ifdb_disk.specs.Clock.{Clock, Leaves, Now}
 use Rattle.ifdb_disk.proofs.Moments.{leaves_on, leaves_weaker}
 use Rattle.ifdb_disk.proofs.Store.{settled_only}
-use Rattle.ifdb_log.specs.Title.{Entitles, IsLog, IsNew, IsNewOrTitle, IsOldOrMade, IsSettled, title, title_rest}
+use Rattle.ifdb_log.specs.declared.fault.LogFault.{LogFault}
+use Rattle.ifdb_log.specs.declared.fault.LogFault.TheVariants as fault
+use Rattle.ifdb_log.specs.Title.{IsOther, Entitles, IsLog, IsNew, IsNewOrTitle, IsOldOrMade, IsSettled, title, title_rest}
 use Rattle.ifdb_model.specs.Log.{Entry as LogEntry}
 use Rattle.ifdb_history.specs.declared.entry.Entry.{Entry}
 use Rattle.ifdb_words.specs.declared.service.Service.{Service}
 use Rattle.ifdb_service.proofs.AtSite.{served_wider}
+use Rattle.ifdb_host.specs.Causes.{IsCaused}
 use Rattle.ifdb_host.specs.Files.{IsFileOf, IsOldOrBare, IsTold, ShowsLog}
 use Rattle.ifdb_host.specs.Fronts.{IsKeptSince}
-use Rattle.ifdb_host.specs.Hosted.{DiskSpan, HostsSite, IsBare, IsFileOn, IsHosted, IsKeptOn, IsNewOn, IsOldOrBegun, IsUnopened}
+use Rattle.ifdb_host.specs.Hosted.{end_of, DiskSpan, HostsSite, IsBare, IsFileOn, IsHosted, IsKeptOn, IsNewOn, IsOldOrBegun, IsUnopened}
 use Rattle.ifdb_host.specs.Serving.{HasFailed, IsKeptBehind, LeavesFronts, ServedHere, ServesOpened}
 use Rattle.ifdb_host.specs.declared.end.HostEnd.{HostEnd}
 use Rattle.ifdb_host.specs.declared.end.HostEnd.TheVariants as ends
@@ -32,7 +35,7 @@ log_not_new b log (inr shut) =
     log.2 (cc same)
 
 title_file : IsFileOf [] [] title
-title_file = record { titled = (105, [], (omega arith), refl); whole = refl; restores = record { are = refl; log = refl } }
+title_file = let nonzero : 105 ≢ 0 = omega arith in record { titled = (105, [], nonzero, refl); whole = refl; restores = record { are = refl; is = refl } }
 
 title_bare : (b : List ℕ) → b ≡ title → IsBare b
 title_bare b is = let nonzero : 105 ≢ 0 = omega arith in inr ((105, [], nonzero, is), omega (arith, ap length is))
@@ -178,11 +181,11 @@ bare_unopened (Some c) u present titled moments = leaves_weaker (Some c) u (IsOl
   where
     begun : (image : List ℕ) → IsOldOrBare (Some c) image → IsOldOrBegun (Some c) image
     begun image (inl same) = inl (subst (IsImage c.now) (sym same) present)
-    begun image (inr bare) = inr (inr (titled.1, bare.0), inr bare.1)
+    begun image (inr bare) = inr (inr (titled.1, bare.0), inr (bare.1, bare.2))
 
 module _ (t u v : Option Clock) (size : ℕ) (first : List LogEntry) (m n : ℕ) (k : IsReopenedFrom t u size first) where
   -- the texts that the disk showed
-  texts_by : (t : Option Clock) → (IsTold t → (size ≡ 16) × ((texts : List (List ℕ)) × ShowsLog u texts first)) → List (List ℕ)
+  abbrev texts_by : (t : Option Clock) → (IsTold t → (size ≡ 16) × ((texts : List (List ℕ)) × ShowsLog u texts first)) → List (List ℕ)
   texts_by None shows = []
   texts_by (Some c) shows = (shows tt).1.0
 
@@ -251,3 +254,55 @@ module _ (t u v : Option Clock) (size : ℕ) (first : List LogEntry) (m n : ℕ)
       output_later = h.output_later;
       site_later = h.site_later;
     }
+
+-- ---- a start that was refused
+
+module _ {S D K W : Type 0} (sites : site.Ghosts S D K) (doors : door.Ghosts D K) (sources : source.Ghosts K) (sinks : sink.Ghosts K) (outputs : sink.Ghosts W)
+    (s : Service) (at_site : S) (output : W) (t u : Option Clock) (m n : ℕ) where
+  pub refused_so : (why : LogFault) → IsCaused m n why → IsUnopened t u → (why ≡ fault.NotALog → (u ≡ t) × Now t (λ shown. IsOther shown.bytes))
+      → ((at : ℕ) → why ≡ fault.Damaged at → (texts : List (List ℕ)) (log : List LogEntry) → IsFileOn t texts log → ⊥)
+      → HostsSite sites doors sources sinks outputs s at_site at_site output output (record { before = t; after = u; faults = m; faults_after = n }) (end_of why)
+  refused_so fault.Disk cause unopened other damaged = record {
+    done = λ e. cc;
+    cut = λ e. cc;
+    disk = λ e. (cause.1, inl ((refl, refl), unopened));
+    site = λ e. cc;
+    memory = λ e. cc;
+    damaged = λ at e. cc;
+    other = λ e. cc;
+    output_later = omega arith;
+    site_later = omega arith;
+  }
+  refused_so fault.NotALog cause unopened other damaged = record {
+    done = λ e. cc;
+    cut = λ e. cc;
+    disk = λ e. cc;
+    site = λ e. cc;
+    memory = λ e. cc;
+    damaged = λ at e. cc;
+    other = λ e. ((refl, refl), other refl);
+    output_later = omega arith;
+    site_later = omega arith;
+  }
+  refused_so (fault.Damaged place) cause unopened other damaged = record {
+    done = λ e. cc;
+    cut = λ e. cc;
+    disk = λ e. cc;
+    site = λ e. cc;
+    memory = λ e. cc;
+    damaged = λ at e. ((refl, refl), unopened, damaged place refl);
+    other = λ e. cc;
+    output_later = omega arith;
+    site_later = omega arith;
+  }
+  refused_so fault.OutOfMemory cause unopened other damaged = record {
+    done = λ e. cc;
+    cut = λ e. cc;
+    disk = λ e. cc;
+    site = λ e. cc;
+    memory = λ e. (inl unopened, inl (refl, refl));
+    damaged = λ at e. cc;
+    other = λ e. cc;
+    output_later = omega arith;
+    site_later = omega arith;
+  }

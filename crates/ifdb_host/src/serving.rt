@@ -9,17 +9,23 @@ ghost use Rattle.ifdb_durable.specs.Groups.{IsMember, shares_of};
 ghost use Rattle.ifdb_durable.specs.Seats.{IsOpened};
 ghost use Rattle.ifdb_restart.specs.Restarted.{IsClosedOver};
 ghost use Rattle.ifdb_words.specs.Ranges.{IsService};
-ghost use Rattle.ifdb_host.specs.Fronts.{opening_of};
+ghost use Rattle.ifdb_durable.specs.Told.{Begins};
+ghost use Rattle.ifdb_service.specs.Doors.{ServedAll};
+ghost use Rattle.ifdb_session.specs.Durable.{count_of};
+ghost use Rattle.ifdb_session.specs.Passes.{Sees};
+ghost use Rattle.ifdb_host.specs.Fronts.{opening_of, KnowsOf};
 ghost use Rattle.ifdb_host.specs.Hosted.{HostsSite};
 ghost use Rattle.ifdb_host.specs.Serving.{IsWholePass, LeavesFronts, ServesOpened, VisitedAll, site_end, span_of};
 
 use crate::end::{HostEnd, end_of};
 use crate::{Closed, Database, NotReopened, Reopened, reopen};
 use ifdb_disk::Disk;
+use ifdb_durable::{GroupCommit, Member, Queue};
 use ifdb_io::{Door, Failed, Sink, Site, SiteFault};
 use ifdb_log::{Behind, Origin, entitle};
 use ifdb_service::{Ended, Unserved, serve_doors, write_numbered, write_summary};
-use ifdb_session::{Begins, Durable};
+use ifdb_session::{Begins, Durable, SharedRoom};
+use ifdb_turn::{Pass, Turnstile};
 use ifdb_words::Service;
 use std::alloc::Global;
 use std::marker::Brand;
@@ -79,9 +85,10 @@ fn host_titled<
     requires service { IsService service }
     requires begun { B.begun ≡ D.tells disk }
     requires titled { IsSettled IsLog (D.tells disk) }
-    ensures { HostsSite S.Site S.Door.Door S.Door.Link.Source S.Door.Link.Sink W.Sink service
+    ensures hosts { HostsSite S.Site S.Door.Door S.Door.Link.Source S.Door.Link.Sink W.Sink service
         site.old site.new output.old output.new
         (span_of D.tells D.faults disk result.disk) result.end }
+    ensures titled { result.end ≡ HostEnd.NotADatabase → ⊥ }
 {
     match reopen::<B, D>(alloc, disk, ROOM) {
         Ok(reopened) => host_reopened::<Brand, _, _, _, _, _>(
@@ -118,7 +125,7 @@ fn host_reopened<
     requires mark { IsOpened reopened.means.mark }
     requires empty { (reopened.means.waiting.records ≡ [])
         × (reopened.means.in_hand.records ≡ []) }
-    ensures { ServesOpened S.Site S.Door.Door S.Door.Link.Source S.Door.Link.Sink W.Sink N.first service
+    ensures serves { ServesOpened S.Site S.Door.Door S.Door.Link.Source S.Door.Link.Sink W.Sink N.first service
         site.old site.new output.old output.new
         reopened.disk.size (span_of D.tells D.faults reopened.disk.disk result.disk) result.end }
 {
@@ -151,7 +158,7 @@ fn serve<
     requires pass { IsWholePass N.first database.hall database.pass }
     requires member { IsMember database.group.writer database.member }
     requires member_shares { shares_of database.member ≡ all_shares }
-    ensures { (opening : Behind B D) → database.member.receipt ≡ opening_of opening
+    ensures serves { (opening : _) → database.member.receipt ≡ opening_of opening
         → ServesOpened S.Site S.Door.Door S.Door.Link.Source S.Door.Link.Sink W.Sink N.first service
         site.old site.new output.old output.new
         opening.size (span_of D.tells D.faults opening.disk result.disk) result.end }
@@ -223,15 +230,15 @@ fn visit<
     requires few { vec_len doors ≤ 64 }
     requires most { All (λ door. G.most door < 2 ^ 64) doors.items }
     requires limit { limit ≤ 2 ^ 40 }
-    ensures ended { (opening : Behind B D) → database.member.receipt ≡ opening_of opening
+    ensures ended { (opening : _) → database.member.receipt ≡ opening_of opening
         → IfOk result.ended (λ e. VisitedAll G.Link.Source G.Link.Sink N.first G.Door limit
         opening.size (span_of D.tells D.faults opening.disk result.closed.disk)
         database.pass doors.items e.doors.items e.faults result.closed.counts) }
     ensures unserved { IfErr result.ended (λ e. e.doors ≡ doors) }
-    ensures idle { (opening : Behind B D) → database.member.receipt ≡ opening_of opening
+    ensures idle { (opening : _) → database.member.receipt ≡ opening_of opening
         → IfErr result.ended (λ _. LeavesFronts N.first opening.size
         (span_of D.tells D.faults opening.disk result.closed.disk) []) }
-    ensures failed { (opening : Behind B D) → database.member.receipt ≡ opening_of opening
+    ensures failed { (opening : _) → database.member.receipt ≡ opening_of opening
         → result.closed.has_failed ≡ true
         → Rose (D.faults opening.disk) (D.faults result.closed.disk) }
 {
@@ -241,12 +248,7 @@ fn visit<
         group,
         member,
     } = database;
-    let mut keeper = Durable {
-        group: &group,
-        member,
-    };
-    let ended = serve_doors(rt, alloc, &hall, &mut pass, &mut keeper, doors, limit);
-    let Durable { member, .. } = keeper;
+    let (ended, member) = keep_serving(rt, alloc, &hall, &mut pass, &group, member, doors, limit);
     let database = Database {
         hall,
         pass,
@@ -257,6 +259,45 @@ fn visit<
         ended,
         closed: database.close(),
     }
+}
+
+// Serves each door in a thread of its own, where replies wait by a member of the group, which comes back.
+fn keep_serving<
+    'g,
+    N: Begins + Send + Sync,
+    B: Origin + Send + Sync,
+    R: Threads + Wait + Sync,
+    G: Door + Send + Drop,
+    D: Disk + Send + Drop,
+>(
+    rt: &R,
+    alloc: Global,
+    hall: &Turnstile<SharedRoom<Queue<N, Behind<B, D>>>>,
+    pass: &mut Pass<SharedRoom<Queue<N, Behind<B, D>>>>,
+    group: &'g GroupCommit<N, Behind<B, D>>,
+    member: Member<N, Behind<B, D>>,
+    doors: Vec<G>,
+    limit: u64,
+) -> (Result<Ended<G>, Unserved<G>>, Member<N, Behind<B, D>>)
+    requires pass { IsWholePass N.first hall.now pass.old }
+    requires member { IsMember group.now.writer member }
+    requires member_shares { shares_of member ≡ all_shares }
+    requires few { vec_len doors ≤ 64 }
+    requires most { All (λ door. G.most door < 2 ^ 64) doors.items }
+    requires limit { limit ≤ 2 ^ 40 }
+    ensures sees { Sees N.first hall.now pass.old pass.new }
+    ensures member { IsMember group.entry.now.writer result.1 }
+    ensures member_shares { shares_of result.1 ≡ all_shares }
+    ensures told { Begins member.receipt result.1.receipt }
+    ensures unserved { IfErr result.0 (λ e. (e.doors ≡ doors) × (pass.new ≡ pass.old)) }
+    ensures ended { IfOk result.0 (λ e. ServedAll G.Link.Source G.Link.Sink N.first
+        (λ texts. KnowsOf result.1.receipt (count_of texts)) (result.1.receipt.has_failed ≡ true)
+        G.Door limit pass.old pass.new doors.items e.doors.items e.faults) }
+{
+    let mut keeper = Durable { group, member };
+    let ended = serve_doors(rt, alloc, hall, pass, &mut keeper, doors, limit);
+    let Durable { member, .. } = keeper;
+    (ended, member)
 }
 
 // How a service ends whose site gave no doors.

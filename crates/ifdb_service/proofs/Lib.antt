@@ -1,5 +1,5 @@
-mod Links
+pub mod Links
 mod Crew
-mod AtSite
+pub mod AtSite
 mod Rooms
 mod Hosts
