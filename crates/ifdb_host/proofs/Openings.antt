@@ -83,7 +83,7 @@ unopened_before (Some c) (Some d) v k unopened =
     leaves_on (Some c) (Some d) v (IsOldOrBegun (Some c)) (titled_unopened (Some c) (Some d) k.moments)
     (leaves_weaker (Some d) v (IsOldOrBegun (Some d)) (IsOldOrBegun (Some c)) (image_before c d k) unopened)
 
-told_behind : (t u : Option Clock) → IsTitledFrom t u → IsTold t → IsTold u
+pub told_behind : (t u : Option Clock) → IsTitledFrom t u → IsTold t → IsTold u
 told_behind None u k told = absurd told
 told_behind (Some c) None k told = absurd k.moments
 told_behind (Some c) (Some d) k told = tt
@@ -97,7 +97,7 @@ file_behind (Some c) (Some d) texts log k file = by k.entitles
     by (inl made) = absurd (log_not_new c.now.bytes file.titled made.0)
     by (inr kept) = subst (IsFileOf texts log) (sym kept) file
 
-new_behind : (t u : Option Clock) → IsTitledFrom t u → IsNewOn t → IsFileOn u [] []
+pub new_behind : (t u : Option Clock) → IsTitledFrom t u → IsNewOn t → IsFileOn u [] []
 new_behind None u k new = absurd new
 new_behind (Some c) None k new = absurd k.moments
 new_behind (Some c) (Some d) k new = by k.entitles
@@ -106,7 +106,7 @@ new_behind (Some c) (Some d) k new = by k.entitles
     by (inl made) = subst (IsFileOf [] []) (sym made.1) title_file
     by (inr kept) = absurd (log_not_new d.now.bytes k.titled.1 (subst IsNew (sym kept) new))
 
-pub kept_before : (t u v : Option Clock) (h : List Entry) → IsTitledFrom t u → IsKeptOn u v h → IsKeptOn t v h
+abbrev pub kept_before : (t u v : Option Clock) (h : List Entry) → IsTitledFrom t u → IsKeptOn u v h → IsKeptOn t v h
 kept_before t u v h k kept = record {
   first = kept.first;
   texts = kept.texts;
@@ -151,7 +151,7 @@ module _ {S D K : Type 0} (sites : site.Ghosts S D K) (doors : door.Ghosts D K) 
         | inr hosted ↦ inr (hosted_before _ s before after t u v m n o k calm hosted)
       ],
     );
-    site = λ e. let x = h.site e in (x.0, x.1, x.2.0, kept_before t u v [] k x.2.1);
+    site = λ e. let x = h.site e in (x.0, x.1, x.2, kept_before t u v [] k x.3);
     memory = λ e. let x = h.memory e in (
       elim x.0 [
         | inl unopened ↦ inl (unopened_before t u v k unopened)
@@ -185,7 +185,7 @@ bare_unopened (Some c) u present titled moments = leaves_weaker (Some c) u (IsOl
 
 module _ (t u v : Option Clock) (size : ℕ) (first : List LogEntry) (m n : ℕ) (k : IsReopenedFrom t u size first) where
   -- the texts that the disk showed
-  abbrev texts_by : (t : Option Clock) → (IsTold t → (size ≡ 16) × ((texts : List (List ℕ)) × ShowsLog u texts first)) → List (List ℕ)
+  abbrev pub texts_by : (t : Option Clock) → (IsTold t → (size ≡ 16) × ((texts : List (List ℕ)) × ShowsLog u texts first)) → List (List ℕ)
   texts_by None shows = []
   texts_by (Some c) shows = (shows tt).1.0
 
@@ -193,21 +193,21 @@ module _ (t u v : Option Clock) (size : ℕ) (first : List LogEntry) (m n : ℕ)
   texts_shown None shows told = absurd told
   texts_shown (Some c) shows told = ((shows tt).0, (shows tt).1.1)
 
-  here : IsTold t → (size ≡ 16) × ShowsLog u (texts_by t k.shows) first
+  pub here : IsTold t → (size ≡ 16) × ShowsLog u (texts_by t k.shows) first
   here = texts_shown t k.shows
 
-  shown_on : (t : Option Clock) (xs : List (List ℕ)) (log : List LogEntry) → IsSettled IsLog t → IsFileOn t xs log → ShowsLog t xs log
+  pub shown_on : (t : Option Clock) (xs : List (List ℕ)) (log : List LogEntry) → IsSettled IsLog t → IsFileOn t xs log → ShowsLog t xs log
   shown_on None xs log titled file = absurd file
   shown_on (Some c) xs log titled file = (titled.0, file)
 
-  not_new : (t : Option Clock) → IsSettled IsLog t → IsNewOn t → ⊥
+  pub not_new : (t : Option Clock) → IsSettled IsLog t → IsNewOn t → ⊥
   not_new None titled new = absurd new
   not_new (Some c) titled new = log_not_new c.now.bytes titled.1 new
 
   abbrev d : DiskSpan
   d = record { before = u; after = v; faults = n; faults_after = m }
 
-  pub kept_opened : (h : List Entry) → LeavesFronts first size d h → IsKeptOn t v h
+  abbrev pub kept_opened : (h : List Entry) → LeavesFronts first size d h → IsKeptOn t v h
   kept_opened h fronts = record {
     first = first;
     texts = texts_by t k.shows;
@@ -247,7 +247,7 @@ module _ (t u v : Option Clock) (size : ℕ) (first : List LogEntry) (m n : ℕ)
         ],
       );
       disk = λ e. (subst (λ f. Rose f m) calm (h.disk e).0, inr (hosted_opened _ (h.disk e).1));
-      site = λ e. let x = h.site e in (x.0, x.1, x.2.0, kept_opened [] x.2.1);
+      site = λ e. let x = h.site e in (x.0, x.1, x.2, kept_opened [] x.3);
       memory = λ e. let x = h.memory e in (inr (kept_opened [] x.0), x.1);
       damaged = λ at e. absurd (h.opened at e);
       other = λ e. absurd (h.titled e);
@@ -280,7 +280,7 @@ module _ {S D K W : Type 0} (sites : site.Ghosts S D K) (doors : door.Ghosts D K
     site = λ e. cc;
     memory = λ e. cc;
     damaged = λ at e. cc;
-    other = λ e. ((refl, refl), other refl);
+    other = λ e. ((refl, refl), (other refl).0, (other refl).1);
     output_later = omega arith;
     site_later = omega arith;
   }

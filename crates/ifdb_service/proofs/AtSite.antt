@@ -47,7 +47,7 @@ module _ {S D K : Type 0} (sites : site.Ghosts S D K) where
 module _ {S D K : Type 0} (sites : site.Ghosts S D K) (doors : door.Ghosts D K) (sources : source.Ghosts K) (sinks : sink.Ghosts K)
     (first_log : List LogEntry) (IsKept : List (List ℕ) → Type 0) (HasFailed : Type 0) where
   -- all doors were served, in the history with which the turnstile was closed
-  pub is_served : {X : Type 0} (Wrote : List ℕ → Type 0) (s : Service) (first last : S) (given back : List D) (old now : Pass X Entry) (faults : ℕ) (counts : Counts)
+  abbrev pub is_served : {X : Type 0} (Wrote : List ℕ → Type 0) (s : Service) (first last : S) (given back : List D) (old now : Pass X Entry) (faults : ℕ) (counts : Counts)
       → Exchanges sites s first last given back → places old ≡ [] → ServedAll sources sinks first_log IsKept HasFailed doors s.limit old now given back faults
       → AllRight (IsRight (start_of first_log)) (history now) → OwnsAll now → RisesFrom 0 (places now)
       → counts ≡ counts_of first_log (history now) → Wrote (listening_line s.port ++ summary_text counts faults)
@@ -74,7 +74,7 @@ module _ {S D K : Type 0} (sites : site.Ghosts S D K) (doors : door.Ghosts D K) 
 -- a service was served so, where more may be said to be kept, or to have failed
 module _ {S D K : Type 0} (sites : site.Ghosts S D K) (doors : door.Ghosts D K) (sources : source.Ghosts K) (sinks : sink.Ghosts K)
     (first_log : List LogEntry) (IsKept IsKept' : List (List ℕ) → Type 0) (HasFailed HasFailed' : Type 0) where
-  pub served_wider : ((texts : List (List ℕ)) → IsKept texts → IsKept' texts) → (HasFailed → HasFailed') → (Wrote : List ℕ → Type 0) (s : Service) (first last : S)
+  abbrev pub served_wider : ((texts : List (List ℕ)) → IsKept texts → IsKept' texts) → (HasFailed → HasFailed') → (Wrote : List ℕ → Type 0) (s : Service) (first last : S)
       → IsServedOver sites doors sources sinks first_log IsKept HasFailed Wrote s first last
       → IsServedOver sites doors sources sinks first_log IsKept' HasFailed' Wrote s first last
   served_wider kept failed Wrote s first last i = record {

@@ -1,0 +1,17 @@
+use Rattle.std.proofs.Common.{rules, ◌≡◌, ◌∙◌, ap, sym, subst}
+use Rattle.ifdb_log.specs.Causes.{HasLogCause}
+use Rattle.ifdb_host.proofs.Openings.{hosts_before, refused_so, titled_unopened, IsTitledFrom}
+use Rattle.ifdb_host.proofs.serving.host.Goals as goal
+
+pub returns-in-Ok : goal.returns-in-Ok
+returns-in-Ok g c =
+    let t = g.D.Disk.tells c.args.disk in
+    let u = g.D.Disk.tells c.entitle.new.disk in
+    let k : IsTitledFrom t u = record {
+      present = g.D.Disk.present c.args.disk;
+      titled = search rules;
+      entitles = search rules;
+      moments = c.entitle.ensures.moments;
+    } in
+    hosts_before g.S.Site g.S.Door.Door g.S.Door.Link.Source g.S.Door.Link.Sink g.W.Sink c.args.service c.args.site.now c.host_titled.new.site c.args.output.now c.host_titled.new.output
+    t u _ _ _ _ _ k (search rules) c.host_titled.ensures.hosts c.host_titled.ensures.titled
