@@ -8,7 +8,7 @@ use Rattle.ifdb_io.specs.declared.doors.Door as door
 use Rattle.ifdb_io.specs.declared.doors.Site as site
 use Rattle.ifdb_disk.specs.Images.{IsImage, settled}
 use Rattle.ifdb_disk.specs.Clock.{Clock, Leaves, Now}
-use Rattle.ifdb_disk.proofs.Moments.{leaves_on, leaves_weaker}
+use Rattle.ifdb_disk.proofs.Moments.{leaves_on, leaves_weaker, since_here}
 use Rattle.ifdb_disk.proofs.Store.{settled_only}
 use Rattle.ifdb_log.specs.declared.fault.LogFault.{LogFault}
 use Rattle.ifdb_log.specs.declared.fault.LogFault.TheVariants as fault
@@ -19,7 +19,7 @@ use Rattle.ifdb_words.specs.declared.service.Service.{Service}
 use Rattle.ifdb_service.proofs.AtSite.{served_wider}
 use Rattle.ifdb_host.specs.Causes.{IsCaused}
 use Rattle.ifdb_host.specs.Files.{IsFileOf, IsOldOrBare, IsTold, ShowsLog}
-use Rattle.ifdb_host.specs.Fronts.{IsKeptSince}
+use Rattle.ifdb_host.specs.Fronts.{HasFrontOf, IsKeptSince, LeavesFrom}
 use Rattle.ifdb_host.specs.Hosted.{end_of, DiskSpan, HostsSite, IsBare, IsFileOn, IsHosted, IsKeptOn, IsNewOn, IsOldOrBegun, IsUnopened}
 use Rattle.ifdb_host.specs.Serving.{HasFailed, IsKeptBehind, LeavesFronts, ServedHere, ServesOpened}
 use Rattle.ifdb_host.specs.declared.end.HostEnd.{HostEnd}
@@ -253,6 +253,23 @@ module _ (t u v : Option Clock) (size : ℕ) (first : List LogEntry) (m n : ℕ)
       other = λ e. absurd (h.titled e);
       output_later = h.output_later;
       site_later = h.site_later;
+    }
+
+-- a disk that shows a log leaves the file of it, and of nothing that was added
+pub shown_leaves : (t : Option Clock) (texts : List (List ℕ)) (first : List LogEntry) → ShowsLog t texts first → LeavesFrom t t (HasFrontOf texts first [] 0)
+shown_leaves None texts first shows = absurd shows
+shown_leaves (Some c) texts first shows = (
+  (λ image left. here image (settled_only c.now.bytes image (subst (λ s. IsImage s image) shows.0 left))),
+  since_here (Some c) (λ s. (image : List ℕ) → IsImage s image → HasFrontOf texts first [] 0 image),
+)
+  where
+    here : (image : List ℕ) → image ≡ c.now.bytes → HasFrontOf texts first [] 0 image
+    here image same = record {
+      n = 0;
+      enough = omega arith;
+      there = omega arith;
+      file = subst (IsFileOf (texts ++ []) (first ++ [])) (sym same)
+          (subst (λ (z : List (List ℕ) × List LogEntry). IsFileOf z.0 z.1 c.now.bytes) (λ i. (sym (append-nil texts) i, sym (append-nil first) i)) shows.1);
     }
 
 -- ---- a start that was refused

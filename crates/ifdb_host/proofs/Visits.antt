@@ -52,6 +52,27 @@ pub summed_so : (r : Result (Unit {0}) Failed) (end : HostEnd) (P Q : Type 0) �
 summed_so (Ok x) end P Q done cut p q = ((λ e. p), ((λ e. let clash = sym done ∙ e in cc), inl done))
 summed_so (Err x) end P Q done cut p q = ((λ e. let clash = sym cut ∙ e in cc), ((λ e. q), inr cut))
 
+-- so it ended in no other way
+pub not_disk : (end : HostEnd) → (end ≡ ends.Done) ⊎ (end ≡ ends.WriteFault) → end ≡ ends.DiskFault → ⊥
+not_disk end (inl done) e = let clash = sym done ∙ e in cc
+not_disk end (inr cut) e = let clash = sym cut ∙ e in cc
+
+pub not_site : (end : HostEnd) → (end ≡ ends.Done) ⊎ (end ≡ ends.WriteFault) → end ≡ ends.SiteFault → ⊥
+not_site end (inl done) e = let clash = sym done ∙ e in cc
+not_site end (inr cut) e = let clash = sym cut ∙ e in cc
+
+pub not_memory : (end : HostEnd) → (end ≡ ends.Done) ⊎ (end ≡ ends.WriteFault) → end ≡ ends.OutOfMemory → ⊥
+not_memory end (inl done) e = let clash = sym done ∙ e in cc
+not_memory end (inr cut) e = let clash = sym cut ∙ e in cc
+
+pub not_damaged : (end : HostEnd) → (end ≡ ends.Done) ⊎ (end ≡ ends.WriteFault) → (at : ℕ) → end ≡ ends.Damaged at → ⊥
+not_damaged end (inl done) at e = let clash = sym done ∙ e in cc
+not_damaged end (inr cut) at e = let clash = sym cut ∙ e in cc
+
+pub not_other : (end : HostEnd) → (end ≡ ends.Done) ⊎ (end ≡ ends.WriteFault) → end ≡ ends.NotADatabase → ⊥
+not_other end (inl done) e = let clash = sym done ∙ e in cc
+not_other end (inr cut) e = let clash = sym cut ∙ e in cc
+
 module _ {S D K W X : Type 0} (sites : site.Ghosts S D K) (doors : door.Ghosts D K) (sources : source.Ghosts K) (sinks : sink.Ghosts K) (outputs : sink.Ghosts W)
     (first : List LogEntry) (s : Service) (before after : S) (output output' : W) (size : ℕ) (d : DiskSpan) where
   -- doors were visited over the database, and went back to the site

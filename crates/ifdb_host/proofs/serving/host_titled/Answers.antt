@@ -16,4 +16,12 @@ returns-in-Ok-clause-hosts g c =
       moments = search rules;
     } in
     hosts_opened t u _ made.disk.size (log_in made.restarted.made.items) _ _ k g.S.Site g.S.Door.Door g.S.Door.Link.Source g.S.Door.Link.Sink g.W.Sink
-    c.args.service c.args.site.now c.host_reopened.new.site c.args.output.now c.host_reopened.new.output _ (search rules) _ c.host_reopened.ensures
+    c.args.service c.args.site.now c.host_reopened.new.site c.args.output.now c.host_reopened.new.output _ (search rules) _ c.host_reopened.ensures.serves
+
+pub returns-in-Err-clause-hosts : goal.returns-in-Err-clause-hosts
+returns-in-Err-clause-hosts g c =
+    let t = g.D.Disk.tells c.args.disk in
+    let u = g.D.Disk.tells c.in-Err.disk in
+    refused_so g.S.Site g.S.Door.Door g.S.Door.Link.Source g.S.Door.Link.Sink g.W.Sink c.args.service c.args.site.now c.args.output.now t u _ _ c.in-Err.fault
+    (search rules) (bare_unopened t u (g.D.Disk.present c.args.disk) c.requires.titled (search rules)) (λ e. absurd ((search rules) e))
+    (λ at e texts log file. (search rules) at e texts log (shown_on t texts log c.requires.titled file))

@@ -10,7 +10,7 @@ use Rattle.ifdb_service.specs.Summary.{listening_line, summary_text}
 use Rattle.ifdb_service.proofs.AtSite.{exchanged}
 use Rattle.ifdb_host.specs.Fronts.{opening_of, HasFrontOf, LeavesFrom}
 use Rattle.ifdb_host.specs.Serving.{span_of}
-use Rattle.ifdb_host.proofs.Visits.{served_here, summed_so}
+use Rattle.ifdb_host.proofs.Visits.{served_here, summed_so, not_disk, not_site, not_memory, not_damaged, not_other}
 use Rattle.ifdb_host.proofs.serving.serve.Goals as goal
 
 pub returns-in-Err-write_numbered : goal.returns-in-Err-write_numbered
@@ -128,11 +128,11 @@ returns-else-closed g c = record {
       record {
         done = ends.0;
         cut = λ e. (search rules, inr (ends.1.0 e));
-        disk = λ e. elim ends.1.1 [ inl done ↦ (let clash = sym done ∙ e in cc) | inr cut ↦ (let clash = sym cut ∙ e in cc) ];
-        site = λ e. elim ends.1.1 [ inl done ↦ (let clash = sym done ∙ e in cc) | inr cut ↦ (let clash = sym cut ∙ e in cc) ];
-        memory = λ e. elim ends.1.1 [ inl done ↦ (let clash = sym done ∙ e in cc) | inr cut ↦ (let clash = sym cut ∙ e in cc) ];
-        opened = λ at e. elim ends.1.1 [ inl done ↦ (let clash = sym done ∙ e in cc) | inr cut ↦ (let clash = sym cut ∙ e in cc) ];
-        titled = λ e. elim ends.1.1 [ inl done ↦ (let clash = sym done ∙ e in cc) | inr cut ↦ (let clash = sym cut ∙ e in cc) ];
+        disk = λ e. absurd (not_disk c.summed.result ends.1.1 e);
+        site = λ e. absurd (not_site c.summed.result ends.1.1 e);
+        memory = λ e. absurd (not_memory c.summed.result ends.1.1 e);
+        opened = λ at e. absurd (not_damaged c.summed.result ends.1.1 at e);
+        titled = λ e. absurd (not_other c.summed.result ends.1.1 e);
         output_later = omega arith;
         site_later = omega arith;
       };
