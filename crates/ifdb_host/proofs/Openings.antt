@@ -183,6 +183,11 @@ bare_unopened (Some c) u present titled moments = leaves_weaker (Some c) u (IsOl
     begun image (inl same) = inl (subst (IsImage c.now) (sym same) present)
     begun image (inr bare) = inr (inr (titled.1, bare.0), inr (bare.1, bare.2))
 
+-- a file that is all synced is shown
+pub shown_on : (t : Option Clock) (xs : List (List ℕ)) (log : List LogEntry) → IsSettled IsLog t → IsFileOn t xs log → ShowsLog t xs log
+shown_on None xs log titled file = absurd file
+shown_on (Some c) xs log titled file = (titled.0, file)
+
 module _ (t u v : Option Clock) (size : ℕ) (first : List LogEntry) (m n : ℕ) (k : IsReopenedFrom t u size first) where
   -- the texts that the disk showed
   abbrev pub texts_by : (t : Option Clock) → (IsTold t → (size ≡ 16) × ((texts : List (List ℕ)) × ShowsLog u texts first)) → List (List ℕ)
@@ -195,10 +200,6 @@ module _ (t u v : Option Clock) (size : ℕ) (first : List LogEntry) (m n : ℕ)
 
   pub here : IsTold t → (size ≡ 16) × ShowsLog u (texts_by t k.shows) first
   here = texts_shown t k.shows
-
-  pub shown_on : (t : Option Clock) (xs : List (List ℕ)) (log : List LogEntry) → IsSettled IsLog t → IsFileOn t xs log → ShowsLog t xs log
-  shown_on None xs log titled file = absurd file
-  shown_on (Some c) xs log titled file = (titled.0, file)
 
   pub not_new : (t : Option Clock) → IsSettled IsLog t → IsNewOn t → ⊥
   not_new None titled new = absurd new

@@ -1,4 +1,4 @@
-use Rattle.std.proofs.Common.{rules, ◌≡◌, ◌∙◌, ap, sym, subst}
+use Rattle.std.proofs.Common.{rules, ◌≡◌, ◌∙◌, ap, sym, subst, Err}
 use Rattle.ifdb_log.specs.Causes.{HasLogCause}
 use Rattle.ifdb_host.proofs.Openings.{hosts_before, refused_so, titled_unopened, IsTitledFrom}
 use Rattle.ifdb_host.proofs.serving.host.Goals as goal
@@ -15,3 +15,12 @@ returns-in-Ok g c =
     } in
     hosts_before g.S.Site g.S.Door.Door g.S.Door.Link.Source g.S.Door.Link.Sink g.W.Sink c.args.service c.args.site.now c.host_titled.new.site c.args.output.now c.host_titled.new.output
     t u _ _ _ _ _ k (search rules) c.host_titled.ensures.hosts c.host_titled.ensures.titled
+
+pub returns-in-Err : goal.returns-in-Err
+returns-in-Err g c =
+    let t = g.D.Disk.tells c.args.disk in
+    let u = g.D.Disk.tells c.entitle.new.disk in
+    refused_so g.S.Site g.S.Door.Door g.S.Door.Link.Source g.S.Door.Link.Sink g.W.Sink c.args.service c.args.site.now c.args.output.now t u _ _ c.in-Err.fault
+    (subst (HasLogCause _ _) c.in-Err.is c.entitle.ensures.cause) (titled_unopened t u c.entitle.ensures.moments)
+    (λ e. let told = c.in-Err.is ∙ ap Err e in (c.entitle.ensures.same told, c.entitle.ensures.other told))
+    (λ at e texts log file. absurd (c.entitle.ensures.sound at (c.in-Err.is ∙ ap Err e)))

@@ -1,6 +1,6 @@
 use Rattle.std.proofs.Common.{rules, ◌≡◌, ◌∙◌, ap, sym, subst}
 use Rattle.ifdb_restart.specs.Restarted.{log_in}
-use Rattle.ifdb_host.proofs.Openings.{hosts_opened, refused_so, bare_unopened, IsReopenedFrom}
+use Rattle.ifdb_host.proofs.Openings.{hosts_opened, refused_so, bare_unopened, shown_on, IsReopenedFrom}
 use Rattle.ifdb_host.proofs.serving.host_titled.Goals as goal
 
 pub returns-in-Ok-clause-hosts : goal.returns-in-Ok-clause-hosts
