@@ -1,4 +1,10 @@
-use Rattle.std.proofs.Common.{rules, ◌≡◌, ◌∙◌, ap, sym, subst}
+use Rattle.std.proofs.Common.{rules, ◌≡◌, ◌∙◌, ap, sym, subst, ℕ, List}
+use Rattle.std.proofs.lemmas.Result.{IfErr-at_err}
+use Rattle.ifdb_disk.specs.Clock.{Leaves}
+use Rattle.ifdb_log.specs.declared.fault.LogFault.TheVariants as fault
+use Rattle.ifdb_model.specs.Log.{Entry}
+use Rattle.ifdb_host.specs.Causes.{IsCaused}
+use Rattle.ifdb_host.specs.Files.{IsOldOrBare, ShowsLog}
 use Rattle.ifdb_restart.specs.Restarted.{log_in}
 use Rattle.ifdb_host.specs.Hosted.{HostsSite}
 use Rattle.ifdb_host.specs.Serving.{span_of}
@@ -23,8 +29,13 @@ returns-in-Ok-clause-hosts g c =
 pub returns-in-Err-clause-hosts : goal.returns-in-Err-clause-hosts
 returns-in-Err-clause-hosts g c =
     let t = g.D.Disk.tells c.args.disk in
-    let u = g.D.Disk.tells c.in-Err.field-0.disk in
-    subst (HostsSite g.S.Site g.S.Door.Door g.S.Door.Link.Source g.S.Door.Link.Sink g.W.Sink c.args.service c.args.site.now c.args.site.now c.args.output.now c.args.output.now (span_of g.D.Disk.tells g.D.Disk.faults c.args.disk c.in-Err.field-0.disk)) (sym c.end_of.ensures)
-    (refused_so g.S.Site g.S.Door.Door g.S.Door.Link.Source g.S.Door.Link.Sink g.W.Sink c.args.service c.args.site.now c.args.output.now t u _ _ c.in-Err.field-0.fault
-    (search rules) (bare_unopened t u (g.D.Disk.present c.args.disk) c.requires.titled (search rules)) (λ e. absurd ((search rules) e))
-    (λ at e texts log file. (search rules) at e texts log (shown_on t texts log c.requires.titled file)))
+    let back = c.in-Err.field-0 in
+    let u = g.D.Disk.tells back.disk in
+    let moments : Leaves t u (IsOldOrBare t) = search rules in
+    let cause : IsCaused (g.D.Disk.faults c.args.disk) (g.D.Disk.faults back.disk) back.fault = search rules in
+    let none : back.fault ≡ fault.NotALog → ⊥ = IfErr-at_err _ c.in-Err.is c.reopen.ensures.titled in
+    let whole : (at : ℕ) → back.fault ≡ fault.Damaged at → (texts : List (List ℕ)) (log : List Entry) → ShowsLog t texts log → ⊥ = IfErr-at_err _ c.in-Err.is c.reopen.ensures.damaged in
+    subst (HostsSite g.S.Site g.S.Door.Door g.S.Door.Link.Source g.S.Door.Link.Sink g.W.Sink c.args.service c.args.site.now c.args.site.now c.args.output.now c.args.output.now (span_of g.D.Disk.tells g.D.Disk.faults c.args.disk back.disk)) (sym c.end_of.ensures)
+    (refused_so g.S.Site g.S.Door.Door g.S.Door.Link.Source g.S.Door.Link.Sink g.W.Sink c.args.service c.args.site.now c.args.output.now t u _ _ back.fault
+    cause (bare_unopened t u (g.D.Disk.present c.args.disk) c.requires.titled moments) (λ e. absurd (none e))
+    (λ at e texts log file. whole at e texts log (shown_on t texts log c.requires.titled file)))
