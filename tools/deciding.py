@@ -20,6 +20,7 @@ from typing import NamedTuple, Optional
 TOP = Path(__file__).resolve().parent.parent
 CRATES = TOP / "crates"
 ROOTS = [
+    "ifdb/src/hosting.rt",
     "ifdb/src/more.rt",
     *(f"ifdb_io/src/{name}.rt" for name in ("outside", "doors")),
     *(f"ifdb_disk/src/{name}.rt" for name in ("disk", "shelf")),
@@ -120,7 +121,8 @@ class Definitions:
                 found[it] = by
                 todo.append(it)
 
-        for root in (self.crates / place for place in ROOTS):
+        # An older checkout lacks what came since.
+        for root in filter(Path.is_file, (self.crates / place for place in ROOTS)):
             text = root.read_text()
             clauses = [line.split("//")[0] for line in text.split("\n") if "ghost use" not in line]
             add(self.cited_by(clauses, None, self.uses_of(text)), root)

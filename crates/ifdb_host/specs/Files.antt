@@ -1,3 +1,4 @@
+-- decides: a served database
 -- The file of a database, at one moment: a title, and behind it records, whose texts restore a log.
 use Rattle.std.specs.Prelude.{◌≡◌, ◌⊎◌, ℕ, ◌≤◌, List, length, drop, Option, Some, None, ⊤}
 use Rattle.ifdb_disk.specs.Clock.{Clock, Now}

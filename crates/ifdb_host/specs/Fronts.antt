@@ -1,3 +1,4 @@
+-- decides: a served database
 -- What crashes leave of a database's file: what it began with, and a front of what a history added to it.
 use Rattle.std.specs.Prelude.{◌≡◌, ℕ, ◌≤◌, false, List, [], ◌∷◌, ◌++◌, length, take, Option, Some, None, ⊤}
 use Rattle.ifdb_disk.specs.Images.{IsImage}

@@ -1,4 +1,4 @@
--- decides: the host
+-- decides: a served database
 -- What the service of a database on a disk did.
 use Rattle.std.specs.Prelude.{◌≡◌, ◌⊎◌, ℕ, ◌≤◌, List, [], length, Option, Some, None}
 use Rattle.std.specs.Io.KnownBytes.{Appends}

@@ -1,3 +1,4 @@
+-- decides: a served database
 -- What serving a database that was opened did.
 use Rattle.std.specs.Prelude.{◌≡◌, ◌⊎◌, ℕ, ◌≤◌, List, [], Option}
 use Rattle.ifdb_io.specs.Causes.{Rose}

@@ -1,3 +1,4 @@
+-- decides: a served database
 -- Texts of any length, as records of a journal.
 --
 -- A text is cut into pieces, and each is the line of an Ask: the first one of session 0, and each further one of session 1. A piece has

@@ -1,3 +1,4 @@
+-- decides: a served database
 -- The title that the file of a log begins with, and which files are new, or logs.
 use Rattle.std.specs.Prelude.{◌≡◌, ◌≢◌, ◌⊎◌, ℕ, ◌≤◌, List, [], ◌∷◌, ◌++◌, length, Option, Some}
 use Rattle.ifdb_disk.specs.Images.{IsImage, settled}

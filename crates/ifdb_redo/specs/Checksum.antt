@@ -1,3 +1,4 @@
+-- decides: a served database
 -- The checksum CRC-32C: the remainder of a division of polynomials over bits, the lowest bit of each byte first.
 use Rattle.std.specs.Prelude.{ℕ, zero, suc, ◌/◌, ◌%◌, ◌==◌, List, bit_xor, fold, if◌then◌else◌}
 

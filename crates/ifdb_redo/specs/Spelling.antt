@@ -1,3 +1,4 @@
+-- decides: a served database
 -- What is recorded, as bytes.
 use Rattle.std.specs.Prelude.{ℕ, ◌^◌, List, [], ◌∷◌, ◌++◌, length, flat_map, nat_lt, Option, Some, None, if◌then◌else◌}
 use Rattle.std.specs.Int.{w32, w64, to_be_bytes, cast_unsigned}

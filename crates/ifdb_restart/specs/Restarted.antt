@@ -1,3 +1,4 @@
+-- decides: a served database
 -- The log that the texts of redo records restore.
 use Rattle.std.specs.Prelude.{◌≡◌, ℕ, ◌+◌, List, [], ◌∷◌, ◌++◌, length, map, Option, Some, None, IsSome}
 use Rattle.std.specs.Option.{unwrap_or}

@@ -1,3 +1,4 @@
+-- decides: a served database
 -- The test for a recorded commit, and that each commit of a run passes it.
 use Rattle.std.specs.Prelude.{◌≡◌, Bool, ◌&&◌, List, [], ◌∷◌, ◌++◌, length, option_to_list, Some}
 use Rattle.std.specs.List.{list_all}

@@ -1,3 +1,4 @@
+-- decides: a served database
 -- Public changes that are made again from their lines, and the log that records restore.
 use Rattle.std.specs.Prelude.{◌≡◌, ℕ, Bool, true, List, [], ◌∷◌, ◌++◌, Option, Some, None, if◌then◌else◌}
 use Rattle.ifdb_row.specs.declared.write.Write.{Write}

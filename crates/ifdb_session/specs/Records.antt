@@ -1,3 +1,4 @@
+-- decides: the service
 -- What is recorded of a history.
 use Rattle.std.specs.Prelude.{ℕ, ◌<◌, ◌≤◌, List, ◌++◌, length, option_to_list}
 use Rattle.ifdb_redo.specs.declared.record.RedoRecord.{RedoRecord}

@@ -1,3 +1,4 @@
+-- decides: the service
 -- Redo records as texts.
 use Rattle.std.specs.Prelude.{◌≡◌, ℕ, List, map, Some}
 use Rattle.ifdb_redo.specs.declared.record.RedoRecord.{RedoRecord}
