@@ -32,8 +32,9 @@ use std::marker::Brand;
 use std::sync::Wait;
 use std::thread::Threads;
 
-/// The bytes of records that may wait for the disk: those of a commit, and of all that are made while the disk syncs.
-const ROOM: usize = 4 << 20;
+/// How many bytes of records may wait for the disk: those of a commit, and of all that are made while the disk syncs. Twice as much is
+/// asked for; the system gives what is used of it.
+const ROOM: usize = 64 << 20;
 
 /// How a service ended, and its disk.
 #[derive(Drop)]
@@ -49,8 +50,8 @@ pub struct Hosted<D> {
 /// reply is written once the disk has all that it was answered from. A disk that is new gets a database without entries. The
 /// doors go back to the site at every end, and the disk comes back.
 ///
-/// A start costs what the entries of the log did, but for the search of their rows. It takes the memory of the rows, of the
-/// longest record, and 8 MiB for records on their way to the disk.
+/// A start costs what the entries of the log did, but for the search of their rows. It takes the memory of the rows and of the longest
+/// record, and asks for 128 MiB for records on their way to the disk.
 pub fn host<R: Threads + Wait + Sync, W: Sink, S: Site, D: Disk + Send + Drop>(
     rt: &R,
     alloc: Global,
