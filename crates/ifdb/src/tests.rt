@@ -6,6 +6,7 @@ mod closures;
 mod ends;
 mod faults;
 mod generate;
+mod hosts;
 mod keeps;
 mod nulls;
 mod rows;
