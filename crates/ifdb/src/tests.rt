@@ -18,6 +18,7 @@ mod transactions;
 mod worlds;
 
 use super::*;
+use crate::more::top_more;
 use crate::top::top;
 use ifdb_disk::{MemoryDisk, MemoryShelf};
 use ifdb_io::{MemoryLink, MemorySink, MemorySite, MemorySource};

@@ -78,10 +78,12 @@ fn run_hosted<R: AllocGlobal + Threads + Wait + Sync>(
     let end = top_host(rt, &words, &mut input, &mut output, &mut site, &mut shelf);
     let replies = replies_of(rt.alloc(), &site);
     drop(site);
+    let replies = replies?;
+    let written = Vec::from_slice(rt.alloc(), output.bytes())?;
     Ok(HostedHere {
         end,
-        written: Vec::from_slice(rt.alloc(), output.bytes())?,
-        replies: replies?,
+        written,
+        replies,
         back: shelf.back(),
     })
 }
