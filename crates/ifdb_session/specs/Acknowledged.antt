@@ -1,6 +1,6 @@
 -- decides: the service
 -- What replies are answered from, and that it is kept before they are written.
-use Rattle.std.specs.Prelude.{◌≡◌, ℕ, ◌==◌, Bool, true, false, List, [], ◌∷◌, ◌++◌, Option, Some, None, All, if◌then◌else◌}
+use Rattle.std.specs.Prelude.{◌≡◌, ℕ, ◌==◌, Bool, false, List, [], ◌∷◌, ◌++◌, Option, Some, None, All, if◌then◌else◌}
 use Rattle.ifdb_history.specs.declared.entry.Entry.{Entry}
 use Rattle.ifdb_history.specs.declared.entry.Kind.{Kind}
 use Rattle.ifdb_history.specs.declared.entry.Kind.TheVariants as kind

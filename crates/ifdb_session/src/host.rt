@@ -52,9 +52,10 @@ impl<'a, R: Wait, K: Link, Q: Records, S: Settles<Q>> Host for SessionHost<'a, R
             link,
             self.limit,
         );
-        if !ending.is_orderly() {
-            self.faults = faults.saturating_add(1);
+        if ending.is_orderly() {
+            return true;
         }
+        self.faults = faults.saturating_add(1);
         ending != Ending::Unkept
     }
 }
