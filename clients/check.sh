@@ -1,6 +1,7 @@
 #!/usr/bin/env bash
 # Tests what runs outside the kit, over the built program: the client, the shell, each stored dialogue, the clinic, TLS in front of a
-# server, recorded runs of the example scripts, journals in files, ranges of keys beside passes, transactions of many writes, and packages.
+# server, recorded runs of the example scripts, journals and databases in files, ranges of keys beside passes, transactions of many
+# writes, and packages.
 #
 #   clients/check.sh      the variable IFDB names another program than crates/ifdb/out/ifdb
 #
@@ -43,7 +44,8 @@ try python3 -m unittest discover -s clients/python
 mapfile -t dialogues < <(find examples -name '*.dialogue' ! -name web.dialogue | LC_ALL=C sort)
 try python3 clients/python/dialogue.py "${dialogues[@]}"
 try examples/tls/try.sh
-for test in clinic traces kept ranges many; do try python3 "tests/$test.py"; done
+for test in clinic traces kept hosted ranges many; do try python3 "tests/$test.py"; done
+try python3 tests/host_kills.py --kills 3 --clients 4 --life 0.3 --every 25
 try tests/package.sh
 echo "clients: $passed passed, $failed failed"
 ((failed == 0))
