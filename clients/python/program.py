@@ -222,7 +222,7 @@ class NotServing(OSError):
 
 
 class Server:
-    """`ifdb serve`, or another command that serves, at a free port, until the end of the `with` block."""
+    """`ifdb serve`, or another command that serves, until the end of the `with` block."""
 
     def __init__(
         self,
@@ -232,10 +232,11 @@ class Server:
         command: Sequence[Word] = ("serve",),
         quiet: bool = False,
         largest_file: Optional[int] = None,
+        port: Optional[int] = None,
     ) -> None:
         """Waits until it listens, and raises NotServing where it doesn't. If `quiet`, what it says on standard error is dropped. None
-        of its files grows past `largest_file` bytes: a write past them fails."""
-        self.port = free_port()
+        of its files grows past `largest_file` bytes: a write past them fails. It serves at a free port, or at `port`."""
+        self.port = free_port() if port is None else port
         words = [f"--port={self.port}", f"--workers={workers}", f"--links={links}", f"--limit={limit}"]
         said = subprocess.DEVNULL if quiet else None
         self._process = subprocess.Popen(
