@@ -14,9 +14,9 @@ Three parts, each over a file of its own in DIR, a new folder if it isn't named:
   what was sent and not answered at most the last of each client, nothing else, and on each account what the moves that are there leave.
 - **Damage.** A small file is cut at each byte, and each byte of it is changed, or each Nth one. The program has to refuse it with status
   8 and leave it as it is, or to show what was there after one of its steps: all of those before the damage at least.
-- **Full disks**, where `--full` stands, for root alone. A tmpfs of 64 KiB is filled by four clients: the program answers nobody any more, and ends with
-  status 7 once it has served its connections. A start over the full disk has to tell all that was acknowledged, and nothing that wasn't
-  sent, and once there is room again the database goes on.
+- **Full disks**, where `--full` stands, for root alone. A tmpfs of 64 KiB is filled by four clients, and one more looks: the program
+  ends all their connections, and itself with status 7. A start over the full disk has to tell all that was acknowledged or told, and
+  nothing that wasn't sent, and once there is room again the database goes on.
 
 The status is 1 where something was lost, 0 where not, and 69 where nothing was tried: the program isn't there, or has no such command.
 """
@@ -24,7 +24,6 @@ The status is 1 where something was lost, 0 where not, and 69 where nothing was 
 from __future__ import annotations
 
 import argparse
-import contextlib
 import pathlib
 import random
 import subprocess
@@ -377,7 +376,7 @@ def try_full(folder: pathlib.Path, rng: random.Random) -> str:
 
 def fill(folder: pathlib.Path, rng: random.Random) -> str:
     file, ledger = folder / "log", Ledger()
-    with host(file, workers=5, links=2) as server:
+    with host(file, workers=5) as server:
         with program.connected(server.port) as session:
             session.answer(HELLO)
             for request in SETTING:
@@ -389,9 +388,6 @@ def fill(folder: pathlib.Path, rng: random.Random) -> str:
         for client in clients:
             client.join()
         ledger.note(clients)
-        for _ in range(4):  # (the connections that its workers have left)
-            with program.connected(server.port) as session, contextlib.suppress(program.Ended):
-                raise Lost(f"it answers {session.ask(HELLO)} behind a disk fault")
         if server.status() != DISK_FAULT:
             raise Lost(f"it ended with status {server.status()}")
     size = file.stat().st_size

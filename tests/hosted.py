@@ -131,15 +131,14 @@ def other_files_are_refused(folder: pathlib.Path) -> None:
 
 def a_full_disk_loses_nothing(folder: pathlib.Path) -> None:
     file, told = folder / "full", 0
-    with program.Server(workers=2, links=2, command=("host", "--file", file), quiet=True, largest_file=FULL) as server:
+    with program.Server(workers=3, command=("host", "--file", file), quiet=True, largest_file=FULL) as server:
         with admin(server.port) as session, admin(server.port) as other:
             session.answer("CREATE TABLE note (id INT, body TEXT, PRIMARY KEY (id))")
             while not is_ended(session, f"INSERT INTO note VALUES ({told}, NULL)"):
                 told += 1
             expect("another connection behind it", is_ended(other, "SELECT id FROM note"), True)
-        for _ in range(2):  # (each worker's second connection)
-            with program.connected(server.port) as late:
-                expect("a later connection", is_ended(late, "SHOW LABEL"), True)
+        with program.connected(server.port) as late:  # (by which the last worker learns of it)
+            expect("a later connection", is_ended(late, "SHOW LABEL"), True)
         expect("the status", server.status(), DISK_FAULT)
     expect("that there were some", told > 50, True)
     expect("what a start finds", ids(file), [str(it) for it in range(told)])
