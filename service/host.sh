@@ -3,14 +3,12 @@
 #
 #   IFDB_FILE=F IFDB_PORT=P [IFDB_WORKERS=W] [IFDB_LINKS=K] [IFDB_LIMIT=N] [IFDB_WATCH=S] service/host.sh
 #
-# It runs `ifdb host` by these words (the variable IFDB names another program than /usr/bin/ifdb), and tells systemd once that listens. From
-# then on it connects each S seconds (60; 0 is never) and looks whether a request is answered. After a fault of the disk none is, and
-# each such look ends one worker of the server, and so at last the server with status 7. A server that still doesn't end, it kills.
-#
-# The exit status is that of the server: 7 if that was killed here.
+# It runs `ifdb host` by these words (the variable IFDB names another program than /usr/bin/ifdb), writes what that writes, and tells systemd
+# once it listens. From then on it connects each S seconds (60; 0 is never) and looks whether a request is answered. After a fault of
+# the disk none is, and each connection ends one worker of the server: so it connects again until the server has ended.
+# The exit status is that of the server.
 set -uo pipefail
-readonly DISK_FAULT=7
-readonly MOST_WORKERS=64 PATIENCE=30 # (seconds)
+readonly PATIENCE=30 # (seconds)
 
 options=(--file "${IFDB_FILE:?}" --port "${IFDB_PORT:?}")
 if [ -n "${IFDB_WORKERS:-}" ]; then options+=(--workers "$IFDB_WORKERS"); fi
@@ -24,7 +22,7 @@ is_answered() (
   ((status == 0 || status > 128))
 ) 2>/dev/null
 
-# Sleeps without a program of its own, which would outlive this one: nothing ever comes from this pipe.
+# Waits so many seconds without a program of its own, which would outlive this one: nothing ever comes from this pipe.
 rest() {
   local pipe
   exec {pipe}<> <(:)
@@ -32,19 +30,10 @@ rest() {
   exec {pipe}>&-
 }
 
-# Looks each so many seconds whether the server answers, and ends it where it doesn't.
-watch_over() { # PROCESS SECONDS
-  local look
+watch() { # SECONDS
   while :; do
-    rest "$2"
-    for ((look = 0; look <= MOST_WORKERS; look += 1)); do
-      if is_answered; then continue 2; fi
-      rest 0.1
-    done
-    trap '' TERM
-    echo "ifdb: the server answers nobody, and is ended" >&2
-    kill -KILL "$1" 2>/dev/null
-    exit $DISK_FAULT
+    rest "$1"
+    until is_answered; do rest 0.1; done
   done
 }
 
@@ -58,7 +47,7 @@ if IFS= read -r line <&"$told"; then
   if [[ $line == LISTENING* ]]; then
     if [ -n "${NOTIFY_SOCKET:-}" ]; then systemd-notify --ready; fi
     if ((${IFDB_WATCH:=60} > 0)); then
-      watch_over "$server" "$IFDB_WATCH" &
+      watch "$IFDB_WATCH" &
       watcher=$!
     fi
   fi
@@ -67,10 +56,5 @@ if IFS= read -r line <&"$told"; then
 fi
 wait "$server"
 status=$?
-if [ -n "$watcher" ]; then
-  kill "$watcher" 2>/dev/null
-  wait "$watcher"
-  if (($? == DISK_FAULT)); then status=$DISK_FAULT; fi
-fi
 if [ -n "$teller" ]; then wait "$teller"; fi # (of the summary)
 exit $status

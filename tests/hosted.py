@@ -129,6 +129,23 @@ def other_files_are_refused(folder: pathlib.Path) -> None:
     expect("a database with an open gate at its end", refused(hosted), (DAMAGED, f"ifdb: the journal is damaged at byte {len(before) - 1}\n"))
 
 
+def what_stands_before_damage_goes_on(folder: pathlib.Path) -> None:
+    file, front = folder / "damaged", folder / "front"
+    made(file, "INSERT INTO note VALUES (1, 'one')")
+    place = file.stat().st_size - 1
+    made_more = ["INSERT INTO note VALUES (2, 'two')", "INSERT INTO note VALUES (3, 'three')"]
+    with host(file) as server, admin(server.port) as session:
+        for request in made_more:
+            session.answer(request)
+    whole = file.read_bytes()
+    at = whole.index(b"two")
+    file.write_bytes(whole[:at] + b"six" + whole[at + 3 :])
+    expect("a changed text", refused(file), (DAMAGED, f"ifdb: the journal is damaged at byte {place}\n"))
+    with front.open("wb") as out:
+        subprocess.run([ROOT / "examples/journal_front.sh", file, str(place)], stdout=out, check=True)
+    expect("what stands before it", ids(front), ["1"])
+
+
 def a_full_disk_loses_nothing(folder: pathlib.Path) -> None:
     file, told = folder / "full", 0
     with program.Server(workers=3, command=("host", "--file", file), quiet=True, largest_file=FULL) as server:
@@ -149,6 +166,7 @@ TESTS: List[Callable[[pathlib.Path], None]] = [
     nothing_is_kept_of_what_only_looks,
     one_program_has_a_file,
     other_files_are_refused,
+    what_stands_before_damage_goes_on,
     a_full_disk_loses_nothing,
 ]
 
