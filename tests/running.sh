@@ -94,10 +94,11 @@ grep -qw overlay /proc/filesystems || not_here "this system has no overlays"
 
 work=$(mktemp -d)
 trap 'rm -rf "$work"' EXIT
-tools/package "$work/package" "$program" >/dev/null
+DPKG_DEB_COMPRESSOR_TYPE=none tools/package "$work/package" "$program" >/dev/null
 mkdir "$work/over"
 export PAGE work
 export PATH=/usr/sbin:/usr/bin:/sbin:/bin
+# shellcheck disable=SC2016 # (the shell inside reads the variables)
 unshare --mount --net --pid --fork --kill-child bash -euc '
   over=$work/over
   mount -t tmpfs tmpfs "$over"

@@ -31,7 +31,7 @@ import program  # noqa: E402
 NOT_HERE, OUT_OF_MEMORY, DISK_FAULT, DAMAGED, ENDED = 69, 4, 7, 8, 128 + signal.SIGTERM
 EXPOSED = 2.0
 """What systemd-analyze may say at most of how exposed the service is, of 10."""
-FULL, ROOM = 5_000, 96 << 20
+FULL, ROOM = 5_000, 224 << 20
 """The bytes at which a file's disk is full, and of memory that a small service has."""
 UNIT = ROOT / "service/ifdb.service"
 
