@@ -127,8 +127,8 @@ def main(words: Sequence[str]) -> int:
     if list(words) not in ([], ["--update"]):
         print(__doc__, file=sys.stderr)
         return 2
-    if b"--file" not in program.run("host").written:
-        print(f"clinic: nothing was tried: {program.path()} has no command host", file=sys.stderr)
+    if not program.can_host():
+        print(f"clinic: nothing was tried: {program.path()} isn't there, or has no command host", file=sys.stderr)
         return NOT_HERE
     log: List[str] = []
     with tempfile.TemporaryDirectory(prefix="ifdb-clinic-") as folder:

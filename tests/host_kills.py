@@ -412,7 +412,7 @@ def main() -> int:
     words.add_argument("--seed", type=int, default=1)
     words.add_argument("--folder", type=pathlib.Path)
     given = words.parse_args()
-    if not program.path().is_file() or b"--file" not in program.run("host").written:
+    if not program.can_host():
         print(f"host_kills: nothing was tried: {program.path()} isn't there, or has no command host", file=sys.stderr)
         return NOT_HERE
     rng = random.Random(given.seed)

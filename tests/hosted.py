@@ -172,8 +172,8 @@ TESTS: List[Callable[[pathlib.Path], None]] = [
 
 
 def main() -> int:
-    if b"--file" not in program.run("host").written:
-        print(f"hosted: nothing was tried: {program.path()} has no command host", file=sys.stderr)
+    if not program.can_host():
+        print(f"hosted: nothing was tried: {program.path()} isn't there, or has no command host", file=sys.stderr)
         return NOT_HERE
     wrong = 0
     for test in TESTS:

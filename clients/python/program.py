@@ -73,6 +73,11 @@ def timed(*words: Word, given: bytes = b"") -> Timed:
     return Timed(written, clock, after.ru_utime + after.ru_stime - before.ru_utime - before.ru_stime)
 
 
+def can_host() -> bool:
+    """Whether the program is there, and has the command `host`."""
+    return path().is_file() and b"--file" in run("host").written
+
+
 # ---- Scripts and their replies
 
 

@@ -139,7 +139,7 @@ def main() -> int:
     words.add_argument("--seconds", type=float, default=3)
     words.add_argument("--every", type=float, default=0.2)
     given = words.parse_args()
-    if not program.path().is_file() or b"--file" not in program.run("host").written:
+    if not program.can_host():
         print(f"backup: nothing was tried: {program.path()} isn't there, or has no command host", file=sys.stderr)
         return NOT_HERE
     with tempfile.TemporaryDirectory(prefix="ifdb-backup-") as folder:
