@@ -1,9 +1,9 @@
 #!/usr/bin/env python3
 """Runs what `ifdb.service` runs, with a listener in systemd's place, and has systemd's own tools look at the unit.
 
-    tests/service.py      the variable IFDB names another program than crates/ifdb/out/ifdb
+    tests/service.py [--memory]      the variable IFDB names another program than crates/ifdb/out/ifdb
 
-The status is 1 where something was otherwise than it should be, and 69 where the program has no command `host`. What wants
+With `--memory` it also fills the memory that a small service may take. The status is 1 where something was otherwise than it should be, and 69 where the program has no command `host`. What wants
 systemd-notify or systemd-analyze is left out where these aren't there, and it says so.
 """
 
@@ -189,7 +189,6 @@ TESTS: List[Callable[[pathlib.Path], None]] = [
     it_is_ready_when_it_listens,
     other_files_end_it,
     a_disk_fault_ends_it,
-    want_of_memory_is_told,
     the_unit_is_well_formed,
 ]
 
@@ -198,15 +197,16 @@ def main() -> int:
     if not program.can_host():
         print(f"service: nothing was tried: {program.path()} isn't there, or has no command host", file=sys.stderr)
         return NOT_HERE
+    tests = TESTS + [want_of_memory_is_told] * ("--memory" in sys.argv[1:])
     wrong = 0
-    for test in TESTS:
+    for test in tests:
         with tempfile.TemporaryDirectory(prefix="ifdb-service-") as folder:
             try:
                 test(pathlib.Path(folder))
             except (Otherwise, OSError, program.Ended, program.Refused, subprocess.TimeoutExpired) as fault:
                 wrong += 1
                 print(f"service: {test.__name__}: {fault}")
-    print(f"service: {len(TESTS)} tests, {wrong} wrong")
+    print(f"service: {len(tests)} tests, {wrong} wrong")
     return 1 if wrong else 0
 
 
