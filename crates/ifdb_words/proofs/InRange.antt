@@ -11,7 +11,7 @@ use Rattle.ifdb_words.specs.declared.project.Project.{Project}
 use Rattle.ifdb_words.specs.declared.service.Service.{Service}
 use Rattle.ifdb_words.specs.FileName.{file_name_of}
 use Rattle.ifdb_words.specs.Generate.{counts_for, generation_in, is_flag, script_for, size_of}
-use Rattle.ifdb_words.specs.Host.{host_in, host_names, host_of, host_with}
+use Rattle.ifdb_words.specs.Host.{file_in, host_in, host_names, host_of, host_with}
 use Rattle.ifdb_words.specs.Keep.{keep_in, keep_names, keep_of, keep_with}
 use Rattle.ifdb_words.specs.Level.{level_of}
 use Rattle.ifdb_words.specs.Limit.{limit_in, limit_names, limit_of}
@@ -144,12 +144,13 @@ abbrev HasService : Hosting → Type 0
 HasService h = IsService h.service
 
 host_values : (values : List ℕ → Option (List ℕ)) → IfSome (host_of values) HasService
-host_values values = go (option_and_then file_name_of (values (codes "file"))) (service_of values) (service_values values)
+host_values values = go (file_in (values (codes "file"))) (file_in (values (codes "admin-key"))) (service_of values) (service_values values)
   where
-    go : (file : Option (List ℕ)) (service : Option Service) → IfSome service IsService → IfSome (host_with file service) HasService
-    go None service within = tt
-    go (Some file) None within = tt
-    go (Some file) (Some service) within = within
+    go : (file key : Option (List ℕ)) (service : Option Service) → IfSome service IsService → IfSome (host_with file key service) HasService
+    go None key service within = tt
+    go (Some file) None service within = tt
+    go (Some file) (Some key) None within = tt
+    go (Some file) (Some key) (Some service) within = within
 
 host_words : (uses : Option (List Use)) → IfSome (option_and_then (λ (uses : List Use). host_of (values_of uses)) uses) HasService
 host_words None = tt

@@ -29,7 +29,7 @@ abbrev pub serve_app : App
 serve_app = with_service (bare_app (codes "serve"))
 
 abbrev pub host_app : App
-host_app = with_service (with_rule (bare_app (codes "host")) (option_of (codes "file") true))
+host_app = with_service (with_rule (with_rule (bare_app (codes "host")) (option_of (codes "file") true)) (option_of (codes "admin-key") true))
 
 abbrev pub project_app : App
 project_app = with_rule (with_rule (bare_app (codes "project")) (option_of (codes "tags") true)) (option_of (codes "limit") false)

@@ -1,7 +1,8 @@
 // The words behind `host`.
-ghost use Rattle.std.specs.Prelude.{◌≡◌, IfOk, IfSome, map, string_bytes};
+ghost use Rattle.std.specs.Prelude.{◌≡◌, IfOk, IfSome, map, option_and_then, string_bytes};
 ghost use Rattle.clap.specs.Words.{app_of, found_of, first_value};
 ghost use Rattle.ifdb_words.specs.Clap.{host_app};
+ghost use Rattle.ifdb_words.specs.FileName.{file_name_of};
 ghost use Rattle.ifdb_words.specs.Host.{host_in, host_of};
 ghost use Rattle.ifdb_words.specs.Ranges.{IsService};
 
@@ -17,6 +18,8 @@ use std::alloc::{AllocError as OutOfMemory, Global};
 pub struct Hosting {
     /// The file that the database is in.
     pub file: FileName,
+    /// The file whose first line is the key of `admin`.
+    pub key_file: FileName,
     /// How it is served.
     pub service: Service,
 }
@@ -38,14 +41,29 @@ pub fn host_in(alloc: Global, words: &[String]) -> Result<Option<Hosting>, OutOf
 fn host_of(alloc: Global, matches: &ArgMatches) -> Result<Option<Hosting>, OutOfMemory>
     ensures { IfOk result (λ host. host ≡ host_of (first_value (found_of matches.now))) }
 {
-    let Some(word) = matches.get_str("file") else {
-        return Ok(None);
-    };
     let Some(service) = service_of(matches) else {
         return Ok(None);
     };
-    match file_name_of(alloc, word)? {
-        Some(file) => Ok(Some(Hosting { file, service })),
+    let Some(file) = named(alloc, matches, "file")? else {
+        return Ok(None);
+    };
+    let Some(key_file) = named(alloc, matches, "admin-key")? else {
+        return Ok(None);
+    };
+    Ok(Some(Hosting {
+        file,
+        key_file,
+        service,
+    }))
+}
+
+/// The file that an option names, if it is used and its value is the name of a file.
+fn named(alloc: Global, matches: &ArgMatches, option: &str) -> Result<Option<FileName>, OutOfMemory>
+    ensures { IfOk result (λ file. file
+        ≡ option_and_then file_name_of (first_value (found_of matches.now) option.now)) }
+{
+    match matches.get_str(option) {
+        Some(word) => file_name_of(alloc, word),
         None => Ok(None),
     }
 }
@@ -55,5 +73,6 @@ fn host_command<'a>(alloc: Global) -> Result<clap::Command<'a>, OutOfMemory>
     ensures { IfOk result (λ command. app_of command ≡ host_app) }
 {
     let with_file = bare_command(alloc, "host").arg(option(alloc, "file", true))?;
-    with_service(alloc, with_file)
+    let with_key = with_file.arg(option(alloc, "admin-key", true))?;
+    with_service(alloc, with_key)
 }

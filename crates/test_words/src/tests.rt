@@ -1,5 +1,7 @@
 //! Lines of words and what they ask for, by hand from the table of commands.
-use ifdb_words::{Command, OutOfMemory, Text, command_of, keep_in, limit_in, project_in};
+use ifdb_words::{
+    Command, OutOfMemory, Service, Text, command_of, host_in, keep_in, limit_in, project_in,
+};
 use std::alloc::{AllocGlobal, Global};
 use std::test::Fail;
 
@@ -28,17 +30,22 @@ fn numbers_of_text(text: Text) -> Asked {
     }
 }
 
+/// How a database is to be served, as numbers.
+fn numbers_of_service(service: Service) -> Asked {
+    [
+        1,
+        u64::from(service.port),
+        service.workers as u64,
+        service.links,
+        service.limit,
+    ]
+}
+
 /// What a command asks for, as numbers.
 fn numbers_of(command: Command) -> Asked {
     match command {
         Command::Run { limit } => [0, limit, 0, 0, 0],
-        Command::Serve(service) => [
-            1,
-            u64::from(service.port),
-            service.workers as u64,
-            service.links,
-            service.limit,
-        ],
+        Command::Serve(service) => numbers_of_service(service),
         Command::Write(text) => numbers_of_text(text),
     }
 }
@@ -393,6 +400,106 @@ fn words_that_keep_refuses(rt: HostRuntime) -> Result<(), Fail> {
     ] {
         let words = words_of(rt.alloc(), line)?;
         assert!(rt; keep_in(rt.alloc(), &words)?.is_none(), "{line}");
+    }
+    Ok(())
+}
+
+/// What the words behind `host` ask for, if they are well formed: whether the files are these, and how the database is to be served.
+fn hosted<T: AllocGlobal>(
+    rt: &T,
+    line: &str,
+    file: &str,
+    key_file: &str,
+) -> Result<Option<(bool, Asked)>, Fail> {
+    let words = words_of(rt.alloc(), line)?;
+    match host_in(rt.alloc(), &words)? {
+        Some(hosting) => {
+            let named = hosting.file.as_str() == file && hosting.key_file.as_str() == key_file;
+            Ok(Some((named, numbers_of_service(hosting.service))))
+        }
+        None => Ok(None),
+    }
+}
+
+#[test]
+fn words_behind_host(rt: HostRuntime) -> Result<(), Fail> {
+    static TABLE: [(&str, &str, &str, Asked); 5] = [
+        (
+            "--file d --admin-key k --port 7000",
+            "d",
+            "k",
+            [1, 7_000, 4, 1_000_000, GIBI],
+        ),
+        (
+            "--limit=10 --links=9 --workers=8 --port=7000 --admin-key=/etc/k --file=/var/d",
+            "/var/d",
+            "/etc/k",
+            [1, 7_000, 8, 9, 10],
+        ),
+        (
+            "--admin-key=--file --port 1 --file=--admin-key",
+            "--admin-key",
+            "--file",
+            [1, 1, 4, 1_000_000, GIBI],
+        ),
+        (
+            "--file d --admin-key d --port 65535",
+            "d",
+            "d",
+            [1, 65_535, 4, 1_000_000, GIBI],
+        ),
+        (
+            "--admin-key=k=k --file é --port 07000 --workers 64",
+            "é",
+            "k=k",
+            [1, 7_000, 64, 1_000_000, GIBI],
+        ),
+    ];
+    for (line, file, key_file, wanted) in &TABLE {
+        assert_eq!(rt;
+            hosted(&rt, line, file, key_file)?,
+            Some((true, *wanted)),
+            "{line}"
+        );
+    }
+    for (count, wanted) in [(1, Some(true)), (255, Some(true)), (256, None)] {
+        let name = letters(rt.alloc(), count)?;
+        let mut line = String::from_str(rt.alloc(), "--port 7000 --file d --admin-key ")?;
+        line.push_str(&name)?;
+        let found = hosted(&rt, &line, "d", &name)?;
+        assert_eq!(rt; found.map(|(named, _)| named), wanted, "{count}");
+    }
+    Ok(())
+}
+
+#[test]
+fn words_that_host_refuses(rt: HostRuntime) -> Result<(), Fail> {
+    for line in [
+        "",
+        "d",
+        "--file d",
+        "--file d --port 7000",
+        "--admin-key k --port 7000",
+        "--file d --admin-key k",
+        "--file d --admin-key --port 7000",
+        "--file d --port 7000 --admin-key",
+        "--file d --port 7000 --admin-key=",
+        "--file d --port 7000 --admin-key -k",
+        "--file d --port 7000 --admin-key -",
+        "--file d --port 7000 --admin-key k --admin-key k",
+        "--file d --port 7000 --admin-key k --admin-key=l",
+        "--file d --port 7000 --admin-key k l",
+        "--file d --port 7000 --adminkey k",
+        "--file d --port 7000 --admin_key k",
+        "--file d --port 7000 --Admin-Key k",
+        "--file d --file d --port 7000 --admin-key k",
+        "--file= --port 7000 --admin-key k",
+        "--file d --port 0 --admin-key k",
+        "--file d --port 7000 --admin-key k --workers 65",
+        "--file d --port 7000 --admin-key k --tags none",
+    ] {
+        let words = words_of(rt.alloc(), line)?;
+        assert!(rt; host_in(rt.alloc(), &words)?.is_none(), "{line}");
     }
     Ok(())
 }
