@@ -1,0 +1,5 @@
+//! Tests of what is heard of lines and connections by a server with a key for admin, and of keys in files.
+#![tactic(auto)]
+
+#[cfg(test)]
+mod tests;
