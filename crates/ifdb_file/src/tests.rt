@@ -1,5 +1,5 @@
 // A file that is written, synced and opened again.
-use crate::{FileDisk, FileShelf};
+use crate::{FileDisk, FileShelf, ReadShelf};
 use ifdb_disk::{Disk, Shelf};
 use ifdb_io::Failed;
 use std::fs;
@@ -37,5 +37,24 @@ fn written_and_opened_again(rt: HostRuntime) -> Result<(), Fail> {
     shelf.close(again);
     assert!(rt; shelf.open("nowhere/journal").is_err());
     fs::remove_file(&rt, "journal")?;
+    Ok(())
+}
+
+// What is there is read, what isn't is not made, and nothing is written.
+#[test]
+fn read_alone(rt: HostRuntime) -> Result<(), Fail> {
+    let mut shelf = ReadShelf::new(&rt);
+    assert!(rt; shelf.open("secret").is_err());
+    assert!(rt; fs::metadata(&rt, "secret").is_err());
+    let mut files = FileShelf::new(&rt);
+    let mut disk = files.open("secret")?;
+    disk.write(0, b"abc")?;
+    // That another has the file locked keeps nobody from reading it.
+    let mut read = shelf.open("secret")?;
+    assert!(rt; holds(&mut read, b"abc")?);
+    assert_eq!(rt; read.write(0, b"z"), Err(Failed));
+    shelf.close(read);
+    files.close(disk);
+    fs::remove_file(&rt, "secret")?;
     Ok(())
 }
