@@ -1,25 +1,32 @@
 -- decides: the program
 -- What the program does by the words of `host`.
-use Rattle.std.specs.Prelude.{◌≡◌, ◌⊎◌, ℕ, ◌≤◌, true, List, String, codes, None, Some}
+use Rattle.std.specs.Prelude.{◌≡◌, ◌⊎◌, ℕ, true, List, String, codes, Option, None, Some}
 use Rattle.std.specs.declared.alloc.Global.{Global}
+use Rattle.ifdb_io.specs.Causes.{Rose}
 use Rattle.ifdb_io.specs.declared.outside.Source as source
 use Rattle.ifdb_io.specs.declared.outside.Sink as sink
 use Rattle.ifdb_io.specs.declared.doors.Door as door
 use Rattle.ifdb_io.specs.declared.doors.Site as site
+use Rattle.ifdb_disk.specs.Clock.{Now}
 use Rattle.ifdb_disk.specs.declared.disk.Disk as disk
 use Rattle.ifdb_disk.specs.declared.shelf.Shelf as shelf
 use Rattle.ifdb_host.specs.Hosted.{HostsSite}
 use Rattle.ifdb_host.specs.Serving.{span_of}
 use Rattle.ifdb_host.specs.declared.end.HostEnd.{HostEnd}
 use Rattle.ifdb_host.specs.declared.end.HostEnd.TheVariants as hosted
+use Rattle.ifdb_keyed.specs.Files.{IsKeyIn}
+use Rattle.ifdb_keyed.specs.declared.admin_key.AdminKey.{AdminKey}
+use Rattle.ifdb_keyed.specs.declared.door.KeyedDoor.{KeyedDoor}
+use Rattle.ifdb_keyed.specs.declared.link.KeyedLink.{KeyedLink}
+use Rattle.ifdb_keyed.specs.declared.site.KeyedSite.{KeyedSite}
 use Rattle.ifdb_words.specs.First.{behind_first, is_first}
 use Rattle.ifdb_words.specs.Host.{host_in}
 use Rattle.ifdb_words.specs.declared.host.Hosting.{Hosting}
 use Rattle.ifdb.specs.declared.top.Status.TheVariants as status
 use Rattle.ifdb.specs.declared.more.MoreStatus.{MoreStatus}
-use Rattle.ifdb.specs.declared.more.MoreStatus.TheVariants.{Base, DiskFault, Damaged}
+use Rattle.ifdb.specs.declared.more.MoreStatus.TheVariants.{Base, Damaged}
 use Rattle.ifdb.specs.declared.hosting.HostStatus.{HostStatus}
-use Rattle.ifdb.specs.declared.hosting.HostStatus.TheVariants.{More, NotADatabase}
+use Rattle.ifdb.specs.declared.hosting.HostStatus.TheVariants.{More, DiskFault, NoKey, NotADatabase}
 use Rattle.ifdb.specs.Base.{DoesBase}
 use Rattle.ifdb.specs.Check.{DoesCheck}
 use Rattle.ifdb.specs.Closures.{DoesClosures}
@@ -30,17 +37,21 @@ use Rattle.ifdb.specs.Project.{DoesProject}
 use Rattle.ifdb.specs.Usage.{WritesUsage}
 
 abbrev pub host_usage : List ℕ
-host_usage = codes "usage: ifdb host --file F --port P [--workers W] [--links K] [--limit N]\n"
+host_usage = codes "usage: ifdb host --file F --admin-key A --port P [--workers W] [--links K] [--limit N]\n"
 
 -- the exit status
 abbrev pub host_code : HostStatus → ℕ
 host_code (More end) = exit_code end
+host_code DiskFault = 7
 host_code NotADatabase = 8
+host_code NoKey = 8
 
 -- the end is one of other words
 abbrev pub OnMore : HostStatus → (MoreStatus → Type 0) → Type 0
 OnMore (More end) P = P end
+OnMore DiskFault P = ⊥
 OnMore NotADatabase P = ⊥
+OnMore NoKey P = ⊥
 
 -- the first word
 abbrev pub IsHost : List (String Global) → Type 0
@@ -52,9 +63,23 @@ status_of hosted.Done = More (Base status.Done)
 status_of hosted.WriteFault = More (Base status.WriteFault)
 status_of hosted.OutOfMemory = More (Base status.OutOfMemory)
 status_of hosted.SiteFault = More (Base status.SiteFault)
-status_of hosted.DiskFault = More DiskFault
+status_of hosted.DiskFault = DiskFault
 status_of (hosted.Damaged at) = More (Damaged at)
 status_of hosted.NotADatabase = NotADatabase
+
+-- ---- the key for admin
+
+module _ {T D : Type 0} (secrets : shelf.Ghosts T D) (disks : disk.Ghosts D) where
+  -- a file was had from a shelf, and this is the key that it holds
+  abbrev pub ReadsKey : List ℕ → T → T → Option AdminKey → Type 0
+  ReadsKey name secret secret' key = Lends secrets name secret secret' (λ d _. Now (disks.tells d) (λ s. IsKeyIn s.bytes key))
+
+  -- the file couldn't be opened or read
+  abbrev pub FailsToRead : List ℕ → T → T → Type 0
+  FailsToRead name secret secret' = Refuses {D = D} secrets name secret secret'
+      ⊎ Lends secrets name secret secret' (λ d d'. Rose (disks.faults d) (disks.faults d'))
+
+-- ---- the service
 
 module _ {O S T D G K : Type 0} (outputs : sink.Ghosts O) (shelves : shelf.Ghosts T D) (disks : disk.Ghosts D)
     (sites : site.Ghosts S G K) (doors : door.Ghosts G K) (sources : source.Ghosts K) (sinks : sink.Ghosts K) where
@@ -67,13 +92,36 @@ module _ {O S T D G K : Type 0} (outputs : sink.Ghosts O) (shelves : shelf.Ghost
   abbrev pub HostsDatabase : Hosting → O → O → S → S → T → T → HostStatus → Type 0
   HostsDatabase h output output' before after shelf shelf' end =
       ((e : HostEnd) × (end ≡ status_of e) × Lends shelves h.file shelf shelf' (HostsOn h output output' before after e))
-      ⊎ ((end ≡ More DiskFault) × (output' ≡ output) × (after ≡ before) × Refuses {D = D} shelves h.file shelf shelf')
+      ⊎ ((end ≡ DiskFault) × (output' ≡ output) × (after ≡ before) × Refuses {D = D} shelves h.file shelf shelf')
+
+module _ {O S T D X Y G K : Type 0} (outputs : sink.Ghosts O) (shelves : shelf.Ghosts T D) (disks : disk.Ghosts D)
+    (secrets : shelf.Ghosts X Y) (secret_disks : disk.Ghosts Y) (sites : site.Ghosts (KeyedSite S G K) (KeyedDoor G) (KeyedLink K))
+    (doors : door.Ghosts (KeyedDoor G) (KeyedLink K)) (sources : source.Ghosts (KeyedLink K)) (sinks : sink.Ghosts (KeyedLink K))
+    (output output' : O) (before after : KeyedSite S G K) (shelf shelf' : T) (secret secret' : X) where
+  -- nothing was written, and neither the site nor the database's shelf was asked for anything
+  abbrev pub IsUntouched : Type 0
+  IsUntouched = (output' ≡ output) × (after ≡ before) × (shelf' ≡ shelf)
+
+  -- the database was served by the key that the file holds
+  abbrev pub ServesByKey : Hosting → HostStatus → Type 0
+  ServesByKey h end = (key : AdminKey) × ReadsKey secrets secret_disks h.key_file secret secret' (Some key)
+      × HostsDatabase outputs shelves disks sites doors sources sinks h output output' (record before { key = key }) after shelf shelf' end
+
+  -- nobody was served, since the file holds no key, or couldn't be read
+  abbrev pub LacksKey : Hosting → HostStatus → Type 0
+  LacksKey h end = IsUntouched × (((end ≡ NoKey) × ReadsKey secrets secret_disks h.key_file secret secret' None)
+      ⊎ ((end ≡ DiskFault) × FailsToRead secrets secret_disks h.key_file secret secret'))
+
+  -- the file of the key was opened once, and then the database's, if there is a key
+  abbrev pub HostsByKey : Hosting → HostStatus → Type 0
+  HostsByKey h end = ServesByKey h end ⊎ LacksKey h end
 
   -- the words behind `host`, unless there was no memory to read them
-  pub record DoesHost (words : List (List ℕ)) (output output' : O) (before after : S) (shelf shelf' : T) (end : HostStatus) : Type 0 where
-    pub well_formed : (h : Hosting) → host_in words ≡ Some h → HostsDatabase h output output' before after shelf shelf' end
-        ⊎ ((end ≡ More (Base status.OutOfMemory)) × (output' ≡ output) × (after ≡ before) × (shelf' ≡ shelf))
-    pub malformed : host_in words ≡ None → OnMore end (WritesUsage outputs host_usage output output') × (after ≡ before) × (shelf' ≡ shelf)
+  pub record DoesHost (words : List (List ℕ)) (end : HostStatus) : Type 0 where
+    pub well_formed : (h : Hosting) → host_in words ≡ Some h
+        → HostsByKey h end ⊎ ((end ≡ More (Base status.OutOfMemory)) × IsUntouched × (secret' ≡ secret))
+    pub malformed : host_in words ≡ None
+        → OnMore end (WritesUsage outputs host_usage output output') × (after ≡ before) × (shelf' ≡ shelf) × (secret' ≡ secret)
 
 module _ {I O S T D G K : Type 0} (inputs : source.Ghosts I) (outputs : sink.Ghosts O) (shelves : shelf.Ghosts T D) (disks : disk.Ghosts D)
     (sites : site.Ghosts S G K) (doors : door.Ghosts G K) (sources : source.Ghosts K) (sinks : sink.Ghosts K) where

@@ -14,8 +14,9 @@ mod top;
 
 use adapters::{Reading, Writing};
 use hosting::{HostStatus, top_host};
-use ifdb_file::FileShelf;
+use ifdb_file::{FileShelf, ReadShelf};
 use ifdb_io::write_all;
+use ifdb_keyed::KeyedSite;
 use ifdb_net::TcpSite;
 use ifdb_service::write_numbered;
 use more::MoreStatus;
@@ -24,7 +25,7 @@ use std::process::ExitCode;
 use top::Status;
 
 // Hands the program's words, standard input and output, and this machine's ports and files to the top call. Tells on standard error
-// where a journal is damaged, and that a file is no database.
+// where a journal is damaged, and of `host` that a file can't be had, is no database, or holds no key.
 fn main(rt: HostRuntime) -> ExitCode {
     let words = match words(&rt) {
         Ok(words) => words,
@@ -36,16 +37,33 @@ fn main(rt: HostRuntime) -> ExitCode {
     };
     let mut input = Reading::new(rt.stdin());
     let mut output = Writing::new(rt.stdout());
-    let mut site = TcpSite::new(&rt, rt.alloc());
+    let mut site = KeyedSite::new(rt.alloc(), TcpSite::new(&rt, rt.alloc()));
     let mut shelf = FileShelf::new(&rt);
-    let end = top_host(&rt, &words, &mut input, &mut output, &mut site, &mut shelf);
+    let mut secrets = ReadShelf::new(&rt);
+    let end = top_host(
+        &rt,
+        &words,
+        &mut input,
+        &mut output,
+        &mut site,
+        &mut shelf,
+        &mut secrets,
+    );
     let mut errors = Writing::new(rt.stderr());
     // Where this fails too the status says it alone.
     let _ = match end {
         HostStatus::More(MoreStatus::Damaged(at)) => {
             write_numbered(&mut errors, b"ifdb: the journal is damaged at byte", at)
         }
+        HostStatus::DiskFault => write_all(
+            &mut errors,
+            b"ifdb: a file can't be opened, read or written, or another program has it\n",
+        ),
         HostStatus::NotADatabase => write_all(&mut errors, b"ifdb: the file is no database\n"),
+        HostStatus::NoKey => write_all(
+            &mut errors,
+            b"ifdb: the first line of the file of admin's key is no key\n",
+        ),
         HostStatus::More(_) => Ok(()),
     };
     ExitCode::from(end.exit_code())

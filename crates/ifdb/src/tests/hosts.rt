@@ -1,11 +1,12 @@
-// The words of `host`, over a shelf with one disk in memory and a site of doors in memory.
+// The words of `host`, over shelves with one disk in memory and a site of doors in memory.
 use super::*;
 use crate::hosting::{HostStatus, top_host};
 use ifdb_io::{Failed, MemoryDoor};
+use ifdb_keyed::KeyedSite;
 
 // A table is made and a row inserted, and another in a transaction that the client leaves open.
 const FIRST: &str =
-    "HELLO admin KEY 'admin'\nCREATE TABLE note (id INT, PRIMARY KEY (id))\nINSERT INTO note VALUES (1)\nBEGIN\nINSERT INTO note VALUES (2)\n";
+    "HELLO admin KEY 'sesame'\nCREATE TABLE note (id INT, PRIMARY KEY (id))\nINSERT INTO note VALUES (1)\nBEGIN\nINSERT INTO note VALUES (2)\n";
 
 const FIRST_REPLIES: &str = "OK\nOK\nOK 1\nOK\nOK 1\n";
 
@@ -13,16 +14,23 @@ const FIRST_OUTPUT: &str =
     "LISTENING 7070\nsessions 1\nentries 6\ncommits 1\nrefused 0\nrows 1\nfaults 0\n";
 
 // What is there is looked at.
-const SECOND: &str = "HELLO admin KEY 'admin'\nSELECT id FROM note\nBYE\n";
+const SECOND: &str = "HELLO admin KEY 'sesame'\nSELECT id FROM note\nBYE\n";
 
 const SECOND_REPLIES: &str = "OK\nROWS 1 1\n1\nOK\n";
 
 const SECOND_OUTPUT: &str =
     "LISTENING 7070\nsessions 1\nentries 4\ncommits 0\nrefused 0\nrows 1\nfaults 0\n";
 
-const WORDS: &str = "host --file d --port 7070 --workers 1 --links 1";
+const WORDS: &str = "host --file d --admin-key k --port 7070 --workers 1 --links 1";
 
-const USAGE: &str = "usage: ifdb host --file F --port P [--workers W] [--links K] [--limit N]\n";
+// What those are told who say another key, and ask for a table.
+const NOBODY: &str = "ERR 4 BadKey\nERR 2 NotHello\n";
+
+// The file of the key.
+const KEY: &[u8] = b"sesame\n";
+
+const USAGE: &str =
+    "usage: ifdb host --file F --admin-key A --port P [--workers W] [--links K] [--limit N]\n";
 
 // How a call of the program ended, what was written for it, what the last connection was told, and the disk that came back to
 // the shelf.
@@ -41,41 +49,49 @@ fn disk_of(alloc: Global, bytes: &[u8], fails: Option<u64>) -> Result<MemoryDisk
 }
 
 // A site with one door, through which one client comes.
-fn site_of(alloc: Global, input: &str) -> Result<MemorySite<MemoryLink>, Fail> {
+fn site_of(alloc: Global, input: &str) -> Result<KeyedSite<MemorySite<MemoryLink>>, Fail> {
     let source = source(alloc, input.as_bytes(), all_of(64))?;
     let sink = sink(alloc, all_of(64))?;
     let mut links = Vec::new(alloc);
     links.push(MemoryLink { source, sink })?;
     let mut doors = Vec::new(alloc);
     doors.push(MemoryDoor::new(alloc, links, Vec::new(alloc))?)?;
-    Ok(MemorySite::new(alloc, doors, Vec::new(alloc)))
+    Ok(KeyedSite::new(alloc, MemorySite::new(alloc, doors, Vec::new(alloc))))
 }
 
 // What the last connection that a site has back was told.
-fn replies_of(alloc: Global, site: &MemorySite<MemoryLink>) -> Result<Vec<u8>, Fail> {
+fn replies_of(alloc: Global, site: &KeyedSite<MemorySite<MemoryLink>>) -> Result<Vec<u8>, Fail> {
     let mut replies = Vec::new(alloc);
     for door in site.back() {
-        for link in door.back() {
+        for link in door.door().back() {
             replies = Vec::from_slice(alloc, link.sink.bytes())?;
         }
     }
     Ok(replies)
 }
 
-// Calls the program with these words over a client, and a shelf that gives this disk, but at these calls of `open`.
-fn run_hosted<R: AllocGlobal + Threads + Wait + Sync>(
+// Calls the program with these words over a client, and shelves that give these disks, but at this call of `open`: the database's,
+// and that of the key.
+fn run_over<R: AllocGlobal + Threads + Wait + Sync>(
     rt: &R,
     words: &str,
     client: &str,
-    disk: MemoryDisk,
-    fails: Option<u64>,
+    mut shelf: MemoryShelf,
+    mut secrets: MemoryShelf,
 ) -> Result<HostedHere, Fail> {
     let words = words_of(rt.alloc(), words)?;
     let mut input = source(rt.alloc(), b"", all_of(64))?;
     let mut output = sink(rt.alloc(), all_of(64))?;
     let mut site = site_of(rt.alloc(), client)?;
-    let mut shelf = MemoryShelf::new(disk, failing(rt.alloc(), fails)?);
-    let end = top_host(rt, &words, &mut input, &mut output, &mut site, &mut shelf);
+    let end = top_host(
+        rt,
+        &words,
+        &mut input,
+        &mut output,
+        &mut site,
+        &mut shelf,
+        &mut secrets,
+    );
     let replies = replies_of(rt.alloc(), &site);
     drop(site);
     let replies = replies?;
@@ -86,6 +102,24 @@ fn run_hosted<R: AllocGlobal + Threads + Wait + Sync>(
         replies,
         back: shelf.back(),
     })
+}
+
+// A shelf that gives this disk, but at this call of `open`.
+fn shelf_of(alloc: Global, disk: MemoryDisk, fails: Option<u64>) -> Result<MemoryShelf, Fail> {
+    Ok(MemoryShelf::new(disk, failing(alloc, fails)?))
+}
+
+// Calls the program with these words over a client and a disk, which the shelf gives but at this call, by the key.
+fn run_hosted<R: AllocGlobal + Threads + Wait + Sync>(
+    rt: &R,
+    words: &str,
+    client: &str,
+    disk: MemoryDisk,
+    fails: Option<u64>,
+) -> Result<HostedHere, Fail> {
+    let shelf = shelf_of(rt.alloc(), disk, fails)?;
+    let secrets = shelf_of(rt.alloc(), disk_of(rt.alloc(), KEY, None)?, None)?;
+    run_over(rt, words, client, shelf, secrets)
 }
 
 // Serves a client over a disk, and compares what is written for it and what the client is told.
@@ -120,7 +154,7 @@ static STOPS: [(&[u8], Option<u64>, HostStatus, bool); 3] = [
         HostStatus::More(MoreStatus::Damaged(16)),
         true,
     ),
-    (b"", Some(0), HostStatus::More(MoreStatus::DiskFault), false),
+    (b"", Some(0), HostStatus::DiskFault, false),
 ];
 
 #[test]
@@ -136,6 +170,49 @@ fn what_stops_it(rt: HostRuntime) -> Result<(), Fail> {
     Ok(())
 }
 
+// What the file of the key holds, which call of its shelf gives none, and how it ends: no line, an empty one, one that is too long, and
+// no file. The database isn't asked for.
+static LACKS: [(&[u8], Option<u64>, HostStatus); 4] = [
+    (b"", None, HostStatus::NoKey),
+    (b"\r\nsesame\n", None, HostStatus::NoKey),
+    (
+        b"0123456789012345678901234567890123456789012345678901234567890123456789",
+        None,
+        HostStatus::NoKey,
+    ),
+    (KEY, Some(0), HostStatus::DiskFault),
+];
+
+#[test]
+fn without_a_key(rt: HostRuntime) -> Result<(), Fail> {
+    for (bytes, refused, end) in &LACKS {
+        let shelf = shelf_of(rt.alloc(), disk_of(rt.alloc(), b"", None)?, None)?;
+        let secrets = shelf_of(rt.alloc(), disk_of(rt.alloc(), bytes, None)?, *refused)?;
+        let ran = run_over(&rt, WORDS, FIRST, shelf, secrets)?;
+        assert_eq!(rt; ran.end, *end);
+        assert!(rt; ran.written.is_empty());
+        assert!(rt; ran.back.is_none());
+    }
+    assert_eq!(rt; HostStatus::NoKey.exit_code(), 8);
+    assert_eq!(rt; HostStatus::DiskFault.exit_code(), 7);
+    Ok(())
+}
+
+// Who says the key that each database begins with is nobody.
+#[test]
+fn the_first_key_is_no_longer_one(rt: HostRuntime) -> Result<(), Fail> {
+    let disk = disk_of(rt.alloc(), b"", None)?;
+    let ran = run_hosted(
+        &rt,
+        WORDS,
+        "HELLO admin KEY 'admin'\nCREATE TABLE t (id INT, PRIMARY KEY (id))\n",
+        disk,
+        None,
+    )?;
+    assert_eq!(rt; ran.replies.as_slice(), NOBODY.as_bytes());
+    Ok(())
+}
+
 // The disk fails at each of its calls in turn: the client is told a front of the replies, each whole, and the end says why.
 #[test]
 fn no_reply_before_it_is_kept(rt: HostRuntime) -> Result<(), Fail> {
@@ -143,7 +220,7 @@ fn no_reply_before_it_is_kept(rt: HostRuntime) -> Result<(), Fail> {
     for call in 0..20 {
         let disk = disk_of(rt.alloc(), b"", Some(call))?;
         let ran = run_hosted(&rt, WORDS, FIRST, disk, None)?;
-        if ran.end == HostStatus::More(MoreStatus::DiskFault) {
+        if ran.end == HostStatus::DiskFault {
             assert!(rt; FIRST_REPLIES.as_bytes().starts_with(&ran.replies));
             assert!(rt; ran.replies.len() < FIRST_REPLIES.len());
             has_failed = true;
@@ -157,13 +234,15 @@ fn no_reply_before_it_is_kept(rt: HostRuntime) -> Result<(), Fail> {
 fn malformed_words_of_host(rt: HostRuntime) -> Result<(), Fail> {
     for words in [
         "host",
-        "host --file d",
-        "host --port 7070",
-        "host d --port 7070",
-        "host --file= --port 7070",
-        "host --file d --port 0",
-        "host --file d --port 7 --workers 65",
-        "host --file d --file e --port 7",
+        "host --file d --admin-key k",
+        "host --file d --port 7070",
+        "host --admin-key k --port 7070",
+        "host d --admin-key k --port 7070",
+        "host --file= --admin-key k --port 7070",
+        "host --file d --admin-key= --port 7070",
+        "host --file d --admin-key k --port 0",
+        "host --file d --admin-key k --port 7 --workers 65",
+        "host --file d --file e --admin-key k --port 7",
     ] {
         let disk = disk_of(rt.alloc(), b"", None)?;
         let ran = run_hosted(&rt, words, FIRST, disk, None)?;
