@@ -51,10 +51,11 @@ class Bench:
         self.rows: int = given.rows
         self.load = load
 
-    def rate(self, port: int, kind: str, clients: int, most: Optional[int] = None) -> float:
-        """Statements of a kind in a second, none of them refused: for the seconds of the command line, or `most` by each client."""
+    def rate(self, port: int, kind: str, clients: int, most: Optional[int] = None, key: str = program.ADMIN_KEY) -> float:
+        """Statements of a kind in a second, none of them refused, by clients that say the key of admin: for the seconds of the command
+        line, or `most` by each client."""
         seconds = self.seconds if most is None else 1e9
-        words = [self.load, port, clients, seconds, self.rows, served.TABLE, served.TAG, "admin", kind, *([] if most is None else [most])]
+        words = [self.load, port, clients, seconds, self.rows, served.TABLE, served.TAG, key, kind, *([] if most is None else [most])]
         said = subprocess.run([str(word) for word in words], check=True, capture_output=True, text=True).stdout.split()
         if said[2:] != ["0", "0"]:
             raise SystemExit(f"{kind}: {said[2]} conflicts and {said[3]} other refusals")
@@ -65,7 +66,7 @@ class Bench:
 
 
 def host(file: pathlib.Path, clients: int) -> program.Server:
-    return program.Server(workers=clients + 1, command=("host", "--file", file))
+    return program.Server(workers=clients + 1, command=program.hosting(file))
 
 
 @contextlib.contextmanager
@@ -79,7 +80,7 @@ def measure(bench: Bench, folder: str, kind: str) -> None:
     """Statements of a kind by `ifdb host` over a file in a folder."""
     for clients in bench.clients:
         with inside(folder) as work, host(work / "file", clients) as server:
-            served.make_rows(server.port, bench.rows)
+            served.make_rows(server.port, bench.rows, program.ADMIN_KEY)
             bench.tell(f"ifdb host, {kind}, {folder}", clients, lambda: bench.rate(server.port, kind, clients))
 
 
@@ -87,7 +88,7 @@ def measure_serve(bench: Bench) -> None:
     for clients in bench.clients:
         with program.Server(workers=clients + 1) as server:
             served.make_rows(server.port, bench.rows)
-            bench.tell("ifdb serve, selects", clients, lambda: bench.rate(server.port, "selects", clients))
+            bench.tell("ifdb serve, selects", clients, lambda: bench.rate(server.port, "selects", clients, key="admin"))
 
 
 def measure_sqlite(bench: Bench, folder: str) -> None:
@@ -155,7 +156,7 @@ def measure_starts(bench: Bench, commits: int) -> None:
     with inside("/dev/shm") as work:
         file = work / "file"
         with host(file, clients) as server:
-            served.make_rows(server.port, 0)
+            served.make_rows(server.port, 0, program.ADMIN_KEY)
             bench.rate(server.port, "inserts", clients, most=commits // clients)
         times = []
         for _ in range(bench.runs):

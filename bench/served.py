@@ -88,10 +88,10 @@ def line_load(client: pathlib.Path, port: int, options: argparse.Namespace) -> t
     return load
 
 
-def make_rows(port: int, rows: int) -> None:
-    """Makes the table of an ifdb at this port."""
+def make_rows(port: int, rows: int, key: str = "admin") -> None:
+    """Makes the table of an ifdb at this port, whose admin has this key."""
     with program.connected(port) as session:
-        session.answer("HELLO admin KEY 'admin'")
+        session.answer(f"HELLO admin KEY '{key}'")
         session.answer(f"CREATE TABLE {TABLE} (id INT, v INT, PRIMARY KEY (id))")
         session.answer(f"CREATE TAG {TAG}")
         session.answer(f"SET LABEL ({TAG})")

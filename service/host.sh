@@ -1,7 +1,7 @@
 #!/bin/bash
 # Serves a database for the service ifdb.service, by the words that its environment has (/etc/ifdb/host.conf).
 #
-#   IFDB_FILE=F IFDB_PORT=P [IFDB_WORKERS=W] [IFDB_LINKS=K] [IFDB_LIMIT=N] [IFDB_WATCH=S] service/host.sh
+#   IFDB_FILE=F IFDB_ADMIN_KEY=A IFDB_PORT=P [IFDB_WORKERS=W] [IFDB_LINKS=K] [IFDB_LIMIT=N] [IFDB_WATCH=S] service/host.sh
 #
 # It runs `ifdb host` by these words (the variable IFDB names another program than /usr/bin/ifdb), writes what that writes, and tells systemd
 # once it listens. From then on it connects each S seconds (60; 0 is never) and looks whether a request is answered. After a fault of
@@ -10,7 +10,7 @@
 set -uo pipefail
 readonly PATIENCE=30 # (seconds)
 
-options=(--file "${IFDB_FILE:?}" --port "${IFDB_PORT:?}")
+options=(--file "${IFDB_FILE:?}" --admin-key "${IFDB_ADMIN_KEY:?}" --port "${IFDB_PORT:?}")
 if [ -n "${IFDB_WORKERS:-}" ]; then options+=(--workers "$IFDB_WORKERS"); fi
 if [ -n "${IFDB_LINKS:-}" ]; then options+=(--links "$IFDB_LINKS"); fi
 if [ -n "${IFDB_LIMIT:-}" ]; then options+=(--limit "$IFDB_LIMIT"); fi

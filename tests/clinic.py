@@ -105,8 +105,8 @@ def wrong_behind_a_kill(browsers: Browsers, database: program.Server, file: path
         database.stop()
         waiting = [it for it in asked if not it.cancel()]
     done = sum(it.result()[0] == "200" for it in waiting)
-    with program.Server(command=("host", "--file", file), port=database.port):
-        wrong = ["a second start made a clinic"] if start.start(database.port) else []
+    with program.Server(command=program.hosting(file), port=database.port):
+        wrong = ["a second start made a clinic"] if start.start(database.port, program.ADMIN_KEY) else []
         behind = mails(browsers, "ann")
         if behind[: len(before)] != before or not done <= len(behind) - len(before) <= done + 4:
             wrong.append(f"ann had {len(before)} mails, was told of {done} more, and has {len(behind)}")
@@ -117,7 +117,7 @@ def wrong_behind_a_kill(browsers: Browsers, database: program.Server, file: path
 
 def let_eve_in(port: int) -> None:
     """What anybody may do who reaches the port: makes a principal, and calls it a doctor."""
-    with ifdb.connect(port, "admin", "admin", timeout=program.PATIENCE) as admin:
+    with ifdb.connect(port, "admin", program.ADMIN_KEY, timeout=program.PATIENCE) as admin:
         cursor = admin.cursor()
         cursor.execute("CREATE PRINCIPAL eve KEY ?", (start.key_of("eve"),))
         cursor.execute("INSERT INTO person VALUES ('eve', 'doctor')")
@@ -133,8 +133,8 @@ def main(words: Sequence[str]) -> int:
     log: List[str] = []
     with tempfile.TemporaryDirectory(prefix="ifdb-clinic-") as folder:
         file = pathlib.Path(folder) / "clinic"
-        with program.Server(command=("host", "--file", file)) as database:
-            start.start(database.port)
+        with program.Server(command=program.hosting(file)) as database:
+            start.start(database.port, program.ADMIN_KEY)
             let_eve_in(database.port)
             with app.serve(database.port, 0, log.append) as web:
                 threading.Thread(target=web.serve_forever).start()

@@ -38,7 +38,6 @@ import program  # noqa: E402
 
 NOT_HERE = 69
 DISK_FAULT, DAMAGED = 7, 8
-HELLO = "HELLO admin KEY 'admin'"
 ACCOUNTS, AMOUNT = 10, 1000
 KILLED_EARLY = 0.15
 """In what part of the rounds the program is killed while it starts."""
@@ -49,7 +48,7 @@ class Lost(Exception):
 
 
 def host(file: pathlib.Path, workers: int, links: int = 1_000_000, quiet: bool = False) -> program.Server:
-    return program.Server(workers=workers, links=links, command=("host", "--file", file), quiet=quiet)
+    return program.Server(workers=workers, links=links, command=program.hosting(file), quiet=quiet)
 
 
 def told(session: program.Session, request: str) -> List[List[str]]:
@@ -101,7 +100,7 @@ class Client(threading.Thread):
     def run(self) -> None:
         try:
             with program.connected(self._port) as session:
-                session.answer(HELLO)
+                session.answer(program.HELLO)
                 self._work(session)
         except (program.Ended, OSError):
             pass  # (of the kill)
@@ -224,7 +223,7 @@ SETTING = [
 
 def killed_early(file: pathlib.Path, rng: random.Random) -> None:
     """Kills the program while it starts, or soon behind that."""
-    words: List[program.Word] = ["host", "--file", file, f"--port={program.free_port()}"]
+    words = [*program.hosting(file), f"--port={program.free_port()}"]
     with subprocess.Popen([program.path(), *words], stdout=subprocess.DEVNULL) as process:
         time.sleep(rng.uniform(0, 0.05))
         process.kill()
@@ -245,7 +244,7 @@ def try_kills(file: pathlib.Path, kills: int, sizes: Sequence[int], life: float,
         with host(file, workers=min(max(sizes) + 1, 64)) as server:
             slowest = max(slowest, time.monotonic() - begun)
             with program.connected(server.port) as session:
-                session.answer(HELLO)
+                session.answer(program.HELLO)
                 for request in SETTING if round == 0 else []:
                     session.answer(request)
                 session.answer("SET LABEL (secret)")
@@ -289,7 +288,7 @@ STEPS = [
 
 def state_at(port: int) -> State:
     with program.connected(port) as session:
-        session.answer(HELLO)
+        session.answer(program.HELLO)
         state = tuple(tuple(session.ask(request)) for request in SHOWN)
         session.answer("BYE")
     return state
@@ -307,7 +306,7 @@ def small(file: pathlib.Path) -> List[Front]:
     fronts = []
     steps: List[List[str]] = [[], *STEPS]
     with host(file, workers=2) as server, program.connected(server.port) as session:
-        session.answer(HELLO)
+        session.answer(program.HELLO)
         for step in steps:
             for request in step:
                 session.answer(request)
@@ -378,7 +377,7 @@ def fill(folder: pathlib.Path, rng: random.Random) -> str:
     file, ledger = folder / "log", Ledger()
     with host(file, workers=5) as server:
         with program.connected(server.port) as session:
-            session.answer(HELLO)
+            session.answer(program.HELLO)
             for request in SETTING:
                 session.answer(request)
             session.answer("BYE")
@@ -394,7 +393,7 @@ def fill(folder: pathlib.Path, rng: random.Random) -> str:
     for room in ("64k", "1m"):
         subprocess.run(["mount", "-o", f"remount,size={room}", str(folder)], check=True)
         with host(file, workers=1) as server, program.connected(server.port) as session:
-            session.answer(HELLO)
+            session.answer(program.HELLO)
             session.answer("SET LABEL (secret)")
             ledger.check(session)
             if room == "1m":

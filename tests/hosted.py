@@ -35,13 +35,13 @@ def expect(what: str, found: object, wanted: object) -> None:
 
 
 def host(file: pathlib.Path, workers: int = 4, links: int = 1_000_000) -> program.Server:
-    return program.Server(workers=workers, links=links, command=("host", "--file", file), quiet=True)
+    return program.Server(workers=workers, links=links, command=program.hosting(file), quiet=True)
 
 
 def admin(port: int) -> program.Session:
     """A session of admin's."""
     session = program.connected(port)
-    session.answer("HELLO admin KEY 'admin'")
+    session.answer(program.HELLO)
     return session
 
 
@@ -61,7 +61,7 @@ def ids(file: pathlib.Path) -> List[str]:
 def refused(file: pathlib.Path) -> Tuple[int, str]:
     """The status of a start over a file that isn't served, and what it says on standard error; the file has to stay as it was."""
     before = file.read_bytes() if file.exists() else None
-    ran = program.run("host", "--file", file, f"--port={program.free_port()}")
+    ran = program.run(*program.hosting(file), f"--port={program.free_port()}")
     expect("what a refused start writes", ran.written, b"")
     expect("a refused file", file.read_bytes() if file.exists() else None, before)
     return ran.status, ran.said.decode()
@@ -119,7 +119,8 @@ def other_files_are_refused(folder: pathlib.Path) -> None:
     expect("a journal of keep's", refused(kept), no_database)
     text.write_text("ifdb log 2      \nnotes\n")
     expect("a file of something else", refused(text), no_database)
-    expect("a file in no folder", refused(folder / "nowhere" / "log"), (DISK_FAULT, ""))
+    no_file = (DISK_FAULT, "ifdb: a file can't be opened, read or written, or another program has it\n")
+    expect("a file in no folder", refused(folder / "nowhere" / "log"), no_file)
     made(hosted)
     before = hosted.read_bytes()
     ran = program.run("keep", "--file", hosted, given=b"OPEN\n")
@@ -127,6 +128,23 @@ def other_files_are_refused(folder: pathlib.Path) -> None:
     expect("the database behind it", hosted.read_bytes(), before)
     hosted.write_bytes(before[:-1] + b"\1")
     expect("a database with an open gate at its end", refused(hosted), (DAMAGED, f"ifdb: the journal is damaged at byte {len(before) - 1}\n"))
+
+
+def without_a_key_nobody_is_served(folder: pathlib.Path) -> None:
+    file, key = folder / "keyless", folder / "key"
+    words = ("host", "--file", file, "--admin-key", key, f"--port={program.free_port()}")
+    expect("no file of a key", program.run(*words).status, DISK_FAULT)
+    key.write_text("\nsecond line\n")
+    ran = program.run(*words)
+    expect("a file without a key", (ran.status, ran.said), (DAMAGED, b"ifdb: the first line of the file of admin's key is no key\n"))
+    expect("that neither made the database", file.exists(), False)
+    made(file)
+    with host(file) as server, program.connected(server.port) as session:
+        expect("the key that all know", session.ask("HELLO admin KEY 'admin'"), ["ERR 4 BadKey"])
+    key.write_text("another\r\n")
+    with program.Server(command=("host", "--file", file, "--admin-key", key), quiet=True) as server, program.connected(server.port) as session:
+        session.answer("HELLO admin KEY 'another'")
+        expect("what the other key's admin sees", session.answer("SELECT id FROM note"), ["ROWS 0 1"])
 
 
 def what_stands_before_damage_goes_on(folder: pathlib.Path) -> None:
@@ -148,7 +166,7 @@ def what_stands_before_damage_goes_on(folder: pathlib.Path) -> None:
 
 def a_full_disk_loses_nothing(folder: pathlib.Path) -> None:
     file, told = folder / "full", 0
-    with program.Server(workers=3, command=("host", "--file", file), quiet=True, largest_file=FULL) as server:
+    with program.Server(workers=3, command=program.hosting(file), quiet=True, largest_file=FULL) as server:
         with admin(server.port) as session, admin(server.port) as other:
             session.answer("CREATE TABLE note (id INT, body TEXT, PRIMARY KEY (id))")
             while not is_ended(session, f"INSERT INTO note VALUES ({told}, NULL)"):
@@ -166,6 +184,7 @@ TESTS: List[Callable[[pathlib.Path], None]] = [
     nothing_is_kept_of_what_only_looks,
     one_program_has_a_file,
     other_files_are_refused,
+    without_a_key_nobody_is_served,
     what_stands_before_damage_goes_on,
     a_full_disk_loses_nothing,
 ]

@@ -51,7 +51,8 @@ class Service:
     def __init__(self, file: pathlib.Path, listener: Optional[socket.socket] = None, limit: Optional[int] = None, most: int = 0) -> None:
         """`limit` is one of the system's on what a process may take, and `most` how much that is."""
         self.port = program.free_port()
-        words = {"IFDB": str(program.path()), "IFDB_FILE": str(file), "IFDB_PORT": str(self.port), "IFDB_WORKERS": "4", "IFDB_WATCH": "1"}
+        files = {"IFDB": str(program.path()), "IFDB_FILE": str(file), "IFDB_ADMIN_KEY": str(program.ADMIN_KEY_FILE)}
+        words = {**files, "IFDB_PORT": str(self.port), "IFDB_WORKERS": "4", "IFDB_WATCH": "1"}
         environment: Dict[str, str] = {**os.environ, **words}
         if listener is not None:
             environment["NOTIFY_SOCKET"] = listener.getsockname()
@@ -74,7 +75,7 @@ class Service:
 
     def admin(self) -> program.Session:
         session = program.connected(self.port)
-        session.answer("HELLO admin KEY 'admin'")
+        session.answer(program.HELLO)
         return session
 
     def __enter__(self) -> Service:

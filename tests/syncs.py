@@ -27,7 +27,6 @@ OPENING = ["lock", "sync folder", "sync"]
 TITLE = ["write 1 at 0", "sync", "write 15 at 1", "sync", "write 1 at 0", "sync"]
 """A title as a record: a closed gate, what stands behind it, and the gate opened."""
 GATE = ["sync", "write 1 at 16", "sync"]
-ADMIN = "HELLO admin KEY 'admin'"
 TABLE = "CREATE TABLE note (id INT, PRIMARY KEY (id))"
 
 
@@ -35,7 +34,7 @@ def served(folder: pathlib.Path, requests: List[str]) -> List[str]:
     """The calls of a server whose one client asks some requests, as strace tells them."""
     port, trace = program.free_port(), folder / "trace"
     traced = ["strace", "-f", "-qq", "-e", "trace=openat,flock,fsync,pwrite64,recvfrom,sendto", "-o", str(trace)]
-    words = [str(program.path()), "host", "--file", str(folder / "db"), f"--port={port}", "--workers=1", "--links=1"]
+    words = [str(program.path()), *map(str, program.hosting(folder / "db")), f"--port={port}", "--workers=1", "--links=1"]
     with subprocess.Popen([*traced, *words], stdout=subprocess.PIPE, text=True) as server:
         assert server.stdout
         if server.stdout.readline() != f"LISTENING {port}\n":
@@ -83,7 +82,7 @@ def answered(*calls: str) -> List[str]:
 def wanted() -> Tuple[List[str], List[str]]:
     """Some requests, and the calls that they have to come to."""
     table, row = 14 + 2 + len(TABLE) + 4, 30
-    requests = [ADMIN, TABLE, "INSERT INTO note VALUES (7)", "SELECT id FROM note", "BEGIN", "INSERT INTO note VALUES (8)", "COMMIT", "BYE"]
+    requests = [program.HELLO, TABLE, "INSERT INTO note VALUES (7)", "SELECT id FROM note", "BEGIN", "INSERT INTO note VALUES (8)", "COMMIT", "BYE"]
     place = 16 + table
     calls = [OPENING, TITLE, GATE, answered(), answered(*appended(table, 16)), answered(*appended(row, place)), answered()]
     calls += [answered(), answered(), answered(*appended(row, place + row)), answered()]

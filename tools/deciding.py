@@ -5,7 +5,7 @@
     tools/deciding.py --why F    prints one way from the top call to the file F
 
 A definition stands in a file of a crate's specs/; it cites another where it names it. The words of traits that a clause speaks
-of (sources, sinks, sites, disks, shelves) are begun with as well, and so are the laws that no clause of that call states: what the
+of (sources, sinks, sites, disks, shelves) are begun with as well, and so are those by which a served database hears its site, and the laws that no clause of that call states: what the
 parser reads by the written grammar, and what a journal's next script begins with. Each such file begins with a line
 `-- decides: ..`, and docs/PROVED.md lists it.
 """
@@ -24,7 +24,8 @@ ROOTS = [
     "ifdb/src/more.rt",
     *(f"ifdb_io/src/{name}.rt" for name in ("outside", "doors")),
     *(f"ifdb_disk/src/{name}.rt" for name in ("disk", "shelf")),
-    *(f"{crate}/src/laws.rt" for crate in ("ifdb_parse", "ifdb_keep")),
+    *(f"ifdb_keyed/src/{name}.rt" for name in ("link", "door", "site")),
+    *(f"{crate}/src/laws.rt" for crate in ("ifdb_parse", "ifdb_keep", "ifdb_keyed")),
 ]
 # The rules by which the parser's definition reads. The laws of ifdb_parse tie what they give to the written grammar.
 TIED = ["ifdb_parse/specs/rules", "ifdb_parse/specs/theory"]

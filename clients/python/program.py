@@ -19,6 +19,12 @@ PATIENCE = 20.0
 """Seconds that a test waits for what comes at once."""
 
 Word = Union[str, pathlib.Path]
+
+ADMIN_KEY_FILE = ROOT / "tests/admin_key.txt"
+ADMIN_KEY = ADMIN_KEY_FILE.read_text().rstrip("\n")
+"""The key of `admin` where these serve a database in a file."""
+HELLO = f"HELLO admin KEY '{ADMIN_KEY}'"
+
 Some = TypeVar("Some", bound="Session")
 
 _ROWS = re.compile(rb"(?:[0-9]+ )?ROWS ([0-9]+) [0-9]+\n?")
@@ -200,6 +206,11 @@ def recorded(script: Iterable[bytes], words: Sequence[Word] = ("run",)) -> Itera
 
 
 # ---- A served program
+
+
+def hosting(file: Word) -> List[Word]:
+    """The words that serve the database in a file, but for those that `Server` adds. `HELLO` is what its admin begins with."""
+    return ["host", "--file", file, "--admin-key", ADMIN_KEY_FILE]
 
 
 def free_port() -> int:

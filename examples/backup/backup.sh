@@ -19,16 +19,17 @@ file=$1 folder=$2
 umask 077
 mkdir -p -- "$folder"
 copy=$folder/ifdb-$(date -u +%Y%m%dT%H%M%SZ) part=$(mktemp -- "$folder/part.XXXXXX")
-trap 'rm -f -- "$part"' EXIT
+trap 'rm -f -- "$part" "$part.key"' EXIT
 
 # The file is read in one go from its begin to whatever is its end then, so a record that was seen to begin is read whole. What takes the
 # file's length first and reads behind that, as tar and rsync do, may stop within a record.
 cat -- "$file" >"$part" || fail "$file can't be copied"
 
-# The program over the copy, with a connection that says BYE; it counts what is there at its end.
+# The program over the copy, whose key of admin nobody is told, with a connection that says BYE; it counts what is there at its end.
+head -c 24 /dev/urandom | base64 >"$part.key"
 for _ in {1..20}; do
   port=$((20000 + RANDOM)) status=0
-  exec {told}< <(exec "$program" host --file "$part" --port "$port" --workers 1 --links 1)
+  exec {told}< <(exec "$program" host --file "$part" --admin-key "$part.key" --port "$port" --workers 1 --links 1)
   if IFS= read -r _ <&"$told"; then
     exec {link}<>"/dev/tcp/127.0.0.1/$port"
     printf 'BYE\n' >&"$link"

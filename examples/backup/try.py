@@ -27,7 +27,6 @@ sys.path.append(str(HERE.parents[1] / "clients/python"))
 import program  # noqa: E402
 
 NOT_HERE = 69
-HELLO = "HELLO admin KEY 'admin'"
 
 
 class Otherwise(Exception):
@@ -35,7 +34,7 @@ class Otherwise(Exception):
 
 
 def host(file: pathlib.Path, workers: int) -> program.Server:
-    return program.Server(workers=workers, command=("host", "--file", file), quiet=True)
+    return program.Server(workers=workers, command=program.hosting(file), quiet=True)
 
 
 class Client(threading.Thread):
@@ -50,7 +49,7 @@ class Client(threading.Thread):
     def run(self) -> None:
         try:
             with program.connected(self._port) as session:
-                session.answer(HELLO)
+                session.answer(program.HELLO)
                 while True:
                     self.sent += 1
                     session.answer("BEGIN")
@@ -65,7 +64,7 @@ class Client(threading.Thread):
 def commits_in(file: pathlib.Path, clients: int) -> List[int]:
     """How many of each client's commits a database shows, which have to be the first ones."""
     with host(file, 1) as server, program.connected(server.port) as session:
-        session.answer(HELLO)
+        session.answer(program.HELLO)
         rows = session.answer("SELECT client, number FROM entry")[1:]
     numbers: Dict[int, List[int]] = {client: [] for client in range(clients)}
     for row in rows:
@@ -107,7 +106,7 @@ def try_all(work: pathlib.Path, given: argparse.Namespace) -> None:
     backups: List[Backup] = []
     with host(file, given.clients + 1) as server:
         with program.connected(server.port) as session:
-            session.answer(HELLO)
+            session.answer(program.HELLO)
             session.answer("CREATE TABLE entry (client INT, number INT, PRIMARY KEY (client, number))")
         follow = [sys.executable, str(HERE / "follow.py"), str(file), str(standby), "--every", str(given.every)]
         subprocess.run([*follow, "--once"], check=True)

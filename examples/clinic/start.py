@@ -2,7 +2,7 @@
 """Begins a clinic in a new database: tags, principals, tables, the view for the bills, and three visits. Where a clinic is there
 already, as behind each later start of a server over its file, nothing is changed.
 
-    examples/clinic/start.py PORT [KEY]      the key of admin is 'admin' where none is given
+    examples/clinic/start.py PORT [FILE]      the first line of FILE is the key of admin; it is 'admin' where no file is named
 
 Says on standard error what came of it. The status is 0 if there is a clinic now, and 1 if not.
 """
@@ -74,8 +74,7 @@ def is_begun(admin: ifdb.Connection) -> bool:
 def start(port: int, admin_key: str = "admin") -> bool:
     """Makes all that the clinic begins with, where it isn't there, and returns whether it made it.
 
-    Whoever makes a tag holds it, and the key of `admin` is known to all. So a principal makes the tags whose key is drawn here and
-    kept nowhere: after the start nobody is that principal again. Raises HalfBegun where an earlier start was stopped in between."""
+    Whoever makes a tag holds it. So a principal makes the tags whose key is drawn here and kept nowhere: after the start nobody is that principal again. Raises HalfBegun where an earlier start was stopped in between."""
     key = secrets.token_urlsafe()
     with ifdb.connect(port, "admin", admin_key, timeout=30) as admin:
         if is_begun(admin):
@@ -106,13 +105,19 @@ def note_people(port: int, key: str) -> None:
         clinic.cursor().executemany("INSERT INTO person VALUES (?, ?)", list(roles.items()))
 
 
+def first_line(file: str) -> str:
+    """The first line of a file."""
+    with open(file, encoding="utf-8", newline="\n") as lines:
+        return lines.readline().removesuffix("\n").removesuffix("\r")
+
+
 def main(words: Sequence[str]) -> int:
     if len(words) not in (1, 2):
         print(__doc__, file=sys.stderr)
         return 2
     try:
-        made = start(int(words[0]), *words[1:])
-    except (ifdb.Error, HalfBegun) as error:
+        made = start(int(words[0]), *map(first_line, words[1:]))
+    except (ifdb.Error, OSError, HalfBegun) as error:
         print(f"the clinic isn't begun: {error}", file=sys.stderr)
         return 1
     print("the clinic is begun" if made else "the clinic is there, and stays as it is", file=sys.stderr)
