@@ -1,0 +1,5 @@
+mod Ranges
+mod Sending
+mod Talking
+mod Endings
+mod Crowding
