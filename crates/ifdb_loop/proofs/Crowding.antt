@@ -1,15 +1,16 @@
 -- One connection of a loop changes, and the others are served still.
 use Rattle.std.proofs.Common.{◌≡◌, ◌≢◌, ℕ, List, sym, ap, subst, ◌∙◌, arith, Bool, true, false, refl}
-use Rattle.std.specs.Prelude.{◌==◌}
+use Rattle.std.specs.Prelude.{◌==◌, ◌⊎◌, []}
 use Rattle.std.specs.declared.option.Option.TheVariants.{None, Some}
 use Rattle.std.proofs.lemmas.Bool.Decides.{nat_tests}
 use Rattle.slab.specs.Slab.{Slab, get, Updates}
 use Rattle.ifdb_loop.specs.declared.port.Port as port
 use Rattle.ifdb_loop.specs.declared.service.Service as service
 use Rattle.ifdb_loop.specs.declared.client.Client.{Client}
+use Rattle.ifdb_loop.specs.declared.ending.Ending.{Ending}
 use Rattle.ifdb_loop.specs.Dialogues.{Dialogue}
 use Rattle.ifdb_loop.specs.Standing.{IsServed, KeepsOthers}
-use Rattle.ifdb_loop.specs.Crowd.{AreServed}
+use Rattle.ifdb_loop.specs.Crowd.{AreServed, HasEndedAt}
 
 -- the same key, or another
 data Same (j k : ℕ) : Type 0 where
@@ -28,6 +29,12 @@ some_is x y e = grind (arith, e)
 
 none_some : {A : Type 0} (x : A) → None ≡ Some x → ⊥
 none_some x e = grind (arith, e)
+
+-- what is at a key has ended so
+pub ended_is : {P T : Type 0} → (clients : Slab (Client P T)) (k : ℕ) (c : Client P T) (ending : Ending) → get clients k ≡ Some c → HasEndedAt clients k ending
+    → (c.ending ≡ Some ending) × ((c.wires.owed ≡ []) ⊎ (c.is_lost ≡ true))
+ended_is {P} {T} clients k c ending was x =
+    subst (λ (d : Client P T). (d.ending ≡ Some ending) × ((d.wires.owed ≡ []) ⊎ (d.is_lost ≡ true))) (some_is x.0 c (sym x.1 ∙ was)) (x.2, x.3)
 
 module _ {S T P : Type 0} (services : service.Ghosts S T) (ports : port.Ghosts P) where
   -- one connection of a loop was taken out and came back, and sessions of other numbers are as they were

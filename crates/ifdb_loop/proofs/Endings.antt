@@ -14,7 +14,7 @@ use Rattle.ifdb_loop.specs.Traffic.{Traffic}
 use Rattle.ifdb_loop.specs.Dialogues.{Dialogue, silence, with_answer}
 use Rattle.ifdb_loop.specs.Exchange.{IsExchanged, IsTooLong}
 use Rattle.ifdb_loop.specs.Closings.{Carries, Exchanges, HasReadCause, HasWriteCause, KeepsLimit, LacksLast, MayBeOpen}
-use Rattle.ifdb_loop.proofs.Talking.{exchanged_asked, exchanged_owes, exchanged_sent, exchanged_came, room_left, past_limit, within_limit, exchanged_new, exchanged_same, room_new}
+use Rattle.ifdb_loop.proofs.Talking.{exchanged_asked, exchanged_owes, exchanged_sent, exchanged_came, room_left, past_limit, within_limit, exchanged_new, room_new}
 
 -- ---- a line is asked
 
@@ -92,11 +92,11 @@ unheard long t limit room held owed d x = record {
 -- ---- bytes come
 
 -- these came, and some may come still
-pub came : (long : List ℕ) (t u : Traffic) (limit room left : ℕ) (held got owed : List ℕ) (d : Dialogue)
-    → u.given ≡ append_known t.given got → u.written ≡ t.written → u.unread ≡ t.unread → u.unwritten ≡ t.unwritten → left + length got ≡ room
-    → Exchanges long None t limit room held owed d → Exchanges long None u limit left (held ++ got) owed d
-came long t u limit room left held got owed d given written unread unwritten size x = record {
-  carries = exchanged_came t u held got owed d.lines d.texts given written x.carries;
+pub came : (long : List ℕ) (t u : Traffic) (limit room left : ℕ) (held got now owed : List ℕ) (d : Dialogue)
+    → now ≡ held ++ got → u.given ≡ append_known t.given got → u.written ≡ t.written → u.unread ≡ t.unread → u.unwritten ≡ t.unwritten → left + length got ≡ room
+    → Exchanges long None t limit room held owed d → Exchanges long None u limit left now owed d
+came long t u limit room left held got now owed d is given written unread unwritten size x = record {
+  carries = subst (λ h. IsExchanged u h owed d.lines d.texts) (sym is) (exchanged_came t u held got owed d.lines d.texts given written x.carries);
   within = subst (KeepsLimit None limit left) (sym given) (room_left t.given got limit room left size x.within);
   may_be_open = x.may_be_open;
   read_cause = unread ∙ x.read_cause;
@@ -104,49 +104,53 @@ came long t u limit room left held got owed d given written unread unwritten siz
 }
 
 -- one came that is past the limit
-pub came_past : (long : List ℕ) (t u : Traffic) (limit room : ℕ) (held owed : List ℕ) (last : ℕ) (d : Dialogue)
-    → u.given ≡ append_known t.given (last ∷ []) → u.written ≡ t.written → u.unread ≡ t.unread → u.unwritten ≡ t.unwritten → room ≡ 0 → IsLine held
-    → Exchanges long None t limit room held owed d → Exchanges long (Some ends.TooMuch) u limit room (held ++ last ∷ []) owed d
-came_past long t u limit room held owed last d given written unread unwritten none line x = record {
+pub came_past : (long : List ℕ) (t u : Traffic) (limit room : ℕ) (held got now owed : List ℕ) (d : Dialogue)
+    → u.given ≡ append_known t.given got → u.written ≡ t.written → u.unread ≡ t.unread → u.unwritten ≡ t.unwritten → room ≡ 0 → length got ≡ 1 → IsLine held
+    → Exchanges long None t limit room held owed d → Exchanges long (Some ends.TooMuch) u limit room now owed d
+came_past long t u limit room held [] now owed d given written unread unwritten none one line x = absurd (omega (arith, one))
+came_past long t u limit room held (last ∷ []) now owed d given written unread unwritten none one line x = record {
   carries = (held, last, exchanged_came t u held (last ∷ []) owed d.lines d.texts given written x.carries, line);
-  within = subst (KeepsLimit (Some ends.TooMuch) limit room) (sym given) (past_limit t.given (last ∷ []) limit room none refl x.within);
+  within = subst (KeepsLimit (Some ends.TooMuch) limit room) (sym given) (past_limit t.given (last ∷ []) limit room none one x.within);
   may_be_open = x.may_be_open;
   read_cause = unread ∙ x.read_cause;
   write_cause = tt;
 }
+came_past long t u limit room held (a ∷ b ∷ rest) now owed d given written unread unwritten none one line x = absurd (omega (arith, one))
 
--- the input is at its end
-pub came_end : (long : List ℕ) (t u : Traffic) (limit room : ℕ) (held owed : List ℕ) (d : Dialogue)
-    → u.given ≡ t.given → u.written ≡ t.written → u.unread ≡ t.unread → IsAtEnd u.left → IsLine held
-    → Exchanges long None t limit room held owed d → Exchanges long (Some ends.End) u limit room held owed d
-came_end long t u limit room held owed d given written unread at_end line x = record {
+-- none came: the input is at its end
+pub came_end : (long : List ℕ) (t u : Traffic) (limit room : ℕ) (held got now owed : List ℕ) (d : Dialogue)
+    → u.given ≡ append_known t.given got → u.written ≡ t.written → u.unread ≡ t.unread → length got ≡ 0 → IsAtEnd u.left → IsLine held
+    → Exchanges long None t limit room held owed d → Exchanges long (Some ends.End) u limit room now owed d
+came_end long t u limit room held [] now owed d given written unread none at_end line x = record {
   carries = (
-    held,
-    exchanged_same t u held owed d.lines d.texts given written x.carries,
-    line,
+    held ++ [],
+    exchanged_came t u held [] owed d.lines d.texts given written x.carries,
+    subst IsLine (sym (append-nil held)) line,
     at_end,
   );
-  within = subst (λ o. IfSome o (λ bytes. length bytes ≤ limit)) (sym given) (within_limit t.given limit room x.within);
+  within = subst (KeepsLimit (Some ends.End) limit room) (sym given) (within_limit (append_known t.given []) limit room (room_left t.given [] limit room room (omega arith) x.within));
   may_be_open = x.may_be_open;
   read_cause = unread ∙ x.read_cause;
   write_cause = tt;
 }
+came_end long t u limit room held (a ∷ rest) now owed d given written unread none at_end line x = absurd (omega (arith, none))
 
--- reading has failed
-pub came_fault : (long : List ℕ) (t u : Traffic) (limit room : ℕ) (held owed : List ℕ) (d : Dialogue)
-    → u.given ≡ t.given → u.written ≡ t.written → 0 < u.unread → IsLine held
-    → Exchanges long None t limit room held owed d → Exchanges long (Some ends.LinkRead) u limit room held owed d
-came_fault long t u limit room held owed d given written fault line x = record {
+-- none came: reading has failed
+pub came_fault : (long : List ℕ) (t u : Traffic) (limit room : ℕ) (held got now owed : List ℕ) (d : Dialogue)
+    → u.given ≡ append_known t.given got → u.written ≡ t.written → 0 < u.unread → length got ≡ 0 → IsLine held
+    → Exchanges long None t limit room held owed d → Exchanges long (Some ends.LinkRead) u limit room now owed d
+came_fault long t u limit room held [] now owed d given written fault none line x = record {
   carries = (
-    held,
-    exchanged_same t u held owed d.lines d.texts given written x.carries,
-    line,
+    held ++ [],
+    exchanged_came t u held [] owed d.lines d.texts given written x.carries,
+    subst IsLine (sym (append-nil held)) line,
   );
-  within = subst (λ o. IfSome o (λ bytes. length bytes ≤ limit)) (sym given) (within_limit t.given limit room x.within);
+  within = subst (KeepsLimit (Some ends.LinkRead) limit room) (sym given) (within_limit (append_known t.given []) limit room (room_left t.given [] limit room room (omega arith) x.within));
   may_be_open = x.may_be_open;
   read_cause = fault;
   write_cause = tt;
 }
+came_fault long t u limit room held (a ∷ rest) now owed d given written fault none line x = absurd (omega (arith, none))
 
 -- ---- bytes go
 
@@ -229,6 +233,19 @@ unkept long (Some ending) t limit room held owed d x = record {
   read_cause = x.read_cause;
   write_cause = x.write_cause;
 }
+
+none_some : {A : Type 0} (x : A) → None ≡ Some x → ⊥
+none_some x e = grind (arith, e)
+
+some_is : {A : Type 0} (x y : A) → Some x ≡ Some y → x ≡ y
+some_is x y e = grind (arith, e)
+
+-- it had ended so
+pub closed : (long : List ℕ) (was : Option Ending) (ending : Ending) (t : Traffic) (limit room : ℕ) (held owed : List ℕ) (d : Dialogue)
+    → was ≡ Some ending → Exchanges long was t limit room held owed d → Exchanges long (Some ending) t limit 0 [] owed d
+closed long None ending t limit room held owed d is x = absurd (none_some ending is)
+closed long (Some other) ending t limit room held owed d is x =
+    subst (λ e. Exchanges long (Some e) t limit 0 [] owed d) (some_is other ending is) (unkept long (Some other) t limit room held owed d x)
 
 -- a connection that has just come
 pub fresh : (long : List ℕ) (t : Traffic) (limit : ℕ) (held owed : List ℕ) → held ≡ [] → owed ≡ []

@@ -3,3 +3,4 @@ mod Sending
 mod Talking
 mod Endings
 mod Crowding
+mod Leaving

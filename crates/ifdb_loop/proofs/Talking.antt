@@ -1,6 +1,6 @@
 -- What a line that is asked does to what a connection has read and written.
-use Rattle.std.proofs.Common.{◌≡◌, ℕ, ◌+◌, ◌<◌, ◌≤◌, List, [], ◌∷◌, ◌++◌, length, take, drop, sym, ap, subst, ◌∙◌, arith}
-use Rattle.std.specs.Prelude.{IfSome}
+use Rattle.std.proofs.Common.{◌≡◌, ◌≢◌, ℕ, ◌+◌, ◌<◌, ◌≤◌, List, [], ◌∷◌, ◌++◌, length, take, drop, sym, ap, subst, ◌∙◌, arith}
+use Rattle.std.specs.Prelude.{IfSome, All}
 use Rattle.std.specs.declared.option.Option.{Option}
 use Rattle.std.specs.declared.option.Option.TheVariants.{None, Some}
 use Rattle.std.specs.Io.KnownBytes.{append_known}
@@ -45,15 +45,6 @@ line_cut : (held : List ℕ) (n : ℕ) → BreaksAt held n → n ≤ 65535 → I
 line_cut held n b short = record {
   plain = b.before;
   short = let size = length-take n held in omega (arith, size, b.within);
-}
-
--- a connection that tells the same exchanged the same
-pub exchanged_same : (t u : Traffic) (held owed : List ℕ) (lines : List (List ℕ)) (texts : List ℕ) → u.given ≡ t.given → u.written ≡ t.written
-    → IsExchanged t held owed lines texts → IsExchanged u held owed lines texts
-exchanged_same t u held owed lines texts given written x = record {
-  came = subst (λ o. IfSome o (λ bytes. bytes ≡ bytes_of lines ++ held)) (sym given) x.came;
-  went = subst (λ o. IfSome o (λ bytes. bytes ++ owed ≡ texts)) (sym written) x.went;
-  are = x.are;
 }
 
 -- a line was asked, and its reply isn't owed yet
@@ -129,6 +120,16 @@ too_long held n b long = record {
   all = sym (take-append-drop n held);
   plain = b.before;
   long = let size = length-take n held in omega (arith, size, b.within);
+}
+
+-- there is no newline, and too many bytes
+pub all_too_long : (held : List ℕ) → All (λ b. b ≢ 10) held → 65535 < length held → IsTooLong held
+all_too_long held plain long = record {
+  front = held;
+  rest = [];
+  all = sym (append-nil held);
+  plain = plain;
+  long = long;
 }
 
 nothing_went : (written : Option (List ℕ)) → IfSome written (λ bytes. bytes ≡ []) → IfSome written (λ bytes. bytes ++ [] ≡ [])

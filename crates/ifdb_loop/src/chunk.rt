@@ -1,7 +1,8 @@
 // The bytes that a loop has in hand of the connection whose turn it is.
-ghost use Rattle.std.specs.Prelude.{◌≡◌, ◌<◌, ◌≤◌, ◌+◌, ◌++◌, [], length, take, drop, vec_len, Some, Ok, IfOk};
+ghost use Rattle.std.specs.Prelude.{◌≡◌, ◌≢◌, ◌<◌, ◌≤◌, ◌+◌, ◌++◌, [], length, take, drop, vec_len, Some, Ok, IfOk, All, MatchOption};
 ghost use Rattle.std.specs.Io.KnownBytes.{append_known, prepend_known, IsAtEnd};
 ghost use Rattle.ifdb_io.specs.Causes.{HasCause};
+ghost use Rattle.ifdb_io.specs.Reader.{BreaksAt};
 ghost use Rattle.ifdb_loop.specs.Fronts.{BeginsAs};
 ghost use Rattle.ifdb_loop.specs.Moves.{moved};
 
@@ -15,7 +16,7 @@ use std::marker::Model;
 pub const SIZE: usize = 131_072;
 
 /// How some bytes begin.
-#[derive(Clone, Copy, PartialEq, Eq)]
+#[derive(Clone, Copy)]
 pub enum Front {
     /// With a line, whose newline stands at this place.
     Line(usize),
@@ -108,15 +109,28 @@ impl Chunk {
         Ok(found)
     }
 
+    // The place of the first newline.
+    fn newline(&self) -> Option<usize>
+        ensures { MatchOption result (All (λ b. b ≢ 10) self.now) (λ n. BreaksAt self.now n) }
+    {
+        memchr(b'\n', &self.bytes[self.from..self.to])
+    }
+
     /// How the bytes begin. Looks no further than at the first newline.
+    #[tactic(auto, using(crate::proofs::Talking::too_long, crate::proofs::Talking::all_too_long))]
     pub fn front(&self) -> Front
         ensures { BeginsAs result self.now }
     {
-        match memchr(b'\n', &self.bytes[self.from..self.to]) {
-            Some(n) if n <= LONGEST_LINE => Front::Line(n),
-            None if self.to - self.from <= LONGEST_LINE => Front::Part,
-            _ => Front::TooLong,
+        let Some(n) = self.newline() else {
+            if self.bytes().len() > LONGEST_LINE {
+                return Front::TooLong;
+            }
+            return Front::Part;
+        };
+        if n > LONGEST_LINE {
+            return Front::TooLong;
         }
+        Front::Line(n)
     }
 
     /// The first `n` bytes.

@@ -1,6 +1,6 @@
 // A round of a loop over its connections.
 ghost use Rattle.std.specs.Prelude.{◌≡◌, [], OnOk, OnErr, IfSome, IfErr};
-ghost use Rattle.ifdb_loop.specs.Crowd.{AreServed};
+ghost use Rattle.ifdb_loop.specs.Crowd.{AreServed, HasEndedAt};
 ghost use Rattle.ifdb_loop.specs.Dialogues.{Dialogue};
 ghost use Rattle.ifdb_loop.specs.Standing.{IsServed, KeepsOthers, WasServed};
 
@@ -141,6 +141,13 @@ pub fn round<P: Port + Drop, S: Service>(
     Ok(())
 }
 
+// How the connection at a key ended, if it has, and owes nothing that can be written still.
+fn ending_at<P, T>(clients: &Slab<Client<P, T>>, key: usize) -> Option<Ending>
+    ensures { IfSome result (HasEndedAt clients.now key) }
+{
+    clients.get(key)?.over()
+}
+
 /// Takes out the connection at a key, if it has ended and owes nothing that can be written still. Its session leaves.
 pub fn hang_up<P: Port, S: Service>(
     service: &mut S,
@@ -155,8 +162,12 @@ pub fn hang_up<P: Port, S: Service>(
     ensures served { AreServed S.Service P.Port service.new clients.new }
     ensures over { IfSome result (WasServed S.Service P.Port service.new) }
 {
-    let ending = clients.get(key)?.over()?;
-    let client = clients.try_remove(key)?;
+    let Some(ending) = ending_at(clients, key) else {
+        return None;
+    };
+    let Some(client) = clients.try_remove(key) else {
+        return None;
+    };
     Some(end(service, client, ending))
 }
 
@@ -174,7 +185,9 @@ pub fn cut_off<P: Port, S: Service>(
     ensures served { AreServed S.Service P.Port service.new clients.new }
     ensures over { IfSome result (WasServed S.Service P.Port service.new) }
 {
-    let client = clients.try_remove(key)?;
+    let Some(client) = clients.try_remove(key) else {
+        return None;
+    };
     let ending = client.ending.unwrap_or(Ending::Unkept);
     Some(end(service, client, ending))
 }

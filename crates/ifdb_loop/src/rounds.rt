@@ -1,5 +1,5 @@
 // The rounds of a loop.
-ghost use Rattle.std.specs.Prelude.{◌≡◌, ◌≢◌, Err, IfOk, OnOk};
+ghost use Rattle.std.specs.Prelude.{◌≡◌, ◌≢◌, [], Err, IfOk, IfSome, OnOk};
 ghost use Rattle.ifdb_io.specs.Causes.{Rose};
 ghost use Rattle.ifdb_loop.specs.Crowd.{AreServed, WereServed};
 
@@ -80,6 +80,40 @@ impl Loop {
     }
 }
 
+// Opens a session for a connection that has come, if there is room for it.
+fn take_in<G: Gate, S: Service>(
+    gate: &mut G,
+    service: &mut S,
+    looping: &mut Loop,
+    clients: &mut Slab<Client<G::Port, S::Seat>>,
+    port: G::Port,
+    timing: &Timing,
+)
+    requires ready { S.ready service.old }
+    requires kept { S.is_kept service.old }
+    requires served { AreServed S.Service G.Port.Port service.old clients.old }
+    requires back { WereServed S.Service G.Port.Port service.old (G.has_back gate.old) }
+    requires given { IfSome (G.Port.Port.given port) (λ bytes. bytes ≡ []) }
+    requires written { IfSome (G.Port.Port.written port) (λ bytes. bytes ≡ []) }
+    requires reads { G.Port.Port.unread port ≡ 0 }
+    requires writes { G.Port.Port.unwritten port ≡ 0 }
+    ensures ready { S.ready service.new }
+    ensures goes_on { S.goes_on service.old service.new }
+    ensures kept { S.is_kept service.new }
+    ensures served { AreServed S.Service G.Port.Port service.new clients.new }
+    ensures back { WereServed S.Service G.Port.Port service.new (G.has_back gate.new) }
+    ensures faults { G.faults gate.new ≡ G.faults gate.old }
+{
+    let count = clients.len();
+    if count >= timing.terms.connections || looping.reserve(count + 1).is_err() {
+        gate.refuse(port);
+        return;
+    }
+    if let Err(port) = admit(looping.alloc, service, clients, port, timing) {
+        gate.refuse(port);
+    }
+}
+
 // Opens sessions for the connections that have come, as far as there is room.
 fn take_new<G: Gate, S: Service>(
     gate: &mut G,
@@ -100,17 +134,35 @@ fn take_new<G: Gate, S: Service>(
     ensures faults { G.faults gate.new ≡ G.faults gate.old }
 {
     for _ in 0..MANY {
-        let key = clients.vacant_key();
-        let Some(port) = gate.next(key) else {
+        let Some(port) = gate.next(clients.vacant_key()) else {
             return;
         };
-        let count = clients.len();
-        if count >= timing.terms.connections || looping.reserve(count + 1).is_err() {
-            gate.refuse(port);
-        } else if let Err(port) = admit(looping.alloc, service, clients, port, timing) {
-            gate.refuse(port);
-        }
+        take_in(gate, service, looping, clients, port, timing);
     }
+}
+
+// Gives back the connection at a key, if it is over.
+fn give_back_at<G: Gate, S: Service>(
+    gate: &mut G,
+    service: &mut S,
+    clients: &mut Slab<Client<G::Port, S::Seat>>,
+    key: usize,
+)
+    requires ready { S.ready service.old }
+    requires kept { S.is_kept service.old }
+    requires served { AreServed S.Service G.Port.Port service.old clients.old }
+    requires back { WereServed S.Service G.Port.Port service.old (G.has_back gate.old) }
+    ensures ready { S.ready service.new }
+    ensures goes_on { S.goes_on service.old service.new }
+    ensures kept { S.is_kept service.new }
+    ensures served { AreServed S.Service G.Port.Port service.new clients.new }
+    ensures back { WereServed S.Service G.Port.Port service.new (G.has_back gate.new) }
+    ensures faults { G.faults gate.new ≡ G.faults gate.old }
+{
+    let Some(over) = hang_up(service, clients, key) else {
+        return;
+    };
+    gate.done(over);
 }
 
 // Gives back those of the ready connections that are over.
@@ -132,9 +184,7 @@ fn give_back<G: Gate, S: Service>(
     ensures faults { G.faults gate.new ≡ G.faults gate.old }
 {
     for key in ready {
-        if let Some(over) = hang_up(service, clients, *key) {
-            gate.done(over);
-        }
+        give_back_at(gate, service, clients, *key);
     }
 }
 
@@ -206,6 +256,29 @@ pub fn serve<G: Gate, S: Service>(
     Ok(())
 }
 
+// Gives back the connection at a key, if there is one, where no more can be kept.
+fn close_at<G: Gate, S: Service>(
+    gate: &mut G,
+    service: &mut S,
+    clients: &mut Slab<Client<G::Port, S::Seat>>,
+    key: usize,
+)
+    requires ready { S.ready service.old }
+    requires failed { S.has_failed service.old }
+    requires served { AreServed S.Service G.Port.Port service.old clients.old }
+    requires back { WereServed S.Service G.Port.Port service.old (G.has_back gate.old) }
+    ensures ready { S.ready service.new }
+    ensures goes_on { S.goes_on service.old service.new }
+    ensures served { AreServed S.Service G.Port.Port service.new clients.new }
+    ensures back { WereServed S.Service G.Port.Port service.new (G.has_back gate.new) }
+    ensures faults { G.faults gate.new ≡ G.faults gate.old }
+{
+    let Some(over) = cut_off(service, clients, key) else {
+        return;
+    };
+    gate.done(over);
+}
+
 /// Gives back all connections where no more can be kept. What they owe will never be written.
 pub fn close<G: Gate, S: Service>(
     gate: &mut G,
@@ -223,8 +296,6 @@ pub fn close<G: Gate, S: Service>(
     ensures faults { G.faults gate.new ≡ G.faults gate.old }
 {
     for key in 0..clients.capacity() {
-        if let Some(over) = cut_off(service, clients, key) {
-            gate.done(over);
-        }
+        close_at(gate, service, clients, key);
     }
 }

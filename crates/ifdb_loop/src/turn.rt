@@ -1,5 +1,6 @@
 // The turn of one connection.
 ghost use Rattle.std.specs.Prelude.{◌≡◌, ◌<◌, ◌≤◌, ℕ, List, None, Some, length, OnOk};
+ghost use Rattle.ifdb_io.specs.Lines.{IsLine};
 ghost use Rattle.ifdb_io.specs.Reader.{BreaksAt};
 ghost use Rattle.ifdb_io.specs.declared.lines.TheConstants.{LONGEST_LINE};
 ghost use Rattle.ifdb_loop.specs.Closings.{ending_of};
@@ -19,20 +20,36 @@ fn take_in<P: Port, T>(
     client: &mut Client<P, T>,
     timing: &Timing,
 ) -> Result<(), Ending>
-    requires going { client.old.ending ≡ None }
+    requires { client.old.ending ≡ None }
     ensures exchanges { StillExchanges P.Port client.old client.new (ending_of result) chunk.new }
     ensures seat { client.new.seat ≡ client.old.seat }
-    ensures limit { client.new.limit ≡ client.old.limit }
-    ensures wires { client.new.wires ≡ client.old.wires }
     ensures ending { client.new.ending ≡ None }
     ensures lost { client.new.is_lost ≡ client.old.is_lost }
     ensures writes { P.unwritten client.new.port ≡ P.unwritten client.old.port }
 {
     chunk.load(client.wires.held());
-    if chunk.front() != Front::Part {
+    let Front::Part = chunk.front() else {
         client.pace.is_full = true;
         return Ok(());
-    }
+    };
+    read(chunk, client, timing)
+}
+
+// Reads once, behind a part of a line, which is all that is held.
+fn read<P: Port, T>(
+    chunk: &mut Chunk,
+    client: &mut Client<P, T>,
+    timing: &Timing,
+) -> Result<(), Ending>
+    requires going { client.old.ending ≡ None }
+    requires held { chunk.old ≡ client.old.wires.held }
+    requires part { IsLine chunk.old }
+    ensures exchanges { StillExchanges P.Port client.old client.new (ending_of result) chunk.new }
+    ensures seat { client.new.seat ≡ client.old.seat }
+    ensures ending { client.new.ending ≡ None }
+    ensures lost { client.new.is_lost ≡ client.old.is_lost }
+    ensures writes { P.unwritten client.new.port ≡ P.unwritten client.old.port }
+{
     let most = (SIZE - chunk.bytes().len()).min(client.room.max(1));
     match chunk.fill(&mut client.port, most) {
         Ok(Some(0)) => Err(Ending::End),
@@ -178,7 +195,7 @@ fn talk<P: Port, S: Service>(
     if client.wires.keep(chunk.bytes()).is_err() {
         return Err(Ending::OutOfMemory);
     }
-    client.pace.has_line = chunk.front() != Front::Part;
+    client.pace.has_line = !matches!(chunk.front(), Front::Part);
     Ok(())
 }
 
