@@ -1,14 +1,12 @@
 // Loops in threads of their own, and the porter who hands them connections.
-ghost use Rattle.std.specs.Prelude.{◌≡◌};
-
 use ifdb_loop::{Client, Loop, Terms, serve};
 use ifdb_ready::{Porter, TcpGate, TcpPort};
 use slab::Slab;
 use std::alloc::Global;
 use std::net::Net;
+use std::rt::Clock;
 use std::sync::Wait;
 use std::thread::Threads;
-use std::time::Clock;
 use std::{io, thread};
 use test_loop::Echo;
 

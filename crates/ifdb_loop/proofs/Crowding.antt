@@ -11,6 +11,7 @@ use Rattle.ifdb_loop.specs.declared.ending.Ending.{Ending}
 use Rattle.ifdb_loop.specs.Dialogues.{Dialogue}
 use Rattle.ifdb_loop.specs.Standing.{IsServed, KeepsOthers}
 use Rattle.ifdb_loop.specs.Crowd.{AreServed, HasEndedAt}
+use Rattle.ifdb_loop.proofs.Endings.{none_some, some_is}
 
 -- the same key, or another
 data Same (j k : ℕ) : Type 0 where
@@ -23,12 +24,6 @@ same_by j k false e = Other (grind (arith, nat_tests))
 
 same : (j k : ℕ) → Same j k
 same j k = same_by j k (j == k) refl
-
-some_is : {A : Type 0} (x y : A) → Some x ≡ Some y → x ≡ y
-some_is x y e = grind (arith, e)
-
-none_some : {A : Type 0} (x : A) → None ≡ Some x → ⊥
-none_some x e = grind (arith, e)
 
 -- what is at a key has ended so
 pub ended_is : {P T : Type 0} → (clients : Slab (Client P T)) (k : ℕ) (c : Client P T) (ending : Ending) → get clients k ≡ Some c → HasEndedAt clients k ending

@@ -128,7 +128,10 @@ came_end long t u limit room held [] now owed d given written unread none at_end
     subst IsLine (sym (append-nil held)) line,
     at_end,
   );
-  within = subst (KeepsLimit (Some ends.End) limit room) (sym given) (within_limit (append_known t.given []) limit room (room_left t.given [] limit room room (omega arith) x.within));
+  within =
+      let none : room + 0 ≡ room = omega arith in
+      let left = room_left t.given [] limit room room none x.within in
+      subst (KeepsLimit (Some ends.End) limit room) (sym given) (within_limit (append_known t.given []) limit room left);
   may_be_open = x.may_be_open;
   read_cause = unread ∙ x.read_cause;
   write_cause = tt;
@@ -145,7 +148,10 @@ came_fault long t u limit room held [] now owed d given written fault none line 
     exchanged_came t u held [] owed d.lines d.texts given written x.carries,
     subst IsLine (sym (append-nil held)) line,
   );
-  within = subst (KeepsLimit (Some ends.LinkRead) limit room) (sym given) (within_limit (append_known t.given []) limit room (room_left t.given [] limit room room (omega arith) x.within));
+  within =
+      let none : room + 0 ≡ room = omega arith in
+      let left = room_left t.given [] limit room room none x.within in
+      subst (KeepsLimit (Some ends.LinkRead) limit room) (sym given) (within_limit (append_known t.given []) limit room left);
   may_be_open = x.may_be_open;
   read_cause = fault;
   write_cause = tt;
@@ -234,10 +240,10 @@ unkept long (Some ending) t limit room held owed d x = record {
   write_cause = x.write_cause;
 }
 
-none_some : {A : Type 0} (x : A) → None ≡ Some x → ⊥
+pub none_some : {A : Type 0} (x : A) → None ≡ Some x → ⊥
 none_some x e = grind (arith, e)
 
-some_is : {A : Type 0} (x y : A) → Some x ≡ Some y → x ≡ y
+pub some_is : {A : Type 0} (x y : A) → Some x ≡ Some y → x ≡ y
 some_is x y e = grind (arith, e)
 
 -- it had ended so

@@ -147,4 +147,4 @@ exchanged_new t held owed h o came went = rw (h, o) (record {
 
 pub room_new : (given : Option (List ℕ)) (limit : ℕ) → IfSome given (λ bytes. bytes ≡ []) → IfSome given (λ bytes. length bytes + limit ≡ limit)
 room_new None limit e = tt
-room_new (Some bytes) limit e = omega (arith, ap length e)
+room_new (Some bytes) limit e = let none : length bytes ≡ 0 = ap length e in omega (arith, none)

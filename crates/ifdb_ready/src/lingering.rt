@@ -29,8 +29,8 @@ impl Leaving {
     // Drops what has come, and says whether more is to be waited for.
     fn drain(&mut self) -> bool {
         let mut piece = [0; LAST_PIECE];
-        while self.pieces > 0 {
-            self.pieces -= 1;
+        for _ in 0..self.pieces {
+            self.pieces = self.pieces.saturating_sub(1);
             match stream::read(&mut self.stream, &mut piece) {
                 Ok(None) => return true,
                 Ok(Some(count)) if count > 0 => {}
@@ -59,7 +59,7 @@ impl Lingering {
 
     // Ends a connection. Without memory for that, or where it has ended already, it is closed at once.
     pub(crate) fn add(&mut self, registry: &Registry, mut stream: TcpStream, now: u64) {
-        if stream.shutdown(Shutdown::Write).is_err() || self.leaving.reserve(1).is_err() {
+        if stream.shutdown(Shutdown::Write).is_err() {
             return;
         }
         let token = Token(FIRST.saturating_add(self.leaving.vacant_key()));
@@ -67,6 +67,9 @@ impl Lingering {
             .reregister(&mut stream, token, Interest::READABLE)
             .is_err()
         {
+            return;
+        }
+        if self.leaving.reserve(1).is_err() {
             return;
         }
         self.leaving.insert_reserved(Leaving {

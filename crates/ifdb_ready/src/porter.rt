@@ -5,8 +5,9 @@ use mio::{Events, Interest, Poll, Token};
 use std::alloc::Global;
 use std::io::ErrorKind;
 use std::net::{Ipv4Addr, Net, SocketAddr};
+use std::rt::Clock;
 use std::sync::{Arc, Wait};
-use std::time::{Clock, Duration};
+use std::time::Duration;
 use std::{io, thread};
 
 // How many connections are taken at a time.

@@ -1,5 +1,5 @@
 // A gate over the system's readiness, into whose hand another thread puts the connections.
-ghost use Rattle.std.specs.Prelude.{◌≡◌, ◌⊎◌, ⊥};
+ghost use Rattle.std.specs.Prelude.{◌≡◌, ◌⊎◌};
 ghost use Rattle.ifdb_loop.specs.declared.over.Over.{Over};
 ghost use Rattle.ifdb_ready.specs.declared.tcp_port.TcpPort.{TcpPort};
 
@@ -11,8 +11,9 @@ use mio::{Events, Interest, Poll, Token};
 use std::alloc::Global;
 use std::io;
 use std::net::Net;
+use std::rt::Clock;
 use std::sync::{Arc, Wait};
-use std::time::{Clock, Duration, Instant};
+use std::time::{Duration, Instant};
 
 // The token of the waker; those of connections are their keys.
 const CALL: usize = usize::MAX;
@@ -36,9 +37,10 @@ pub struct TcpGate<'a, R> {
     begun: Instant,
     now: u64,
     failed: u64,
+    refused: u64,
 }
 
-impl<'a, R: Net + Wait + Clock> TcpGate<'a, R> {
+impl<'a, R: Net + Clock> TcpGate<'a, R> {
     /// A gate with an empty hand.
     ///
     /// # Errors
@@ -57,24 +59,8 @@ impl<'a, R: Net + Wait + Clock> TcpGate<'a, R> {
             begun: Instant::now(rt)?,
             now: 0,
             failed: 0,
+            refused: 0,
         })
-    }
-
-    /// The gate's hand.
-    ///
-    /// # Errors
-    /// Want of memory.
-    pub fn hand(&self) -> io::Result<Arc<Hand>> {
-        Ok(Arc::try_clone(&self.hand)?)
-    }
-
-    // How long it waits at most.
-    fn patience(&self, has_more: bool) -> Duration {
-        if has_more || self.has_new || !self.closing.is_empty() {
-            Duration::ZERO
-        } else {
-            Duration::from_secs(1)
-        }
     }
 
     // Looks at the clock, and closes connections whose end takes too long.
@@ -86,29 +72,59 @@ impl<'a, R: Net + Wait + Clock> TcpGate<'a, R> {
         }
         self.lingering.sweep(self.now);
     }
+}
 
-    // Adds the keys of the events that came. There is room for them.
-    fn add_ready(&mut self, ready: &mut Vec<usize>)
-        ensures { self.new.failed ≡ self.old.failed }
-    {
-        for key in &self.closing {
-            let _ = ready.push(*key);
+impl<'a, R> TcpGate<'a, R> {
+    /// The gate's hand.
+    ///
+    /// # Errors
+    /// Want of memory.
+    pub fn hand(&self) -> io::Result<Arc<Hand>> {
+        Ok(Arc::try_clone(&self.hand)?)
+    }
+
+    /// How many connections were closed at once since there was no room for them, up to 2^64 - 1.
+    pub fn refused(&self) -> u64 {
+        self.refused
+    }
+
+    // How long it waits at most.
+    fn patience(&self, has_more: bool) -> Duration {
+        if has_more || self.has_new || !self.closing.is_empty() {
+            Duration::ZERO
+        } else {
+            Duration::from_secs(1)
         }
-        self.closing.clear();
-        for event in self.events.iter() {
-            let key = event.token().0;
-            if key == CALL {
-                self.has_new = true;
-            } else if key >= FIRST {
-                self.lingering.drain(key - FIRST);
-            } else {
-                let _ = ready.push(key);
-                if event.is_read_closed() {
-                    let _ = self.closing.push(key);
-                }
+    }
+}
+
+// Adds the keys of the connections that are ready, for which there is room: of those whose client had closed, and of the events
+// that came. Says whether the hand has got some.
+fn add_ready(
+    events: &Events,
+    closing: &mut Vec<usize>,
+    lingering: &mut Lingering,
+    ready: &mut Vec<usize>,
+) -> bool {
+    for key in closing.iter() {
+        let _ = ready.push(*key);
+    }
+    closing.clear();
+    let mut has_new = false;
+    for event in events.iter() {
+        let key = event.token().0;
+        if key == CALL {
+            has_new = true;
+        } else if key >= FIRST {
+            lingering.drain(key - FIRST);
+        } else {
+            let _ = ready.push(key);
+            if event.is_read_closed() {
+                let _ = closing.push(key);
             }
         }
     }
+    has_new
 }
 
 impl<'a, R: Net + Wait + Clock> Gate for TcpGate<'a, R> {
@@ -129,7 +145,8 @@ impl<'a, R: Net + Wait + Clock> Gate for TcpGate<'a, R> {
             return Err(Failed);
         }
         self.tick();
-        self.add_ready(ready);
+        let has_new = add_ready(&self.events, &mut self.closing, &mut self.lingering, ready);
+        self.has_new = self.has_new || has_new;
         Ok(())
     }
 
@@ -153,7 +170,9 @@ impl<'a, R: Net + Wait + Clock> Gate for TcpGate<'a, R> {
         Some(TcpPort::new(stream))
     }
 
-    fn refuse(&mut self, _port: TcpPort) {}
+    fn refuse(&mut self, _port: TcpPort) {
+        self.refused = self.refused.saturating_add(1);
+    }
 
     fn done(&mut self, over: Over<TcpPort>)
         ensures faults { self.new.failed ≡ self.old.failed }
