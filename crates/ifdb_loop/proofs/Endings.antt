@@ -253,6 +253,17 @@ closed long None ending t limit room held owed d is x = absurd (none_some ending
 closed long (Some other) ending t limit room held owed d is x =
     subst (λ e. Exchanges long (Some e) t limit 0 [] owed d) (some_is other ending is) (unkept long (Some other) t limit room held owed d x)
 
+-- of one that has ended it doesn't matter which bytes are held
+pub ended_with : (long : List ℕ) (ending : Ending) (t : Traffic) (limit room : ℕ) (held other owed : List ℕ) (d : Dialogue)
+    → Exchanges long (Some ending) t limit room held owed d → Exchanges long (Some ending) t limit room other owed d
+ended_with long ending t limit room held other owed d x = record {
+  carries = x.carries;
+  within = x.within;
+  may_be_open = x.may_be_open;
+  read_cause = x.read_cause;
+  write_cause = x.write_cause;
+}
+
 -- a connection that has just come
 pub fresh : (long : List ℕ) (t : Traffic) (limit : ℕ) (held owed : List ℕ) → held ≡ [] → owed ≡ []
     → IfSome t.given (λ bytes. bytes ≡ []) → IfSome t.written (λ bytes. bytes ≡ []) → t.unread ≡ 0 → t.unwritten ≡ 0

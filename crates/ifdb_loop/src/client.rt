@@ -57,9 +57,9 @@ impl Pace {
         }
     }
 
-    /// Notes that something moved.
-    pub(crate) fn moves(&mut self, now: u64) {
-        if self.is_greeted {
+    /// Notes whether something moved.
+    pub(crate) fn note(&mut self, has_moved: bool, now: u64) {
+        if has_moved && self.is_greeted {
             self.since = now;
         }
     }
@@ -140,9 +140,7 @@ impl<P: Port, T> Client<P, T> {
         let before = self.wires.owed();
         self.wires.flush(&mut self.port)?;
         let owed = self.wires.owed();
-        if owed < before {
-            self.pace.moves(timing.now);
-        }
+        self.pace.note(owed < before, timing.now);
         if owed > 0 && self.pace.is_stalled(timing) {
             self.port.expire_write();
             return Err(Failed);

@@ -8,16 +8,16 @@ use crate::turn::turn;
 use crate::{Chunk, Client, Ending, Loop, Over, Pace, Port, Service, Timing, Wires};
 use ifdb_io::Failed;
 use slab::Slab;
-use std::alloc::Global;
 
-/// Opens a session for a connection that has given nothing yet, was told nothing, and may give so many bytes. Its key is the
-/// slab's next one.
+/// Opens a session for a connection that has given nothing yet and was told nothing. Its key is the slab's next one. All memory
+/// for its turns is taken here, but that for its bytes.
 ///
 /// # Errors
-/// Without memory for it the connection comes back, and no session was opened.
+/// Where there are as many connections as the terms allow, or there is no memory for it, the connection comes back, and no
+/// session was opened.
 pub fn admit<P: Port + Drop, S: Service>(
-    alloc: Global,
     service: &mut S,
+    looping: &mut Loop,
     clients: &mut Slab<Client<P, S::Seat>>,
     port: P,
     timing: &Timing,
@@ -34,6 +34,12 @@ pub fn admit<P: Port + Drop, S: Service>(
     ensures served { AreServed S.Service P.Port service.new clients.new }
     ensures port { IfErr result (λ back. back ≡ port) }
 {
+    if clients.len() >= timing.terms.connections {
+        return Err(port);
+    }
+    if looping.reserve_list(clients.len() + 1).is_err() {
+        return Err(port);
+    }
     if clients.reserve(1).is_err() {
         return Err(port);
     }
@@ -42,7 +48,7 @@ pub fn admit<P: Port + Drop, S: Service>(
     };
     clients.insert_reserved(Client {
         port,
-        wires: Wires::new(alloc),
+        wires: Wires::new(looping.alloc),
         seat,
         limit: timing.terms.bytes,
         room: timing.terms.bytes,
@@ -81,10 +87,11 @@ fn flush<P: Port, S: Service>(service: &S, client: &mut Client<P, S::Seat>, timi
     ensures served { IsServed S.Service P.Port service.now client.new }
     ensures seat { client.new.seat ≡ client.old.seat }
 {
-    if client.write(timing).is_err() {
-        client.ending = Some(client.ending.unwrap_or(Ending::LinkWrite));
-        client.is_lost = true;
+    if client.write(timing).is_ok() {
+        return;
     }
+    client.ending = Some(client.ending.unwrap_or(Ending::LinkWrite));
+    client.is_lost = true;
 }
 
 // Writes what the connection at a key owes, as far as there is room for it, and says whether it is to be listed for a turn in the

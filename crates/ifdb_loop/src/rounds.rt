@@ -60,8 +60,8 @@ impl Loop {
         std::mem::swap(&mut self.ready, &mut self.again);
     }
 
-    // Takes room for so many connections in the list.
-    fn reserve(&mut self, count: usize) -> Result<(), OutOfMemory> {
+    // Takes room for so many connections in the lists.
+    pub(crate) fn reserve_list(&mut self, count: usize) -> Result<(), OutOfMemory> {
         self.ready.reserve(count)?;
         self.again.reserve(count)
     }
@@ -80,7 +80,7 @@ impl Loop {
     }
 }
 
-// Opens a session for a connection that has come, if there is room for it.
+// Opens a session for a connection that has come, or closes it where there is no room.
 fn take_in<G: Gate, S: Service>(
     gate: &mut G,
     service: &mut S,
@@ -104,14 +104,10 @@ fn take_in<G: Gate, S: Service>(
     ensures back { WereServed S.Service G.Port.Port service.new (G.has_back gate.new) }
     ensures faults { G.faults gate.new ≡ G.faults gate.old }
 {
-    let count = clients.len();
-    if count >= timing.terms.connections || looping.reserve(count + 1).is_err() {
-        gate.refuse(port);
+    let Err(port) = admit(service, looping, clients, port, timing) else {
         return;
-    }
-    if let Err(port) = admit(looping.alloc, service, clients, port, timing) {
-        gate.refuse(port);
-    }
+    };
+    gate.refuse(port);
 }
 
 // Opens sessions for the connections that have come, as far as there is room.

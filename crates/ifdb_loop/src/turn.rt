@@ -57,7 +57,7 @@ fn read<P: Port, T>(
         Ok(Some(count)) => {
             client.room -= count;
             client.pace.is_full = count == most;
-            client.pace.moves(timing.now);
+            client.pace.note(count > 0, timing.now);
             Ok(())
         }
         Ok(None) if client.wires.owed() == 0 && client.pace.is_silent(timing) => {
@@ -105,17 +105,13 @@ fn ask<P: Port, S: Service>(
 }
 
 // Owes what refuses a line that is too long, and says how the connection ends.
-fn refuse_long<P: Port, S: Service>(
-    service: &mut S,
-    chunk: &Chunk,
-    client: &mut Client<P, S::Seat>,
-) -> Ending
-    requires ready { S.ready service.old }
-    requires long { IsTooLong chunk.now }
-    requires stands { Stands S.Service P.Port service.old client.old None chunk.now }
+fn refuse_long<P: Port, S: Service>(service: &mut S, client: &mut Client<P, S::Seat>) -> Ending
+    requires { S.ready service.old }
     ensures ready { S.ready service.new }
     ensures goes_on { S.goes_on service.old service.new }
-    ensures stands { Stands S.Service P.Port service.new client.new (Some result) chunk.now }
+    ensures stands { (held : List ℕ) → IsTooLong held
+        → Stands S.Service P.Port service.old client.old None held
+        → Stands S.Service P.Port service.new client.new (Some result) held }
     ensures number { S.number client.new.seat ≡ S.number client.old.seat }
     ensures others { KeepsOthers S.Service P.Port service.old service.new
         (S.number client.old.seat) }
@@ -123,7 +119,6 @@ fn refuse_long<P: Port, S: Service>(
     ensures ending { client.new.ending ≡ client.old.ending }
     ensures lost { client.new.is_lost ≡ client.old.is_lost }
 {
-    let _ = chunk;
     service.refuse_long();
     if client.wires.put(service.text()).is_err() {
         return Ending::OutOfMemory;
@@ -155,7 +150,7 @@ fn ask_lines<P: Port, S: Service>(
         }
         match chunk.front() {
             Front::Line(n) => ask(service, chunk, n, client)?,
-            Front::TooLong => return Err(refuse_long(service, chunk, client)),
+            Front::TooLong => return Err(refuse_long(service, client)),
             Front::Part => return Ok(()),
         }
         client.pace.is_greeted = true;
@@ -172,7 +167,7 @@ fn talk<P: Port, S: Service>(
 ) -> Result<(), Ending>
     requires going { client.old.ending ≡ None }
     requires ready { S.ready service.old }
-    requires stands { Stands S.Service P.Port service.old client.old None client.old.wires.held }
+    requires served { IsServed S.Service P.Port service.old client.old }
     ensures ready { S.ready service.new }
     ensures goes_on { S.goes_on service.old service.new }
     ensures ok { OnOk result (Stands S.Service P.Port service.new client.new None
@@ -189,9 +184,8 @@ fn talk<P: Port, S: Service>(
     take_in(chunk, client, timing)?;
     let before = chunk.bytes().len();
     ask_lines(service, chunk, client)?;
-    if chunk.bytes().len() < before {
-        client.pace.moves(timing.now);
-    }
+    let is_asked = chunk.bytes().len() < before;
+    client.pace.note(is_asked, timing.now);
     if client.wires.keep(chunk.bytes()).is_err() {
         return Err(Ending::OutOfMemory);
     }
@@ -224,7 +218,8 @@ pub fn turn<P: Port, S: Service>(
         client.pace.is_full = true;
         return;
     }
-    if let Err(ending) = talk(service, chunk, client, timing) {
-        client.ending = Some(ending);
-    }
+    let Err(ending) = talk(service, chunk, client, timing) else {
+        return;
+    };
+    client.ending = Some(ending);
 }
