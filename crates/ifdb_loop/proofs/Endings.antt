@@ -14,7 +14,7 @@ use Rattle.ifdb_loop.specs.Traffic.{Traffic}
 use Rattle.ifdb_loop.specs.Dialogues.{Dialogue, silence, with_answer}
 use Rattle.ifdb_loop.specs.Exchange.{IsExchanged, IsTooLong}
 use Rattle.ifdb_loop.specs.Closings.{Carries, Exchanges, HasReadCause, HasWriteCause, KeepsLimit, LacksLast, MayBeOpen}
-use Rattle.ifdb_loop.proofs.Talking.{exchanged_asked, exchanged_owes, exchanged_sent, exchanged_came, room_left, past_limit, within_limit, exchanged_new, room_new}
+use Rattle.ifdb_loop.proofs.Talking.{exchanged_asked, exchanged_owes, exchanged_sent, exchanged_came, room_left, past_limit, within_limit, exchanged_new, exchanged_same, room_new}
 
 -- ---- a line is asked
 
@@ -158,6 +158,18 @@ came_fault long t u limit room held [] now owed d given written fault none line 
 }
 came_fault long t u limit room held (a ∷ rest) now owed d given written fault none line x = absurd (omega (arith, none))
 
+-- reading has failed, without a read
+pub silent : (long : List ℕ) (t u : Traffic) (limit room : ℕ) (held owed : List ℕ) (d : Dialogue)
+    → u.given ≡ t.given → u.written ≡ t.written → 0 < u.unread → IsLine held
+    → Exchanges long None t limit room held owed d → Exchanges long (Some ends.LinkRead) u limit room held owed d
+silent long t u limit room held owed d given written fault line x = record {
+  carries = (held, exchanged_same t u held owed d.lines d.texts given written x.carries, line);
+  within = subst (KeepsLimit (Some ends.LinkRead) limit room) (sym given) (within_limit t.given limit room x.within);
+  may_be_open = x.may_be_open;
+  read_cause = fault;
+  write_cause = tt;
+}
+
 -- ---- bytes go
 
 carries_sent : (long : List ℕ) (ending : Option Ending) (t u : Traffic) (held old new : List ℕ) (d : Dialogue)
@@ -263,6 +275,9 @@ ended_with long ending t limit room held other owed d x = record {
   read_cause = x.read_cause;
   write_cause = x.write_cause;
 }
+
+pub false_true : false ≡ true → ⊥
+false_true e = grind (arith, e)
 
 -- a connection that has just come
 pub fresh : (long : List ℕ) (t : Traffic) (limit : ℕ) (held owed : List ℕ) → held ≡ [] → owed ≡ []

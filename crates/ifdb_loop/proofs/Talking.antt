@@ -47,6 +47,15 @@ line_cut held n b short = record {
   short = let size = length-take n held in omega (arith, size, b.within);
 }
 
+-- a connection that tells the same exchanged the same
+pub exchanged_same : (t u : Traffic) (held owed : List ℕ) (lines : List (List ℕ)) (texts : List ℕ) → u.given ≡ t.given → u.written ≡ t.written
+    → IsExchanged t held owed lines texts → IsExchanged u held owed lines texts
+exchanged_same t u held owed lines texts given written x = record {
+  came = subst (λ o. IfSome o (λ bytes. bytes ≡ bytes_of lines ++ held)) (sym given) x.came;
+  went = subst (λ o. IfSome o (λ bytes. bytes ++ owed ≡ texts)) (sym written) x.went;
+  are = x.are;
+}
+
 -- a line was asked, and its reply isn't owed yet
 pub exchanged_asked : (t : Traffic) (held owed : List ℕ) (lines : List (List ℕ)) (texts : List ℕ) (n : ℕ)
     → IsExchanged t held owed lines texts → BreaksAt held n → n ≤ 65535

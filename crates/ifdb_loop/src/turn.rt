@@ -5,7 +5,8 @@ ghost use Rattle.ifdb_io.specs.Reader.{BreaksAt};
 ghost use Rattle.ifdb_io.specs.declared.lines.TheConstants.{LONGEST_LINE};
 ghost use Rattle.ifdb_loop.specs.Closings.{ending_of};
 ghost use Rattle.ifdb_loop.specs.Exchange.{IsTooLong};
-ghost use Rattle.ifdb_loop.specs.Standing.{Stands, IsServed, KeepsOthers, StillExchanges};
+ghost use Rattle.ifdb_loop.specs.Dialogues.{Dialogue};
+ghost use Rattle.ifdb_loop.specs.Standing.{HasExchanged, Stands, IsServed, KeepsOthers, StillExchanges};
 
 use crate::chunk::SIZE;
 use crate::client::MUCH;
@@ -50,26 +51,43 @@ fn read<P: Port, T>(
     ensures lost { client.new.is_lost ≡ client.old.is_lost }
     ensures writes { P.unwritten client.new.port ≡ P.unwritten client.old.port }
 {
-    let most = (SIZE - chunk.bytes().len()).min(client.room.max(1));
-    match chunk.fill(&mut client.port, most) {
-        Ok(Some(0)) => Err(Ending::End),
-        Ok(Some(_)) if client.room == 0 => Err(Ending::TooMuch),
-        Ok(Some(count)) => {
-            client.room -= count;
-            client.pace.is_full = count == most;
-            client.pace.note(count > 0, timing.now);
-            Ok(())
-        }
-        Ok(None) if client.wires.owed() == 0 && client.pace.is_silent(timing) => {
-            client.port.expire_read();
-            Err(Ending::LinkRead)
-        }
-        Ok(None) => {
-            client.pace.is_full = false;
-            Ok(())
-        }
-        Err(_) => Err(Ending::LinkRead),
+    let room = client.room;
+    let most = (SIZE - chunk.bytes().len()).min(room.max(1));
+    let found = match chunk.fill(&mut client.port, most) {
+        Ok(found) => found,
+        Err(_) => return Err(Ending::LinkRead),
+    };
+    let Some(count) = found else {
+        return wait_on(client, timing);
+    };
+    if count == 0 {
+        return Err(Ending::End);
     }
+    if room == 0 {
+        return Err(Ending::TooMuch);
+    }
+    client.room = room - count;
+    client.pace.is_full = count == most;
+    client.pace.note(true, timing.now);
+    Ok(())
+}
+
+// Nothing has come. Ends a connection that was silent for too long and is owed nothing.
+fn wait_on<P: Port, T>(client: &mut Client<P, T>, timing: &Timing) -> Result<(), Ending>
+    ensures exchanges { (long : List ℕ) (held : List ℕ) (d : Dialogue) → IsLine held
+        → HasExchanged P.Port long client.old None held d
+        → HasExchanged P.Port long client.new (ending_of result) held d }
+    ensures seat { client.new.seat ≡ client.old.seat }
+    ensures ending { client.new.ending ≡ client.old.ending }
+    ensures lost { client.new.is_lost ≡ client.old.is_lost }
+    ensures writes { P.unwritten client.new.port ≡ P.unwritten client.old.port }
+{
+    client.pace.is_full = false;
+    if client.wires.owed() > 0 || !client.pace.is_silent(timing) {
+        return Ok(());
+    }
+    client.port.expire_read();
+    Err(Ending::LinkRead)
 }
 
 // Asks the first line of a chunk, which ends at this newline, and owes its reply.

@@ -126,6 +126,21 @@ fn a_fault_ends_its_connection_alone(rt: HostRuntime) -> Result<(), Fail> {
 }
 
 #[test]
+fn a_fault_may_come_at_any_call(rt: HostRuntime) -> Result<(), Fail> {
+    let text = b"a\nb\nc\nd\ne\nBYE\n";
+    for call in 0..5 {
+        let mut steps = [Step::Piece(2); 5];
+        steps[call] = Step::Fail;
+        let gate = alone(rt.alloc(), TERMS, text, &steps, &[])?;
+        let want = &text[..2 * call];
+        assert!(rt; told(&gate, 0) == Some((want, Ending::LinkRead)));
+        let gate = alone(rt.alloc(), TERMS, text, &[Step::Piece(2); 5], &steps)?;
+        assert!(rt; told(&gate, 0) == Some((want, Ending::LinkWrite)));
+    }
+    Ok(())
+}
+
+#[test]
 fn nothing_is_written_that_is_not_kept(rt: HostRuntime) -> Result<(), Fail> {
     let alloc = rt.alloc();
     let mut all = Vec::new(alloc);

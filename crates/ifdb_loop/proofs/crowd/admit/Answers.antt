@@ -2,7 +2,7 @@ use Rattle.std.proofs.Common.{ap}
 use Rattle.slab.specs.Slab.{get}
 use Rattle.ifdb_loop.specs.Dialogues.{silence}
 use Rattle.ifdb_loop.specs.Wiring.{Wiring}
-use Rattle.ifdb_loop.proofs.Endings.{fresh}
+use Rattle.ifdb_loop.proofs.Endings.{false_true, fresh}
 use Rattle.ifdb_loop.proofs.Crowding.{AreServed-settled, AreServed-same, AreServed-more}
 use Rattle.ifdb_loop.proofs.crowd.admit.Goals as goal
 
@@ -22,5 +22,5 @@ returns-clause-served g c =
         fresh _ _ _ _ _ (ap (λ (w : Wiring). w.held) c.new.ensures) (ap (λ (w : Wiring). w.owed) c.new.ensures)
             c.requires.given c.requires.written c.requires.reads c.requires.writes,
       ),
-      λ e. search e,
+      λ e. absurd (false_true e),
     )
