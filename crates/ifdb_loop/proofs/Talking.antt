@@ -104,6 +104,11 @@ exchanged_came t u held got owed lines texts given written x = record {
   are = x.are;
 }
 
+-- no bytes came
+pub came_none : (held got now : List ℕ) → now ≡ held ++ got → length got ≡ 0 → now ≡ held
+came_none held [] now is none = is ∙ append-nil held
+came_none held (a ∷ rest) now is none = absurd (omega (arith, none))
+
 -- how many bytes may still come behind these
 pub room_left : (given : Option (List ℕ)) (got : List ℕ) (limit room left : ℕ) → left + length got ≡ room
     → IfSome given (λ bytes. length bytes + room ≡ limit) → IfSome (append_known given got) (λ bytes. length bytes + left ≡ limit)
