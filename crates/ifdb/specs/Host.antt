@@ -27,7 +27,7 @@ use Rattle.ifdb.specs.Keep.{DoesKeep}
 use Rattle.ifdb.specs.Lending.{Lends, Refuses}
 use Rattle.ifdb.specs.More.{IsBase, IsCheck, IsClosures, IsKeep, IsProject, OnBase, exit_code}
 use Rattle.ifdb.specs.Project.{DoesProject}
-use Rattle.ifdb.specs.Usage.{TellsUsage}
+use Rattle.ifdb.specs.Usage.{WritesUsage}
 
 abbrev pub host_usage : List ℕ
 host_usage = codes "usage: ifdb host --file F --port P [--workers W] [--links K] [--limit N]\n"
@@ -36,6 +36,11 @@ host_usage = codes "usage: ifdb host --file F --port P [--workers W] [--links K]
 abbrev pub host_code : HostStatus → ℕ
 host_code (More end) = exit_code end
 host_code NotADatabase = 8
+
+-- the end is one of other words
+abbrev pub OnMore : HostStatus → (MoreStatus → Type 0) → Type 0
+OnMore (More end) P = P end
+OnMore NotADatabase P = ⊥
 
 -- the first word
 abbrev pub IsHost : List (String Global) → Type 0
@@ -68,7 +73,7 @@ module _ {O S T D G K : Type 0} (outputs : sink.Ghosts O) (shelves : shelf.Ghost
   pub record DoesHost (words : List (List ℕ)) (output output' : O) (before after : S) (shelf shelf' : T) (end : HostStatus) : Type 0 where
     pub well_formed : (h : Hosting) → host_in words ≡ Some h → HostsDatabase h output output' before after shelf shelf' end
         ⊎ ((end ≡ More (Base status.OutOfMemory)) × (output' ≡ output) × (after ≡ before) × (shelf' ≡ shelf))
-    pub malformed : host_in words ≡ None → ((m : MoreStatus) × (end ≡ More m) × TellsUsage outputs host_usage output output output output' m) × (after ≡ before) × (shelf' ≡ shelf)
+    pub malformed : host_in words ≡ None → OnMore end (WritesUsage outputs host_usage output output') × (after ≡ before) × (shelf' ≡ shelf)
 
 module _ {I O S T D G K : Type 0} (inputs : source.Ghosts I) (outputs : sink.Ghosts O) (shelves : shelf.Ghosts T D) (disks : disk.Ghosts D)
     (sites : site.Ghosts S G K) (doors : door.Ghosts G K) (sources : source.Ghosts K) (sinks : sink.Ghosts K) where

@@ -2,8 +2,7 @@
 ghost use Rattle.std.specs.Prelude.{◌≡◌, ◌≤◌, map, string_bytes};
 ghost use Rattle.ifdb_words.specs.First.{behind_first};
 ghost use Rattle.ifdb_words.specs.Ranges.{IsService};
-ghost use Rattle.ifdb.specs.Host.{DoesHost, DoesMore, HostsDatabase, IsHost, host_code, status_of};
-ghost use Rattle.ifdb.specs.declared.more.MoreStatus.{MoreStatus as MoreEnd};
+ghost use Rattle.ifdb.specs.Host.{DoesHost, DoesMore, HostsDatabase, IsHost, OnMore, host_code, status_of};
 
 use crate::more::{MoreStatus, top_more};
 use crate::top::{Status, write_usage};
@@ -54,10 +53,10 @@ where
     ensures host { IsHost words.now → DoesHost W.Sink H.Shelf H.Disk.Disk
         S.Site S.Door.Door S.Door.Link.Source S.Door.Link.Sink (behind_first words.now)
         output.old output.new site.old site.new shelf.old shelf.new result }
-    ensures more { (IsHost words.now → ⊥) → (end : MoreEnd) × (result ≡ HostStatus.More end)
-        × DoesMore R.Source W.Sink H.Shelf H.Disk.Disk
+    ensures more { (IsHost words.now → ⊥) → OnMore result
+        (DoesMore R.Source W.Sink H.Shelf H.Disk.Disk
         S.Site S.Door.Door S.Door.Link.Source S.Door.Link.Sink words.now
-        input.old input.new output.old output.new site.old site.new shelf.old shelf.new end }
+        input.old input.new output.old output.new site.old site.new shelf.old shelf.new) }
     ensures other_input { IsHost words.now → input.new ≡ input.old }
     ensures input_later { R.faults input.old ≤ R.faults input.new }
     ensures output_later { W.faults output.old ≤ W.faults output.new }

@@ -6,6 +6,7 @@ mod closures;
 mod ends;
 mod faults;
 mod generate;
+mod hosts;
 mod keeps;
 mod nulls;
 mod rows;
@@ -17,6 +18,7 @@ mod transactions;
 mod worlds;
 
 use super::*;
+use crate::more::top_more;
 use crate::top::top;
 use ifdb_disk::{MemoryDisk, MemoryShelf};
 use ifdb_io::{MemoryLink, MemorySink, MemorySite, MemorySource};

@@ -21,7 +21,7 @@ use Rattle.ifdb_host.specs.Causes.{IsCaused}
 use Rattle.ifdb_host.specs.Files.{IsFileOf, IsOldOrBare, IsTold, ShowsLog}
 use Rattle.ifdb_host.specs.Fronts.{HasFrontOf, IsKeptSince, LeavesFrom}
 use Rattle.ifdb_host.specs.Hosted.{end_of, DiskSpan, HostsSite, IsBare, IsFileOn, IsHosted, IsKeptOn, IsNewOn, IsOldOrBegun, IsUnopened}
-use Rattle.ifdb_host.specs.Serving.{HasFailed, IsKeptBehind, LeavesFronts, ServedHere, ServesOpened}
+use Rattle.ifdb_host.specs.Serving.{IsKeptBehind, LeavesFronts, ServedHere, ServesOpened}
 use Rattle.ifdb_host.specs.declared.end.HostEnd.{HostEnd}
 use Rattle.ifdb_host.specs.declared.end.HostEnd.TheVariants as ends
 use Rattle.ifdb_host.proofs.Titles.{title_size}
@@ -119,14 +119,14 @@ kept_before t u v h k kept = record {
 }
 
 module _ {S D K : Type 0} (sites : site.Ghosts S D K) (doors : door.Ghosts D K) (sources : source.Ghosts K) (sinks : sink.Ghosts K) where
-  hosted_before : (Wrote : List ℕ → Type 0) (s : Service) (before after : S) (t u v : Option Clock) (m n o : ℕ) → IsTitledFrom t u → n ≡ m
-      → IsHosted sites doors sources sinks Wrote s before after (record { before = u; after = v; faults = n; faults_after = o })
-      → IsHosted sites doors sources sinks Wrote s before after (record { before = t; after = v; faults = m; faults_after = o })
-  hosted_before Wrote s before after t u v m n o k calm h = record {
+  hosted_before : (HasFailed HasFailed' : Type 0) → (HasFailed → HasFailed') → (Wrote : List ℕ → Type 0) (s : Service) (before after : S) (t u v : Option Clock) (m n o : ℕ) → IsTitledFrom t u
+      → IsHosted sites doors sources sinks HasFailed Wrote s before after (record { before = u; after = v; faults = n; faults_after = o })
+      → IsHosted sites doors sources sinks HasFailed' Wrote s before after (record { before = t; after = v; faults = m; faults_after = o })
+  hosted_before HasFailed HasFailed' failed Wrote s before after t u v m n o k h = record {
     log = h.log;
     kept = kept_before t u v h.log k h.kept;
-    served = served_wider sites doors sources sinks h.kept.first (λ texts. IsTold u → IsKeptSince h.kept.texts v texts) (λ texts. IsTold t → IsKeptSince h.kept.texts v texts) (Rose n o) (Rose m o)
-        (λ texts kept told. kept (told_behind t u k told)) (subst (λ f. Rose f o) calm) Wrote s before after h.served;
+    served = served_wider sites doors sources sinks h.kept.first (λ texts. IsTold u → IsKeptSince h.kept.texts v texts) (λ texts. IsTold t → IsKeptSince h.kept.texts v texts) HasFailed HasFailed'
+        (λ texts kept told. kept (told_behind t u k told)) failed Wrote s before after h.served;
     same = h.same;
   }
 
@@ -136,19 +136,19 @@ module _ {S D K : Type 0} (sites : site.Ghosts S D K) (doors : door.Ghosts D K) 
       → (end ≡ ends.NotADatabase → ⊥)
       → HostsSite sites doors sources sinks outputs s before after output output' (record { before = t; after = v; faults = m; faults_after = o }) end
   hosts_before outputs s before after output output' t u v m n o end k calm h titled = record {
-    done = λ e. hosted_before _ s before after t u v m n o k calm (h.done e);
+    done = λ e. hosted_before ⊥ ⊥ (λ none. none) _ s before after t u v m n o k (h.done e);
     cut = λ e. (
       (h.cut e).0,
       elim (h.cut e).1 [
         | inl idle ↦ inl (idle.0, idle.1, kept_before t u v [] k idle.2)
-        | inr hosted ↦ inr (hosted_before _ s before after t u v m n o k calm hosted)
+        | inr hosted ↦ inr (hosted_before ⊥ ⊥ (λ none. none) _ s before after t u v m n o k hosted)
       ],
     );
     disk = λ e. (
       subst (λ f. Rose f o) calm (h.disk e).0,
       elim (h.disk e).1 [
         | inl none ↦ inl (none.0, unopened_before t u v k none.1)
-        | inr hosted ↦ inr (hosted_before _ s before after t u v m n o k calm hosted)
+        | inr hosted ↦ inr (hosted_before (Rose n o) (Rose m o) (subst (λ f. Rose f o) calm) _ s before after t u v m n o k hosted)
       ],
     );
     site = λ e. let x = h.site e in (x.0, x.1, x.2, kept_before t u v [] k x.3);
@@ -225,13 +225,13 @@ module _ (t u v : Option Clock) (size : ℕ) (first : List LogEntry) (m n : ℕ)
     abbrev whole : DiskSpan
     whole = record { before = t; after = v; faults = l; faults_after = m }
 
-    hosted_opened : (Wrote : List ℕ → Type 0) → ServedHere sites doors sources sinks outputs first s before after output output' size d Wrote
-        → IsHosted sites doors sources sinks Wrote s before after whole
-    hosted_opened Wrote h = record {
+    hosted_opened : (HasFailed HasFailed' : Type 0) → (HasFailed → HasFailed') → (Wrote : List ℕ → Type 0) → ServedHere sites doors sources sinks outputs first s before after output output' size d HasFailed Wrote
+        → IsHosted sites doors sources sinks HasFailed' Wrote s before after whole
+    hosted_opened HasFailed HasFailed' failed Wrote h = record {
       log = h.served.log;
       kept = kept_opened h.served.log h.fronts;
-      served = served_wider sites doors sources sinks first (IsKeptBehind first size d) (λ texts. IsTold t → IsKeptSince (texts_by t k.shows) v texts) (HasFailed d) (Rose l m)
-          (λ texts kept told. kept (texts_by t k.shows) (here told).0 (here told).1) (subst (λ f. Rose f m) calm) Wrote s before after h.served;
+      served = served_wider sites doors sources sinks first (IsKeptBehind first size d) (λ texts. IsTold t → IsKeptSince (texts_by t k.shows) v texts) HasFailed HasFailed'
+          (λ texts kept told. kept (texts_by t k.shows) (here told).0 (here told).1) failed Wrote s before after h.served;
       same = refl;
     }
 
@@ -239,15 +239,15 @@ module _ (t u v : Option Clock) (size : ℕ) (first : List LogEntry) (m n : ℕ)
     pub hosts_opened : (end : HostEnd) → ServesOpened sites doors sources sinks outputs first s before after output output' size d end
         → HostsSite sites doors sources sinks outputs s before after output output' whole end
     hosts_opened end h = record {
-      done = λ e. hosted_opened _ (h.done e);
+      done = λ e. hosted_opened ⊥ ⊥ (λ none. none) _ (h.done e);
       cut = λ e. (
         (h.cut e).0,
         elim (h.cut e).1 [
           | inl idle ↦ inl (idle.0, idle.1, kept_opened [] idle.2)
-          | inr served ↦ inr (hosted_opened _ served)
+          | inr served ↦ inr (hosted_opened ⊥ ⊥ (λ none. none) _ served)
         ],
       );
-      disk = λ e. (subst (λ f. Rose f m) calm (h.disk e).0, inr (hosted_opened _ (h.disk e).1));
+      disk = λ e. (subst (λ f. Rose f m) calm (h.disk e).0, inr (hosted_opened (Rose n m) (Rose l m) (subst (λ f. Rose f m) calm) _ (h.disk e).1));
       site = λ e. let x = h.site e in (x.0, x.1, x.2, kept_opened [] x.3);
       memory = λ e. let x = h.memory e in (inr (kept_opened [] x.0), x.1);
       damaged = λ at e. absurd (h.opened at e);

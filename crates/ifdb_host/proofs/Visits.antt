@@ -18,13 +18,13 @@ use Rattle.ifdb_session.specs.Records.{texts_of}
 use Rattle.ifdb_session.specs.Starts.{start_of}
 use Rattle.ifdb_service.specs.Doors.{IsRunIn, ServedAll}
 use Rattle.ifdb_service.proofs.Links.{run_later}
-use Rattle.ifdb_service.proofs.AtSite.{is_served}
+use Rattle.ifdb_service.proofs.AtSite.{is_served, served_wider}
 use Rattle.ifdb_service.specs.Site.{Exchanges}
 use Rattle.ifdb_service.specs.Summary.{listening_line, summary_text}
 use Rattle.ifdb_session.specs.declared.counts.Counts.{Counts}
 use Rattle.ifdb_words.specs.declared.service.Service.{Service}
 use Rattle.ifdb_host.specs.Hosted.{DiskSpan}
-use Rattle.ifdb_host.specs.Serving.{HasFailed, IsKeptBehind, ServedHere, VisitedAll}
+use Rattle.ifdb_host.specs.Serving.{IsKeptBehind, ServedHere, VisitedAll}
 use Rattle.ifdb_host.specs.declared.end.HostEnd.{HostEnd}
 use Rattle.ifdb_host.specs.declared.end.HostEnd.TheVariants as ends
 
@@ -76,10 +76,11 @@ not_other end (inr cut) e = let clash = sym cut ∙ e in cc
 module _ {S D K W X : Type 0} (sites : site.Ghosts S D K) (doors : door.Ghosts D K) (sources : source.Ghosts K) (sinks : sink.Ghosts K) (outputs : sink.Ghosts W)
     (first : List LogEntry) (s : Service) (before after : S) (output output' : W) (size : ℕ) (d : DiskSpan) where
   -- doors were visited over the database, and went back to the site
-  pub served_here : (Wrote : List ℕ → Type 0) (given back : List D) (old : Pass X Entry) (faults : ℕ) (counts : Counts) → Exchanges sites s before after given back → places old ≡ []
-      → VisitedAll sources sinks first doors s.limit size d old given back faults counts → Wrote (listening_line s.port ++ summary_text counts faults)
-      → ServedHere sites doors sources sinks outputs first s before after output output' size d Wrote
-  served_here Wrote given back old faults counts exchanges none v wrote = record {
-    served = is_served sites doors sources sinks first (IsKeptBehind first size d) (HasFailed d) Wrote s before after given back old v.now faults counts exchanges none v.all v.order v.own v.rises v.counted wrote;
+  pub served_here : (HasFailed HasFailed' : Type 0) → (HasFailed → HasFailed') → (Wrote : List ℕ → Type 0) (given back : List D) (old : Pass X Entry) (faults : ℕ) (counts : Counts) → Exchanges sites s before after given back → places old ≡ []
+      → VisitedAll sources sinks first doors s.limit size d HasFailed old given back faults counts → Wrote (listening_line s.port ++ summary_text counts faults)
+      → ServedHere sites doors sources sinks outputs first s before after output output' size d HasFailed' Wrote
+  served_here HasFailed HasFailed' failed Wrote given back old faults counts exchanges none v wrote = record {
+    served = served_wider sites doors sources sinks first (IsKeptBehind first size d) (IsKeptBehind first size d) HasFailed HasFailed' (λ texts kept. kept) failed Wrote s before after
+        (is_served sites doors sources sinks first (IsKeptBehind first size d) HasFailed Wrote s before after given back old v.now faults counts exchanges none v.all v.order v.own v.rises v.counted wrote);
     fronts = v.fronts;
   }

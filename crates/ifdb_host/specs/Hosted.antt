@@ -74,14 +74,18 @@ pub record DiskSpan : Type 0 where
   pub faults : ℕ
   pub faults_after : ℕ
 
+-- its count of faults rose
+abbrev pub DiskRose : DiskSpan → Type 0
+DiskRose d = Rose d.faults d.faults_after
+
 module _ {S D K : Type 0} (sites : site.Ghosts S D K) (doors : door.Ghosts D K) (sources : source.Ghosts K) (sinks : sink.Ghosts K) where
   -- A site was served by a database: by one history over the log that the disk held. What a written reply was answered from has been
-  -- on the disk since some moment, and a reply was held back only where the disk's count of faults rose.
-  pub record IsHosted (Wrote : List ℕ → Type 0) (s : Service) (before after : S) (d : DiskSpan) : Type 0 where
+  -- on the disk since some moment, and a reply was held back only where the disk has failed.
+  pub record IsHosted (HasFailed : Type 0) (Wrote : List ℕ → Type 0) (s : Service) (before after : S) (d : DiskSpan) : Type 0 where
     pub log : List Entry
     pub kept : IsKeptOn d.before d.after log
     pub served : IsServedOver sites doors sources sinks kept.first
-        (λ texts. IsTold d.before → IsKeptSince kept.texts d.after texts) (Rose d.faults d.faults_after) Wrote s before after
+        (λ texts. IsTold d.before → IsKeptSince kept.texts d.after texts) HasFailed Wrote s before after
     pub same : served.log ≡ log
 
   -- the doors went back as they came
@@ -104,13 +108,13 @@ module _ {S D K : Type 0} (sites : site.Ghosts S D K) (doors : door.Ghosts D K) 
     abbrev pub IsIdle : Type 0
     IsIdle = IsKeptOn d.before d.after []
 
-    -- the service ended so
+    -- The service ended so. Where it was done, or only its summary couldn't be written, no reply was held back.
     pub record HostsSite (end : HostEnd) : Type 0 where
-      pub done : end ≡ ends.Done → IsHosted WroteAll s before after d
+      pub done : end ≡ ends.Done → IsHosted ⊥ WroteAll s before after d
       pub cut : end ≡ ends.WriteFault → Rose (outputs.faults output) (outputs.faults output')
-          × ((IsUnvisited s before after × WroteFront (listening_line s.port) × IsIdle) ⊎ IsHosted WroteFront s before after d)
-      pub disk : end ≡ ends.DiskFault → Rose d.faults d.faults_after
-          × ((IsUntouched × IsUnopened d.before d.after) ⊎ IsHosted (λ _. WroteAll (listening_line s.port)) s before after d)
+          × ((IsUnvisited s before after × WroteFront (listening_line s.port) × IsIdle) ⊎ IsHosted ⊥ WroteFront s before after d)
+      pub disk : end ≡ ends.DiskFault → DiskRose d
+          × ((IsUntouched × IsUnopened d.before d.after) ⊎ IsHosted (DiskRose d) (λ _. WroteAll (listening_line s.port)) s before after d)
       pub site : end ≡ ends.SiteFault → Rose (sites.faults before) (sites.faults after) × GivesNone sites s before after × (output' ≡ output) × IsIdle
       pub memory : end ≡ ends.OutOfMemory → (IsUnopened d.before d.after ⊎ IsIdle)
           × (IsUntouched ⊎ ((GivesNone sites s before after ⊎ IsUnvisited s before after) × ((output' ≡ output) ⊎ WroteAll (listening_line s.port))))

@@ -27,7 +27,7 @@ use Rattle.ifdb_service.specs.Site.{GivesNone, IsServedOver}
 use Rattle.ifdb_service.specs.Summary.{listening_line}
 use Rattle.ifdb_host.specs.Files.{ShowsLog}
 use Rattle.ifdb_host.specs.Fronts.{HasFrontOf, IsKeptSince, LeavesFrom}
-use Rattle.ifdb_host.specs.Hosted.{DiskSpan, IsUnvisited, WroteAll, WroteFront}
+use Rattle.ifdb_host.specs.Hosted.{DiskRose, DiskSpan, IsUnvisited, WroteAll, WroteFront}
 use Rattle.ifdb_host.specs.declared.end.HostEnd.{HostEnd}
 use Rattle.ifdb_host.specs.declared.end.HostEnd.TheVariants as ends
 
@@ -57,14 +57,11 @@ LeavesFronts first size d h = (texts : List (List ℕ)) → size ≡ 16 → Show
 abbrev pub IsKeptBehind : List LogEntry → ℕ → DiskSpan → List (List ℕ) → Type 0
 IsKeptBehind first size d xs = (texts : List (List ℕ)) → size ≡ 16 → ShowsLog d.before texts first → IsKeptSince texts d.after xs
 
-abbrev pub HasFailed : DiskSpan → Type 0
-HasFailed d = Rose d.faults d.faults_after
-
 module _ {K : Type 0} (sources : source.Ghosts K) (sinks : sink.Ghosts K) (first : List LogEntry) where
   -- all doors were visited, in one history over the log, which was counted so
-  pub record VisitedAll {G X : Type 0} (doors : door.Ghosts G K) (limit size : ℕ) (d : DiskSpan) (old : Pass X Entry) (given back : List G) (faults : ℕ) (counts : Counts) : Type 0 where
+  pub record VisitedAll {G X : Type 0} (doors : door.Ghosts G K) (limit size : ℕ) (d : DiskSpan) (HasFailed : Type 0) (old : Pass X Entry) (given back : List G) (faults : ℕ) (counts : Counts) : Type 0 where
     pub now : Pass X Entry
-    pub all : ServedAll sources sinks first (IsKeptBehind first size d) (HasFailed d) doors limit old now given back faults
+    pub all : ServedAll sources sinks first (IsKeptBehind first size d) HasFailed doors limit old now given back faults
     pub order : AllRight (IsRight (start_of first)) (history now)
     pub own : OwnsAll now
     pub rises : RisesFrom 0 (places now)
@@ -74,8 +71,8 @@ module _ {K : Type 0} (sources : source.Ghosts K) (sinks : sink.Ghosts K) (first
 module _ {S D K W : Type 0} (sites : site.Ghosts S D K) (doors : door.Ghosts D K) (sources : source.Ghosts K) (sinks : sink.Ghosts K) (outputs : sink.Ghosts W)
     (first : List LogEntry) (s : Service) (before after : S) (output output' : W) (size : ℕ) (d : DiskSpan) where
   -- a site was served by one history over the log
-  pub record ServedHere (Wrote : List ℕ → Type 0) : Type 0 where
-    pub served : IsServedOver sites doors sources sinks first (IsKeptBehind first size d) (HasFailed d) Wrote s before after
+  pub record ServedHere (HasFailed : Type 0) (Wrote : List ℕ → Type 0) : Type 0 where
+    pub served : IsServedOver sites doors sources sinks first (IsKeptBehind first size d) HasFailed Wrote s before after
     pub fronts : LeavesFronts first size d served.log
 
   abbrev pub Wrote : List ℕ → Type 0
@@ -86,10 +83,10 @@ module _ {S D K W : Type 0} (sites : site.Ghosts S D K) (doors : door.Ghosts D K
 
   -- the service ended so
   pub record ServesOpened (end : HostEnd) : Type 0 where
-    pub done : end ≡ ends.Done → ServedHere Wrote
+    pub done : end ≡ ends.Done → ServedHere ⊥ Wrote
     pub cut : end ≡ ends.WriteFault → Rose (outputs.faults output) (outputs.faults output')
-        × ((IsUnvisited sites doors sources sinks s before after × WroteShort (listening_line s.port) × LeavesFronts first size d []) ⊎ ServedHere WroteShort)
-    pub disk : end ≡ ends.DiskFault → HasFailed d × ServedHere (λ _. Wrote (listening_line s.port))
+        × ((IsUnvisited sites doors sources sinks s before after × WroteShort (listening_line s.port) × LeavesFronts first size d []) ⊎ ServedHere ⊥ WroteShort)
+    pub disk : end ≡ ends.DiskFault → DiskRose d × ServedHere (DiskRose d) (λ _. Wrote (listening_line s.port))
     pub site : end ≡ ends.SiteFault → Rose (sites.faults before) (sites.faults after) × GivesNone sites s before after × (output' ≡ output) × LeavesFronts first size d []
     pub memory : end ≡ ends.OutOfMemory → LeavesFronts first size d []
         × (((after ≡ before) × (output' ≡ output))

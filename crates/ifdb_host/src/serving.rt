@@ -234,7 +234,7 @@ fn visit<
     ensures ended { (opening : _) → database.member.receipt ≡ opening_of opening
         → IfOk result.ended (λ e. VisitedAll G.Link.Source G.Link.Sink N.first G.Door limit
         opening.size (span_of D.tells D.faults opening.disk result.closed.disk)
-        database.pass doors.items e.doors.items e.faults result.closed.counts) }
+        (result.closed.has_failed ≡ true) database.pass doors.items e.doors.items e.faults result.closed.counts) }
     ensures unserved { IfErr result.ended (λ e. e.doors ≡ doors) }
     ensures idle { (opening : _) → database.member.receipt ≡ opening_of opening
         → IfErr result.ended (λ _. LeavesFronts N.first opening.size

@@ -1,8 +1,9 @@
 -- Visits after visits.
-use Rattle.std.proofs.Common.{◌≡◌, List, [], ◌∷◌, ◌++◌, Option, Some, None, Ok, sym, refl, ap, ◌∙◌, subst, arith, length-append, append_assoc}
+use Rattle.std.proofs.Common.{◌≡◌, ◌≤◌, ◌<◌, ◌+◌, List, [], ◌∷◌, ◌++◌, Option, Some, None, Ok, sym, refl, ap, ◌∙◌, subst, arith, length-append, append_assoc}
 use Rattle.std.proofs.lemmas.List.{map-append}
 use Rattle.ifdb_io.specs.Doors.{Stays, LosesFirst, GainsLast, Becomes, TakesNext}
 use Rattle.ifdb_io.specs.declared.doors.Door as door
+use Rattle.ifdb_io.specs.declared.outside.Failed.{Failed}
 use Rattle.ifdb_pool.specs.Visits.{Visit, Serves, GainsAll}
 use Rattle.ifdb_pool.specs.Work.{Served}
 use Rattle.ifdb_pool.specs.declared.host.Host as host
@@ -57,3 +58,20 @@ module _ {D H L : Type 0} (doors : door.Ghosts D L) (hosts : host.Ghosts H L) wh
         links = omega (arith, before.links, after.links);
         later = omega (arith, before.later, after.later);
       }
+
+  -- the door gave its next connection, the host served it, and it went back
+  pub served_one : (w w' : Worker D H) (d : D) (link went : L) → hosts.serves w.host link w'.host went → hosts.ready w'.host
+      → TakesNext {L = L} {E = Failed} (doors.coming w.door) (doors.coming d) (Ok (Some link)) → Stays (doors.coming d) (doors.coming w'.door)
+      → Stays (doors.back w.door) (doors.back d) → GainsLast (doors.back d) (doors.back w'.door) went
+      → doors.out w'.door ≡ doors.out w.door → doors.most w'.door < doors.most w.door → w'.links ≡ w.links + 1 → doors.faults w.door ≤ doors.faults w'.door
+      → Served doors hosts w w' (record { came = link; went = went } ∷ [])
+  served_one w w' d link went served ready took stays same gains out fewer links later = record {
+    host = serves_one hosts.serves _ _ (record { came = link; went = went }) served;
+    ready = ready;
+    coming = loses_next Failed _ (doors.coming d) _ link took stays;
+    back = gains_last _ (doors.back d) _ went same gains;
+    out = out;
+    most = omega (arith, fewer);
+    links = links;
+    later = later;
+  }

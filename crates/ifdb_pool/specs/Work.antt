@@ -1,5 +1,5 @@
--- What workers do: each serves what its door gives, up to the door's end or its failure.
-use Rattle.std.specs.Prelude.{◌≡◌, ℕ, ◌≤◌, ◌<◌, ◌+◌, ◌^◌, true, not, List, [], length, map, slice_index_or}
+-- What workers do: each serves what its door gives, up to the door's end or its failure, or until its host is over.
+use Rattle.std.specs.Prelude.{◌≡◌, ◌⊎◌, ℕ, ◌≤◌, ◌<◌, ◌+◌, ◌^◌, true, not, List, [], length, map, slice_index_or}
 use Rattle.ifdb_io.specs.Causes.{Rose}
 use Rattle.ifdb_io.specs.Doors.{LosesFirst, Becomes}
 use Rattle.ifdb_io.specs.declared.doors.Door as door
@@ -24,12 +24,13 @@ module _ {D H L : Type 0} (doors : door.Ghosts D L) (hosts : host.Ghosts H L) wh
     pub links : w'.links ≡ w.links + length visits
     pub later : doors.faults w.door ≤ doors.faults w'.door
 
-  -- the worker served all that its door gave, up to its end, where none of the links that it told is left, or up to its failure
+  -- The worker served all that its door gave, up to its end, where none of the links that it told is left; or up to its failure, or
+  -- until the host was over.
   pub record Worked (w w' : Worker D H) : Type 0 where
     pub visits : List (Visit L)
     pub served : Served w w' visits
     pub failed : w'.failed ≡ not (doors.ended w'.door)
-    pub cause : w'.failed ≡ true → Rose (doors.faults w.door) (doors.faults w'.door)
+    pub cause : w'.failed ≡ true → Rose (doors.faults w.door) (doors.faults w'.door) ⊎ hosts.over w'.host
     pub all : doors.ended w'.door ≡ true → Becomes (doors.coming w.door) (doors.coming w'.door) []
 
 -- each of the workers did this, and none was lost or moved

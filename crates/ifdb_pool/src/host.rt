@@ -1,4 +1,5 @@
 // What serves connections.
+ghost use Rattle.std.specs.Prelude.{◌≡◌, false};
 
 /// Something that serves connections, one after another.
 pub trait Host {
@@ -11,9 +12,13 @@ pub trait Host {
     /// What serving a connection does: the host and the connection before, and both after.
     ghost serves: { Self → Self.Link → Self → Self.Link → Type 0 };
 
-    /// Serves the connection to its end. The host may then serve another.
-    fn serve(&mut self, link: &mut Self::Link)
+    /// Why the host is over: it is to serve no further connection.
+    ghost over: { Self → Type 0 };
+
+    /// Serves the connection to its end. Whether the host is to serve another; it may in any case.
+    fn serve(&mut self, link: &mut Self::Link) -> bool
         requires ready { ready self.old }
         ensures ready { ready self.new }
-        ensures served { serves self.old link.old self.new link.new };
+        ensures served { serves self.old link.old self.new link.new }
+        ensures over { result ≡ false → over self.new };
 }

@@ -48,7 +48,10 @@ impl Link for Call {
     ghost writing = { λ _. refl };
 }
 
-/// Gives each call the next ticket.
+/// The ticket that no call gets.
+const LAST_TICKET: u64 = 40;
+
+/// Gives each call the next ticket, but for the last one.
 #[derive(Drop)]
 struct Clerk {
     next: u64,
@@ -63,9 +66,12 @@ impl Host for Clerk {
 
     ghost serves = { λ clerk call _ served. (served.number ≡ call.number) × (served.ticket ≡ clerk.next) };
 
-    fn serve(&mut self, call: &mut Call) {
+    ghost over = { λ clerk. clerk.next ≡ 40 };
+
+    fn serve(&mut self, call: &mut Call) -> bool {
         call.ticket = self.next;
         self.next = self.next.wrapping_add(1);
+        self.next != LAST_TICKET
     }
 }
 
@@ -126,5 +132,15 @@ fn two_workers_serve(rt: HostRuntime) -> Result<(), Fail> {
         "4:20 5:21 6:22 3 false"
     );
     run_all::<HostRuntime, MemoryDoor<Call>, Clerk>(&rt, &mut []);
+    Ok(())
+}
+
+// A host that is over after its second call: the worker asks its door no further.
+#[test]
+fn a_host_that_is_over_ends_its_worker(rt: HostRuntime) -> Result<(), Fail> {
+    let mut last = worker(rt.alloc(), &[1, 2, 3], &[], LAST_TICKET - 2)?;
+    run_again(&rt, &mut last);
+    assert_eq!(rt; told(rt.alloc(), &last)?.as_str(), "1:38 2:39 2 true");
+    assert_eq!(rt; last.door.left(), 1);
     Ok(())
 }

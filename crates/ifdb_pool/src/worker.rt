@@ -1,5 +1,5 @@
 // One worker, and what it does in its thread.
-ghost use Rattle.std.specs.Prelude.{◌≡◌, ◌<◌, ◌+◌};
+ghost use Rattle.std.specs.Prelude.{◌≡◌, ◌<◌, ◌+◌, false};
 ghost use Rattle.ifdb_io.specs.Doors.{Stays, GainsLast};
 ghost use Rattle.ifdb_pool.specs.Work.{IsReady, Worked};
 
@@ -15,28 +15,31 @@ pub struct Worker<D, H> {
     pub host: H,
     /// How many connections were served, in all runs.
     pub links: u64,
-    /// Whether the last run ended because the door failed, and not at the door's end.
+    /// Whether the last run ended before the door's end: because the door failed, or the host was over.
     pub failed: bool,
 }
 
-/// Serves each connection that the door gives and hands it back, up to the end of the door or its
-/// first failure, after which it doesn't ask the door again. Takes no memory of its own.
+/// Serves each connection that the door gives and hands it back, up to the end of the door or its first failure, or until the host is
+/// over; then it doesn't ask the door again. Takes no memory of its own.
 pub fn work<D: Door, H: Host<Link = D::Link>>(worker: &mut Worker<D, H>)
     requires { IsReady D.Door H.Host worker.old }
     ensures { Worked D.Door H.Host worker.old worker.new }
 {
-    worker.failed = false;
+    worker.failed = true;
     loop {
         match worker.door.next() {
             Ok(Some(link)) => {
-                serve_and_hand_back(&mut worker.door, &mut worker.host, link);
+                let goes_on = serve_and_hand_back(&mut worker.door, &mut worker.host, link);
                 worker.links += 1;
+                if !goes_on {
+                    return;
+                }
             }
-            Ok(None) => return,
-            Err(Failed) => {
-                worker.failed = true;
+            Ok(None) => {
+                worker.failed = false;
                 return;
             }
+            Err(Failed) => return,
         }
     }
 }
@@ -46,7 +49,7 @@ fn serve_and_hand_back<D: Door, H: Host<Link = D::Link>>(
     door: &mut D,
     host: &mut H,
     mut link: D::Link,
-)
+) -> bool
     requires ready { H.ready host.old }
     requires out { 0 < D.out door.old }
     ensures ready { H.ready host.new }
@@ -57,7 +60,9 @@ fn serve_and_hand_back<D: Door, H: Host<Link = D::Link>>(
     ensures out { D.out door.new + 1 ≡ D.out door.old }
     ensures end { D.ended door.new ≡ D.ended door.old }
     ensures faults { D.faults door.new ≡ D.faults door.old }
+    ensures over { result ≡ false → H.over host.new }
 {
-    host.serve(&mut link);
+    let goes_on = host.serve(&mut link);
     door.done(link);
+    goes_on
 }

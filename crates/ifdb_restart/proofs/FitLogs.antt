@@ -1,7 +1,7 @@
 -- Texts restore logs from which runs pass: whatever a restart makes again fits.
 use Rattle.std.proofs.Common.{◌≡◌, ℕ, Bool, true, false, List, [], ◌∷◌, ◌++◌, ◌∙◌, length, map, refl, sym, ap, subst, arith, cond, Option, Some, None}
 use Rattle.std.specs.Prelude.{◌&&◌, ◌||◌, option_to_list}
-use Rattle.std.specs.List.{list_all, list_any}
+use Rattle.std.specs.List.{list_all}
 use Rattle.std.proofs.lemmas.Bool.{false≢true}
 use Rattle.std.proofs.lemmas.Bool.Decides.{nat_tests}
 use Rattle.std.proofs.lemmas.List.{length-map}
@@ -22,14 +22,13 @@ use Rattle.ifdb_redo.specs.Reading.{record_of}
 use Rattle.ifdb_bound.specs.declared.request.Change.{Change}
 use Rattle.ifdb_catalog.specs.Public.{Public, tags_of}
 use Rattle.ifdb_model.specs.Log.{Entry, changes, commits, all_tags, content_of, public_of}
-use Rattle.ifdb_model.specs.Session.{Session}
 use Rattle.ifdb_model.specs.Step.{ask}
 use Rattle.ifdb_model.specs.Run.{State, with_outcome}
 use Rattle.ifdb_laws.specs.RowLaws.{row_fits}
 use Rattle.ifdb_laws.proofs.Logs.{all_commits, is_made_slot}
 use Rattle.ifdb_laws.proofs.Sided.{is_whole, is_whole_write}
 use Rattle.ifdb_laws.proofs.two_worlds.Outcomes.{tag_count}
-use Rattle.ifdb_laws.proofs.two_worlds.Sound.{SoundSession, are_sound, commits_join, is_sound_write, opening_sound}
+use Rattle.ifdb_laws.proofs.two_worlds.Sound.{SoundSession, are_sound, commits_join, opening_sound}
 use Rattle.ifdb_laws.proofs.rows.Fits.{write_fits}
 use Rattle.ifdb_laws.proofs.rows.Fitting.{are_fit}
 use Rattle.ifdb_restore.specs.Passing.{commit_fits, is_fit}

@@ -1,12 +1,12 @@
 -- In each state of a run that begins where all fits, all fits; so each commit of the run passes the test for a recorded one, and the
 -- records of the run restore what it adds to the log.
-use Rattle.std.proofs.Common.{◌≡◌, ℕ, ◌-◌, ◌≤◌, Bool, true, false, List, [], ◌∷◌, ◌++◌, ◌∙◌, length, take, drop, refl, sym, ap, subst, arith, cond, Option, Some, None, Ok, Err, Result}
+use Rattle.std.proofs.Common.{◌≡◌, ℕ, ◌-◌, ◌≤◌, Bool, true, false, List, [], ◌∷◌, ◌++◌, ◌∙◌, length, take, drop, refl, sym, ap, subst, arith, cond, Option, Some, None, Result}
 use Rattle.std.specs.Prelude.{◌&&◌, All, option_to_list}
 use Rattle.std.specs.List.{list_all}
 use Rattle.std.proofs.lemmas.Bool.{leb-true}
 use Rattle.std.proofs.lemmas.Bool.Decides.{nat_tests}
 use Rattle.std.proofs.lemmas.List.{append-nil, length-map, take-append-drop, take-append-le, take_all}
-use Rattle.std.proofs.lemmas.List.Elements.{All-nil, All-push, All-set, All-weaker}
+use Rattle.std.proofs.lemmas.List.Elements.{All-push, All-set}
 use Rattle.ifdb_value.proofs.Lists.{all_wider}
 use Rattle.ifdb_label.specs.Tags.{are_made}
 use Rattle.ifdb_row.specs.declared.row.Row.{Row}
@@ -23,7 +23,7 @@ use Rattle.ifdb_catalog.specs.Public.{Public, tags_of, changed}
 use Rattle.ifdb_catalog.proofs.BoundRequestsFit.{bound_is_fitting}
 use Rattle.ifdb_catalog.proofs.Made as made_by_binding
 use Rattle.ifdb_model.specs.Log.{Entry, changes, commits, public_from, public_of, all_tags, commits_of, content_of, written_of}
-use Rattle.ifdb_model.specs.Session.{Txn, Session, new_session, no_session, closed, seen_in, seen}
+use Rattle.ifdb_model.specs.Session.{Txn, Session, new_session, closed, seen_in, seen}
 use Rattle.ifdb_model.specs.Writes.{is_delete, writes_of}
 use Rattle.ifdb_model.specs.Step.{Reader, Outcome, ask}
 use Rattle.ifdb_model.specs.Run.{State, session_of, Step, opens, asks, refused, long, stray, leaves, with_outcome, with_session, next, run}

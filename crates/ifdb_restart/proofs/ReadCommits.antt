@@ -1,7 +1,6 @@
 -- The writes that bytes are read as stand by their slots, and each row stands in its write's slot.
 use Rattle.std.proofs.Common.{◌≡◌, ℕ, zero, suc, Bool, true, false, List, [], ◌∷◌, ◌∙◌, length, take, drop, refl, sym, ap, arith, cond, Option, Some, None}
 use Rattle.std.specs.Prelude.{◌&&◌, ◌-◌, ◌==◌}
-use Rattle.std.specs.List.{list_all}
 use Rattle.std.specs.Int.{w32, to_be_bytes}
 use Rattle.std.specs.Str.{bytes_eq}
 use Rattle.std.proofs.lemmas.Bool.Decides.{nat_tests}

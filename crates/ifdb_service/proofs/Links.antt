@@ -1,5 +1,5 @@
 -- Connections that were served, in longer and longer histories.
-use Rattle.std.proofs.Common.{◌≡◌, ℕ, ◌<◌, Bool, true, false, cond, List, [], ◌∷◌, ◌++◌, ◌∙◌, length, refl, sym, ap, subst, arith, All}
+use Rattle.std.proofs.Common.{◌≡◌, ℕ, ◌<◌, Bool, true, false, cond, List, [], ◌∷◌, ◌++◌, ◌∙◌, length, refl, sym, ap, subst, arith, All, inl, inr}
 use Rattle.std.proofs.lemmas.List.{append-nil, append_assoc, append_cancel_left, get_or_append_left, length-append, map-append}
 use Rattle.std.proofs.lemmas.List.Elements.{All-append, All-cons}
 use mathlib.Core.List.{IsPrefix}
@@ -188,5 +188,8 @@ module _ {K : Type 0} (sources : source.Ghosts K) (sinks : sink.Ghosts K) (first
     back = i.back;
     linked = all_later limit r.visits r.connections i.linked;
     all = i.all;
-    cause = i.cause;
+    cause = λ off. elim (i.cause off) [
+      | inl rose ↦ inl rose
+      | inr lost ↦ inr (failed lost)
+    ];
   }

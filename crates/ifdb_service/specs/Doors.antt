@@ -1,6 +1,6 @@
 -- decides: the service
 -- What the service of doors did, as runs of doors in one history.
-use Rattle.std.specs.Prelude.{◌≡◌, ◌≢◌, ℕ, ◌+◌, Bool, true, false, List, [], ◌∷◌, ◌++◌, map, All, if◌then◌else◌}
+use Rattle.std.specs.Prelude.{◌≡◌, ◌≢◌, ◌⊎◌, ℕ, ◌+◌, Bool, true, false, List, [], ◌∷◌, ◌++◌, map, All, if◌then◌else◌}
 use Rattle.ifdb_io.specs.Causes.{Rose}
 use Rattle.ifdb_io.specs.Doors.{LosesFirst, Becomes}
 use Rattle.ifdb_io.specs.declared.outside.Source as source
@@ -57,7 +57,7 @@ turns_at k (r ∷ rs) = times k (turns_of r.connections) + turns_at k rs
 abbrev pub one_unless : Bool → ℕ
 one_unless ended = if ended then 0 else 1
 
--- how many connections ended otherwise than by BYE or at the end of their input, and how many doors failed
+-- how many connections ended otherwise than by BYE or at the end of their input, and how many doors weren't served to their end
 abbrev pub faults_of : {D K : Type 0} → door.Ghosts D K → List (Run D K) → ℕ
 faults_of doors [] = 0
 faults_of doors (r ∷ rs) = (faults_in r.connections + one_unless (doors.ended r.after)) + faults_of doors rs
@@ -83,13 +83,13 @@ module _ {K : Type 0} (sources : source.Ghosts K) (sinks : sink.Ghosts K) (first
   AllLinked limit h (v ∷ vs) (c ∷ cs) = IsLinked limit h v c × AllLinked limit h vs cs
 
   -- The door gave these connections and has them back, and each was served in this history. The door is at its end, where
-  -- all came that were to come, or its count of faults rose.
+  -- all came that were to come; or its count of faults rose, or the disk has failed.
   pub record IsRunIn {D : Type 0} (doors : door.Ghosts D K) (limit : ℕ) (h : List Entry) (r : Run D K) : Type 0 where
     pub coming : LosesFirst (doors.coming r.before) (doors.coming r.after) (map (λ v. v.came) r.visits)
     pub back : GainsAll (doors.back r.before) (doors.back r.after) (map (λ v. v.went) r.visits)
     pub linked : AllLinked limit h r.visits r.connections
     pub all : doors.ended r.after ≡ true → Becomes (doors.coming r.before) (doors.coming r.after) []
-    pub cause : doors.ended r.after ≡ false → Rose (doors.faults r.before) (doors.faults r.after)
+    pub cause : doors.ended r.after ≡ false → Rose (doors.faults r.before) (doors.faults r.after) ⊎ HasFailed
 
   -- All doors were served, in the history that the pass has seen. The turns that the pass has got are those of the
   -- connections.

@@ -23,9 +23,13 @@ use Rattle.ifdb_session.specs.Hosts.{IsHostReady, Serves}
 use Rattle.ifdb_session.specs.Starts.{start_of}
 use Rattle.ifdb_service.specs.Doors.{Connection, Run, IsRunIn, faults_in, faults_of, turns_of, turns_at}
 
--- what a host of connections means
+-- what a host of connections means, and that it is over once the disk has failed
 abbrev pub hosts : {K R Q S : Type 0} → source.Ghosts K → sink.Ghosts K → recorder.Ghosts Q → settler.Ghosts S Q → host.Ghosts (SessionHost R K Q S) K
-hosts sources sinks recorders settlers = record { ready = IsHostReady recorders settlers; serves = Serves sources sinks recorders settlers }
+hosts sources sinks recorders settlers = record {
+  ready = IsHostReady recorders settlers;
+  serves = Serves sources sinks recorders settlers;
+  over = λ host. settlers.has_failed host.keeper;
+}
 
 -- 1 for what is so
 abbrev pub one_if : Bool → ℕ

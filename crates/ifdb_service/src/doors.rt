@@ -23,7 +23,8 @@ use std::thread::Threads;
 pub struct Ended<D> {
     /// The doors, in the order in which they were given.
     pub doors: Vec<D>,
-    /// How many connections ended otherwise than by BYE or at the end of their input, and how many doors failed, up to 2^64 - 1.
+    /// How many connections ended otherwise than by BYE or at the end of their input, and how many doors weren't served to their
+    /// end, up to 2^64 - 1.
     pub faults: u64,
 }
 

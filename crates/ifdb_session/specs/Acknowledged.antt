@@ -1,6 +1,6 @@
 -- decides: the service
 -- What replies are answered from, and that it is kept before they are written.
-use Rattle.std.specs.Prelude.{◌≡◌, ℕ, ◌==◌, Bool, true, false, List, [], ◌∷◌, ◌++◌, Option, Some, None, All, if◌then◌else◌}
+use Rattle.std.specs.Prelude.{◌≡◌, ℕ, ◌==◌, Bool, false, List, [], ◌∷◌, ◌++◌, Option, Some, None, All, if◌then◌else◌}
 use Rattle.ifdb_history.specs.declared.entry.Entry.{Entry}
 use Rattle.ifdb_history.specs.declared.entry.Kind.{Kind}
 use Rattle.ifdb_history.specs.declared.entry.Kind.TheVariants as kind
@@ -39,16 +39,10 @@ IsSourced first count_of n h k (Some count) = (sources_of first n k ≡ sources_
 abbrev pub LacksLast : (List (List ℕ) → Type 0) → List (List (List ℕ)) → Type 0
 LacksLast IsKept sources = (front : List (List (List ℕ))) × (last : List (List ℕ)) × (sources ≡ front ++ last ∷ []) × All IsKept front
 
--- what the written replies of a link that ended so were answered from is kept
+-- what the written replies of a link that ended so were answered from is kept: all of them, unless the last one was held back
 abbrev pub Acknowledges : Ending → (List (List ℕ) → Type 0) → List (List (List ℕ)) → Type 0
 Acknowledges ends.Unkept IsKept sources = LacksLast IsKept sources
-Acknowledges ends.Bye IsKept sources = All IsKept sources
-Acknowledges ends.End IsKept sources = All IsKept sources
-Acknowledges ends.LinkRead IsKept sources = All IsKept sources
-Acknowledges ends.LinkWrite IsKept sources = All IsKept sources
-Acknowledges ends.TooMuch IsKept sources = All IsKept sources
-Acknowledges ends.TooLong IsKept sources = All IsKept sources
-Acknowledges ends.OutOfMemory IsKept sources = All IsKept sources
+Acknowledges _ IsKept sources = All IsKept sources
 
 module _ {Q S : Type 0} (recorders : recorder.Ghosts Q) (settlers : settler.Ghosts S Q) where
   -- the records of these texts are known to be kept

@@ -1,6 +1,6 @@
 // What serves the connections of one worker.
 
-use crate::{Records, Settles, SharedRoom, serve_link};
+use crate::{Ending, Records, Settles, SharedRoom, serve_link};
 use ifdb_io::Link;
 use ifdb_pool::Host;
 use ifdb_turn::{Pass, Turnstile};
@@ -9,7 +9,7 @@ use std::marker::PhantomData;
 use std::sync::Wait;
 
 /// Serves connections with a pass of its own, one session each, and counts those that ended otherwise than by BYE or at
-/// the end of their input, up to 2^64 - 1.
+/// the end of their input, up to 2^64 - 1. It is over once the disk has failed: nobody would be answered any more.
 #[derive(Drop)]
 pub struct SessionHost<'a, R, K, Q: Records, S> {
     /// What waits for turns.
@@ -39,7 +39,9 @@ impl<'a, R: Wait, K: Link, Q: Records, S: Settles<Q>> Host for SessionHost<'a, R
 
     ghost serves = { Serves K.Source K.Sink Q.Records S.Settles };
 
-    fn serve(&mut self, link: &mut K) {
+    ghost over = { λ host. S.Settles.has_failed host.keeper };
+
+    fn serve(&mut self, link: &mut K) -> bool {
         let faults = self.faults;
         let ending = serve_link(
             self.rt,
@@ -50,8 +52,10 @@ impl<'a, R: Wait, K: Link, Q: Records, S: Settles<Q>> Host for SessionHost<'a, R
             link,
             self.limit,
         );
-        if !ending.is_orderly() {
-            self.faults = faults.saturating_add(1);
+        if ending.is_orderly() {
+            return true;
         }
+        self.faults = faults.saturating_add(1);
+        ending != Ending::Unkept
     }
 }

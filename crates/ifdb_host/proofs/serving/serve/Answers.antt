@@ -1,4 +1,4 @@
-use Rattle.std.proofs.Common.{rules, ◌≡◌, ◌≤◌, ◌∙◌, ◌++◌, inl, inr, refl, sym, ap, subst, arith, []}
+use Rattle.std.proofs.Common.{rules, ◌≡◌, ◌≤◌, ◌∙◌, ◌++◌, inl, inr, refl, sym, ap, subst, arith, [], true, true≢false}
 use Rattle.std.proofs.lemmas.Result.{IfErr-at_err, IfOk-at_ok, on_err_weaker, on_ok_weaker}
 use Rattle.std.specs.Io.KnownBytes.{Appends}
 use Rattle.ifdb_io.specs.Causes.{Rose, WritesShort}
@@ -92,7 +92,7 @@ returns-then-closed g c = record {
         disk = λ _. (
           c.visit-ended.ensures.failed opening is c.if-closed.true,
           served_here g.S.Site g.S.Door.Door g.S.Door.Link.Source g.S.Door.Link.Sink g.W.Sink g.N.Begins.first c.args.service c.args.site.now c.close-in-Ok-ended.new.self c.args.output.now c.write_numbered.new.output opening.size d
-              _ c.in-Ok.doors.items c.in-Ok-ended.field-0.doors.items c.args.database.pass c.in-Ok-ended.field-0.faults c.visit-ended.result.closed.counts
+              (c.visit-ended.result.closed.has_failed ≡ true) _ (c.visit-ended.ensures.failed opening is) _ c.in-Ok.doors.items c.in-Ok-ended.field-0.doors.items c.args.database.pass c.in-Ok-ended.field-0.faults c.visit-ended.result.closed.counts
               all c.requires.pass.none (IfOk-at_ok _ c.in-Ok-ended.is (c.visit-ended.ensures.ended opening is)) line,
         );
         site = λ e. cc;
@@ -114,15 +114,16 @@ returns-else-closed g c = record {
       let line : Appends (g.W.Sink.written c.args.output.now) (g.W.Sink.written c.write_numbered.new.output) (listening_line c.args.service.port) = search rules in
       let visited = IfOk-at_ok _ c.in-Ok-ended.is (c.visit-ended.ensures.ended opening is) in
       let text = summary_text c.visit-ended.result.closed.counts c.in-Ok-ended.field-0.faults in
+      let held : c.visit-ended.result.closed.has_failed ≡ true → ⊥ = λ failed. true≢false (sym failed ∙ c.if-closed.false) in
       let later = c.doors.ensures.later in
       let kept = e.faults in
       let first = c.write_numbered.ensures.cause.later in
       let second = c.write_summary.ensures.cause.later in
       let ends = summed_so c.write_summary.result c.summed.result _ _ c.summed.ensures.ok c.summed.ensures.err
-      (on_ok_weaker c.write_summary.result (λ wrote. served_here g.S.Site g.S.Door.Door g.S.Door.Link.Source g.S.Door.Link.Sink g.W.Sink g.N.Begins.first c.args.service c.args.site.now c.close-in-Ok-ended.new.self c.args.output.now c.write_summary.new.output opening.size d
+      (on_ok_weaker c.write_summary.result (λ wrote. served_here g.S.Site g.S.Door.Door g.S.Door.Link.Source g.S.Door.Link.Sink g.W.Sink g.N.Begins.first c.args.service c.args.site.now c.close-in-Ok-ended.new.self c.args.output.now c.write_summary.new.output opening.size d (c.visit-ended.result.closed.has_failed ≡ true) ⊥ held
       (Appends (g.W.Sink.written c.args.output.now) (g.W.Sink.written c.write_summary.new.output)) c.in-Ok.doors.items c.in-Ok-ended.field-0.doors.items c.args.database.pass c.in-Ok-ended.field-0.faults c.visit-ended.result.closed.counts
       all c.requires.pass.none visited (all_then _ _ _ (listening_line c.args.service.port) text line wrote)) c.write_summary.ensures.ok)
-      (on_err_weaker c.write_summary.result (λ short. served_here g.S.Site g.S.Door.Door g.S.Door.Link.Source g.S.Door.Link.Sink g.W.Sink g.N.Begins.first c.args.service c.args.site.now c.close-in-Ok-ended.new.self c.args.output.now c.write_summary.new.output opening.size d
+      (on_err_weaker c.write_summary.result (λ short. served_here g.S.Site g.S.Door.Door g.S.Door.Link.Source g.S.Door.Link.Sink g.W.Sink g.N.Begins.first c.args.service c.args.site.now c.close-in-Ok-ended.new.self c.args.output.now c.write_summary.new.output opening.size d (c.visit-ended.result.closed.has_failed ≡ true) ⊥ held
       (WritesShort (g.W.Sink.written c.args.output.now) (g.W.Sink.written c.write_summary.new.output)) c.in-Ok.doors.items c.in-Ok-ended.field-0.doors.items c.args.database.pass c.in-Ok-ended.field-0.faults c.visit-ended.result.closed.counts
       all c.requires.pass.none visited (short_then _ _ _ (listening_line c.args.service.port) text line short)) c.write_summary.ensures.err) in
       record {

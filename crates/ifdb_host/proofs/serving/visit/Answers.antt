@@ -4,7 +4,7 @@ use Rattle.ifdb_turn.specs.Passes.{history}
 use Rattle.ifdb_durable.specs.Told.{Begins}
 use Rattle.ifdb_session.specs.Durable.{count_of}
 use Rattle.ifdb_host.specs.Fronts.{opening_of, HasFrontOf, KnowsOf, LeavesFrom}
-use Rattle.ifdb_host.specs.Serving.{span_of, HasFailed, IsKeptBehind}
+use Rattle.ifdb_host.specs.Serving.{span_of, IsKeptBehind}
 use Rattle.ifdb_host.proofs.Visits.{all_wider}
 use Rattle.ifdb_host.proofs.serving.visit.Goals as goal
 
@@ -18,9 +18,9 @@ returns-clause-ended g c = λ opening is.
     let begins : Begins (opening_of opening) receipt = subst (λ r. Begins r receipt) is e.told in
     IfOk-weaker c.keep_serving-ended.result.0 _ _ (λ x all. record {
       now = pass;
-      all = all_wider g.G.Link.Source g.G.Link.Sink g.N.Begins.first (λ texts. KnowsOf receipt (count_of texts)) (IsKeptBehind g.N.Begins.first opening.size d) (receipt.has_failed ≡ true) (HasFailed d)
+      all = all_wider g.G.Link.Source g.G.Link.Sink g.N.Begins.first (λ texts. KnowsOf receipt (count_of texts)) (IsKeptBehind g.N.Begins.first opening.size d) (receipt.has_failed ≡ true) (c.close.result.has_failed ≡ true)
           g.G.Door c.args.limit c.args.database.pass pass c.args.doors.items x.doors.items x.faults
-          (λ texts front knows before sized shows. k.kept_since opening before texts begins sized shows front knows) (λ failed. k.cause opening begins (k.known failed)) e.sees.orderly.0 all;
+          (λ texts front knows before sized shows. k.kept_since opening before texts begins sized shows front knows) (λ failed. k.known failed) e.sees.orderly.0 all;
       order = k.order;
       own = k.own;
       rises = e.sees.orderly.1;
