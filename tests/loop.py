@@ -250,6 +250,23 @@ def sends_many_lines_at_once(loops: int) -> str:
     return words_of(steady)
 
 
+def shuts_behind_many_lines(loops: int) -> str:
+    """The end of the input lies behind more than a read takes, and comes with the event of these bytes."""
+    with served(loops) as server, beside(server) as steady:
+        for size in (100, 100_000, 300_000, 1_000_000):
+            lines = b"".join(b"%07d\n" % number for number in range(size // 8))
+            client = Client(server.port)
+            sender = threading.Thread(target=client.send, args=(lines,))
+            sender.start()
+            client.expect(lines[: len(lines) // 2])
+            sender.join()
+            client.link.shutdown(socket.SHUT_WR)
+            client.expect(lines[len(lines) // 2 :])
+            client.expect_end()
+            client.close()
+    return words_of(steady)
+
+
 def leave_in_all_ways(loops: int) -> str:
     """Clients that leave at once, behind half a line, behind a line whose reply they don't read, or by shutting one side."""
     with served(loops) as server, beside(server) as steady:
@@ -348,6 +365,7 @@ def tries(loops: int, idle: int) -> Dict[str, Callable[[], str]]:
         says_bye_with_more_behind_it,
         sends_too_long_a_line,
         sends_many_lines_at_once,
+        shuts_behind_many_lines,
         leave_in_all_ways,
         lack_descriptors,
         are_too_many,

@@ -1,7 +1,6 @@
 // Loops in threads of their own, and the porter who hands them connections.
-use ifdb_loop::{Client, Loop, Terms, serve};
+use ifdb_loop::{Loop, Terms, nobody, serve};
 use ifdb_ready::{Porter, TcpGate, TcpPort};
-use slab::Slab;
 use std::alloc::Global;
 use std::net::Net;
 use std::rt::Clock;
@@ -27,7 +26,7 @@ enum Worker<'a, R> {
 
 // The rounds of a loop.
 fn go_round<R: Net + Wait + Clock>(alloc: Global, one: &mut Served<'_, R>) {
-    let mut clients: Slab<Client<TcpPort, u64>> = Slab::new(alloc);
+    let mut clients = nobody::<TcpPort, Echo>(alloc);
     let _ = serve(
         &mut one.gate,
         &mut one.echo,

@@ -1,6 +1,5 @@
 // A few connections in memory.
-use ifdb_loop::{Client, Coming, Loop, MemoryGate, MemoryPort, Step, Terms, serve};
-use slab::Slab;
+use ifdb_loop::{Coming, Loop, MemoryGate, MemoryPort, Step, Terms, nobody, serve};
 use std::alloc::{AllocError, Global};
 use test_loop::Echo;
 
@@ -45,7 +44,7 @@ fn served(alloc: Global) -> Result<MemoryGate, AllocError> {
     let mut gate = MemoryGate::new(alloc, all);
     let mut echo = Echo::new(alloc, 0);
     let mut looping = Loop::new(alloc, TERMS)?;
-    let mut clients: Slab<Client<MemoryPort, u64>> = Slab::new(alloc);
+    let mut clients = nobody::<MemoryPort, Echo>(alloc);
     let _ = serve(&mut gate, &mut echo, &mut looping, &mut clients, 100);
     Ok(gate)
 }

@@ -1,6 +1,7 @@
 -- One connection of a loop changes, and the others are served still.
 use Rattle.std.proofs.Common.{◌≡◌, ◌≢◌, ℕ, List, sym, ap, subst, ◌∙◌, arith, Bool, true, false, refl}
-use Rattle.std.specs.Prelude.{◌==◌, ◌⊎◌, []}
+use Rattle.std.specs.Prelude.{◌==◌, ◌⊎◌, [], IfSome}
+use Rattle.std.specs.declared.option.Option.{Option}
 use Rattle.std.specs.declared.option.Option.TheVariants.{None, Some}
 use Rattle.std.proofs.lemmas.Bool.Decides.{nat_tests}
 use Rattle.slab.specs.Slab.{Slab, get, Updates}
@@ -25,6 +26,12 @@ same_by j k false e = Other (grind (arith, nat_tests))
 same : (j k : ℕ) → Same j k
 same j k = same_by j k (j == k) refl
 
+-- what is at a key has ended as it says
+pub ended_at : {P T : Type 0} → (clients : Slab (Client P T)) (k : ℕ) (c : Client P T) (ending : Option Ending) → get clients k ≡ Some c
+    → IfSome ending (λ e. c.ending ≡ Some e) → IfSome ending (λ _. (c.wires.owed ≡ []) ⊎ (c.is_lost ≡ true)) → IfSome ending (HasEndedAt clients k)
+ended_at clients k c None at is paid = tt
+ended_at clients k c (Some ending) at is paid = (c, at, is, paid)
+
 -- what is at a key has ended so
 pub ended_is : {P T : Type 0} → (clients : Slab (Client P T)) (k : ℕ) (c : Client P T) (ending : Ending) → get clients k ≡ Some c → HasEndedAt clients k ending
     → (c.ending ≡ Some ending) × ((c.wires.owed ≡ []) ⊎ (c.is_lost ≡ true))
@@ -41,6 +48,13 @@ module _ {S T P : Type 0} (services : service.Ghosts S T) (ports : port.Ghosts P
     number : services.number d.seat ≡ services.number c.seat
     others : KeepsOthers services ports s t (services.number c.seat)
     served : IsServed services ports t d
+
+  -- where there is no connection
+  pub AreServed-none : (s : S) (clients : Slab (Client P T)) → ((k : ℕ) → get clients k ≡ None) → AreServed services ports s clients
+  AreServed-none s clients none = record {
+    each = λ k c at. absurd (none_some c (sym (none k) ∙ at));
+    apart = λ j k c d at by ne. absurd (none_some c (sym (none j) ∙ at));
+  }
 
   -- what the service says of a connection's session it says still
   says_on : (s t : S) (c : Client P T) → ((d : Dialogue) → services.says s c.seat d → services.says t c.seat d) → IsServed services ports s c → IsServed services ports t c

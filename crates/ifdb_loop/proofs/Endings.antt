@@ -1,9 +1,9 @@
 -- What happens to a connection, and how that leaves what it has exchanged.
-use Rattle.std.proofs.Common.{◌≡◌, ℕ, ◌+◌, ◌<◌, ◌≤◌, List, [], ◌∷◌, ◌++◌, length, take, drop, refl, sym, ap, subst, ◌∙◌, arith, Bool, true, false}
-use Rattle.std.specs.Prelude.{IfSome, unwrap_or}
+use Rattle.std.proofs.Common.{◌≡◌, ℕ, ◌+◌, ◌<◌, ◌≤◌, List, [], ◌∷◌, ◌++◌, length, take, drop, refl, sym, ap, subst, ◌∙◌, arith, Bool, true, false, inl, inr}
+use Rattle.std.specs.Prelude.{◌⊎◌, IfSome, unwrap_or}
 use Rattle.std.specs.declared.option.Option.{Option}
 use Rattle.std.specs.declared.option.Option.TheVariants.{None, Some}
-use Rattle.std.proofs.lemmas.List.{append-nil}
+use Rattle.std.proofs.lemmas.List.{append-nil, length-append}
 use Rattle.std.specs.Io.KnownBytes.{append_known, IsAtEnd}
 use Rattle.ifdb_io.specs.Lines.{IsLine}
 use Rattle.ifdb_io.specs.Reader.{BreaksAt}
@@ -11,10 +11,22 @@ use Rattle.ifdb_loop.specs.declared.ending.Ending.{Ending}
 use Rattle.ifdb_loop.specs.declared.ending.Ending.TheVariants as ends
 use Rattle.ifdb_loop.specs.Moves.{Sends}
 use Rattle.ifdb_loop.specs.Traffic.{Traffic}
-use Rattle.ifdb_loop.specs.Dialogues.{Dialogue, silence, with_answer}
+use Rattle.ifdb_loop.specs.Dialogues.{Dialogue, settled, silence, with_answer}
 use Rattle.ifdb_loop.specs.Exchange.{IsExchanged, IsTooLong}
-use Rattle.ifdb_loop.specs.Closings.{Carries, Exchanges, HasReadCause, HasWriteCause, KeepsLimit, LacksLast, MayBeOpen}
+use Rattle.ifdb_loop.specs.Closings.{Carries, Exchanges, HasReadCause, HasWriteCause, KeepsLimit, LacksLast, MayBeOpen, WroteKept}
 use Rattle.ifdb_loop.proofs.Talking.{exchanged_asked, exchanged_owes, exchanged_sent, exchanged_came, room_left, past_limit, within_limit, exchanged_new, exchanged_same, room_new}
+
+-- ---- no more was written than what is kept
+
+-- so it is as long as nothing is written
+wrote_before : (written : Option (List ℕ)) (owed texts kept : List ℕ) → IfSome written (λ bytes. bytes ++ owed ≡ texts)
+    → (kept ≡ texts) ⊎ IfSome written (λ bytes. length bytes ≤ length kept) → IfSome written (λ bytes. length bytes ≤ length kept)
+wrote_before None owed texts kept went k = tt
+wrote_before (Some bytes) owed texts kept went (inl all) = omega (arith, length-append bytes owed, ap length went, ap length all)
+wrote_before (Some bytes) owed texts kept went (inr few) = few
+
+wrote_same : (written now : Option (List ℕ)) (d : Dialogue) → now ≡ written → WroteKept written d → WroteKept now d
+wrote_same written now d same k = subst (λ o. WroteKept o d) (sym same) k
 
 -- ---- a line is asked
 
@@ -28,6 +40,7 @@ answered long t limit room held owed reply d n is_open x b short still = record 
   may_be_open = still;
   read_cause = x.read_cause;
   write_cause = x.write_cause;
+  kept = inr (wrote_before t.written owed d.texts d.kept x.carries.went x.kept);
 }
 
 -- so it was, and its session is closed by it
@@ -40,6 +53,7 @@ answered_last long t limit room held owed reply d n is_open x b short closed = r
   may_be_open = closed;
   read_cause = x.read_cause;
   write_cause = tt;
+  kept = inr (wrote_before t.written owed d.texts d.kept x.carries.went x.kept);
 }
 
 -- there was no memory for the reply
@@ -58,6 +72,7 @@ answered_unheard long t limit room held owed reply d n is_open x b short = recor
   may_be_open = tt;
   read_cause = x.read_cause;
   write_cause = tt;
+  kept = inr (wrote_before t.written owed d.texts d.kept x.carries.went x.kept);
 }
 
 -- ---- a line is too long
@@ -70,6 +85,7 @@ refused long t limit room held owed d x too_long = record {
   may_be_open = x.may_be_open;
   read_cause = x.read_cause;
   write_cause = tt;
+  kept = x.kept;
 }
 
 -- there was no memory for that, or for the bytes that are held
@@ -87,6 +103,7 @@ unheard long t limit room held owed d x = record {
   may_be_open = tt;
   read_cause = x.read_cause;
   write_cause = tt;
+  kept = x.kept;
 }
 
 -- ---- bytes come
@@ -101,6 +118,7 @@ came long t u limit room left held got now owed d is given written unread unwrit
   may_be_open = x.may_be_open;
   read_cause = unread ∙ x.read_cause;
   write_cause = unwritten ∙ x.write_cause;
+  kept = wrote_same t.written u.written d written x.kept;
 }
 
 -- one came that is past the limit
@@ -114,6 +132,7 @@ came_past long t u limit room held (last ∷ []) now owed d given written unread
   may_be_open = x.may_be_open;
   read_cause = unread ∙ x.read_cause;
   write_cause = tt;
+  kept = wrote_same t.written u.written d written x.kept;
 }
 came_past long t u limit room held (a ∷ b ∷ rest) now owed d given written unread unwritten none one line x = absurd (omega (arith, one))
 
@@ -135,6 +154,7 @@ came_end long t u limit room held [] now owed d given written unread none at_end
   may_be_open = x.may_be_open;
   read_cause = unread ∙ x.read_cause;
   write_cause = tt;
+  kept = wrote_same t.written u.written d written x.kept;
 }
 came_end long t u limit room held (a ∷ rest) now owed d given written unread none at_end line x = absurd (omega (arith, none))
 
@@ -155,6 +175,7 @@ came_fault long t u limit room held [] now owed d given written fault none line 
   may_be_open = x.may_be_open;
   read_cause = fault;
   write_cause = tt;
+  kept = wrote_same t.written u.written d written x.kept;
 }
 came_fault long t u limit room held (a ∷ rest) now owed d given written fault none line x = absurd (omega (arith, none))
 
@@ -168,13 +189,14 @@ silent long t u limit room held owed d given written fault line x = record {
   may_be_open = x.may_be_open;
   read_cause = fault;
   write_cause = tt;
+  kept = wrote_same t.written u.written d written x.kept;
 }
 
 -- ---- bytes go
 
 carries_sent : (long : List ℕ) (ending : Option Ending) (t u : Traffic) (held old new : List ℕ) (d : Dialogue)
     → u.given ≡ t.given → u.left ≡ t.left → Sends old new t.written u.written
-    → Carries long ending t held old d → Carries long ending u held new d
+    → Carries long ending t held old d → Carries long ending u held new (settled d)
 carries_sent long None t u held old new d g l s x = exchanged_sent t u held old new d.lines d.texts g s x
 carries_sent long (Some ends.Bye) t u held old new d g l s x = (x.0, exchanged_sent t u x.0 old new d.lines d.texts g s x.1)
 carries_sent long (Some ends.End) t u held old new d g l s x = (x.0, exchanged_sent t u x.0 old new d.lines d.texts g s x.1, x.2, subst IsAtEnd (sym l) x.3)
@@ -206,13 +228,14 @@ write_cause_later (Some ends.OutOfMemory) old new same later x = tt
 pub went : (long : List ℕ) (ending : Option Ending) (t u : Traffic) (limit room : ℕ) (held old new : List ℕ) (d : Dialogue)
     → u.given ≡ t.given → u.left ≡ t.left → u.unread ≡ t.unread → Sends old new t.written u.written → t.unwritten ≤ u.unwritten
     → (ending ≡ None → u.unwritten ≡ t.unwritten)
-    → Exchanges long ending t limit room held old d → Exchanges long ending u limit room held new d
+    → Exchanges long ending t limit room held old d → Exchanges long ending u limit room held new (settled d)
 went long ending t u limit room held old new d given left unread sent later same x = record {
   carries = carries_sent long ending t u held old new d given left sent x.carries;
   within = subst (KeepsLimit ending limit room) (sym given) x.within;
   may_be_open = x.may_be_open;
   read_cause = subst (HasReadCause ending) (sym unread) x.read_cause;
   write_cause = write_cause_later ending t.unwritten u.unwritten same later x.write_cause;
+  kept = inl refl;
 }
 
 some_none : {A : Type 0} (x : A) → Some x ≡ None → ⊥
@@ -221,13 +244,14 @@ some_none x e = grind (arith, e)
 -- so it was, and then writing has failed
 pub lost : (long : List ℕ) (ending : Option Ending) (t u : Traffic) (limit room : ℕ) (held old new : List ℕ) (d : Dialogue)
     → u.given ≡ t.given → u.left ≡ t.left → u.unread ≡ t.unread → Sends old new t.written u.written → t.unwritten ≤ u.unwritten → 0 < u.unwritten
-    → Exchanges long ending t limit room held old d → Exchanges long (Some (unwrap_or ending ends.LinkWrite)) u limit room held new d
+    → Exchanges long ending t limit room held old d → Exchanges long (Some (unwrap_or ending ends.LinkWrite)) u limit room held new (settled d)
 lost long None t u limit room held old new d given left unread sent later fault x = record {
   carries = (held, exchanged_sent t u held old new d.lines d.texts given sent x.carries);
   within = subst (λ o. IfSome o (λ bytes. length bytes ≤ limit)) (sym given) (within_limit t.given limit room x.within);
   may_be_open = x.may_be_open;
   read_cause = unread ∙ x.read_cause;
   write_cause = fault;
+  kept = inl refl;
 }
 lost long (Some ending) t u limit room held old new d given left unread sent later fault x =
     went long (Some ending) t u limit room held old new d given left unread sent later (λ e. absurd (some_none ending e)) x
@@ -243,6 +267,7 @@ unkept long None t limit room held owed d x = record {
   may_be_open = x.may_be_open;
   read_cause = x.read_cause;
   write_cause = tt;
+  kept = x.kept;
 }
 unkept long (Some ending) t limit room held owed d x = record {
   carries = x.carries;
@@ -250,6 +275,7 @@ unkept long (Some ending) t limit room held owed d x = record {
   may_be_open = x.may_be_open;
   read_cause = x.read_cause;
   write_cause = x.write_cause;
+  kept = x.kept;
 }
 
 pub none_some : {A : Type 0} (x : A) → None ≡ Some x → ⊥
@@ -274,6 +300,7 @@ ended_with long ending t limit room held other owed d x = record {
   may_be_open = x.may_be_open;
   read_cause = x.read_cause;
   write_cause = x.write_cause;
+  kept = x.kept;
 }
 
 pub false_true : false ≡ true → ⊥
@@ -289,4 +316,5 @@ fresh long t limit held owed h o given written unread unwritten = record {
   may_be_open = refl;
   read_cause = unread;
   write_cause = unwritten;
+  kept = inl refl;
 }

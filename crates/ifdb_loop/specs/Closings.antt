@@ -1,5 +1,5 @@
 -- What a connection has exchanged, before its end and at each end that it may have.
-use Rattle.std.specs.Prelude.{◌≡◌, ℕ, ◌+◌, ◌<◌, ◌≤◌, List, [], ◌∷◌, ◌++◌, length, Bool, true, false, Option, None, Some, IfSome, Result, Ok, Err}
+use Rattle.std.specs.Prelude.{◌≡◌, ◌⊎◌, ℕ, ◌+◌, ◌<◌, ◌≤◌, List, [], ◌∷◌, ◌++◌, length, Bool, true, false, Option, None, Some, IfSome, Result, Ok, Err}
 use Rattle.std.specs.Io.KnownBytes.{IsAtEnd}
 use Rattle.ifdb_io.specs.Lines.{IsLine}
 use Rattle.ifdb_loop.specs.declared.ending.Ending.{Ending}
@@ -88,6 +88,10 @@ HasWriteCause (Some ends.TooMuch) unwritten = Unit {0}
 HasWriteCause (Some ends.TooLong) unwritten = Unit {0}
 HasWriteCause (Some ends.OutOfMemory) unwritten = Unit {0}
 
+-- all that a session was told is kept, or no more of it was written than what is
+abbrev pub WroteKept : Option (List ℕ) → Dialogue → Type 0
+WroteKept written d = (d.kept ≡ d.texts) ⊎ IfSome written (λ bytes. length bytes ≤ length d.kept)
+
 -- A connection has exchanged the dialogue of its session so far, and has ended so, if it has. It may give at most `limit` bytes,
 -- of which `room` are left.
 pub record Exchanges (long : List ℕ) (ending : Option Ending) (t : Traffic) (limit room : ℕ) (held owed : List ℕ) (d : Dialogue) : Type 0 where
@@ -96,6 +100,7 @@ pub record Exchanges (long : List ℕ) (ending : Option Ending) (t : Traffic) (l
   pub may_be_open : MayBeOpen ending d.is_open
   pub read_cause : HasReadCause ending t.unread
   pub write_cause : HasWriteCause ending t.unwritten
+  pub kept : WroteKept t.written d
 
 -- how a connection ended in a call that answers an error where it did
 abbrev pub ending_of : {T : Type 0} → Result T Ending → Option Ending

@@ -33,7 +33,8 @@ pub struct Client<P, T> {
 /// When a connection moves. No contract rests on it.
 #[derive(Clone, Copy)]
 pub struct Pace {
-    /// Whether more may be at hand, which no event will tell: the last read filled the room that it had, or was left out.
+    /// Whether more may be at hand, which no event will tell: a read filled the room that it had, or was left out, and none has
+    /// found nothing since.
     pub is_full: bool,
     /// Whether a whole line is held, or too long a one.
     pub has_line: bool,

@@ -8,6 +8,14 @@ use crate::turn::turn;
 use crate::{Chunk, Client, Ending, Loop, Over, Pace, Port, Service, Timing, Wires};
 use ifdb_io::Failed;
 use slab::Slab;
+use std::alloc::Global;
+
+/// The connections of a loop before the first has come.
+pub fn nobody<P: Port, S: Service>(alloc: Global) -> Slab<Client<P, S::Seat>>
+    ensures { (s : S) → AreServed S.Service P.Port s result }
+{
+    Slab::new(alloc)
+}
 
 /// Opens a session for a connection that has given nothing yet and was told nothing. Its key is the slab's next one. All memory
 /// for its turns is taken here, but that for its bytes.

@@ -19,7 +19,7 @@ mod wires;
 
 pub use chunk::{Chunk, Front};
 pub use client::{Client, Pace};
-pub use crowd::{admit, cut_off, hang_up, round};
+pub use crowd::{admit, cut_off, hang_up, nobody, round};
 pub use ending::Ending;
 pub use gate::Gate;
 pub use memory_gate::{Coming, MemoryGate};

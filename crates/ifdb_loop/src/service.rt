@@ -1,7 +1,7 @@
 // What answers the lines.
 ghost use Rattle.std.specs.Prelude.{◌≡◌, ◌≢◌, ℕ, List, true, OnOk, OnErr, IfOk};
 ghost use Rattle.ifdb_io.specs.Lines.{IsLine};
-ghost use Rattle.ifdb_loop.specs.Dialogues.{Dialogue, silence, with_answer};
+ghost use Rattle.ifdb_loop.specs.Dialogues.{Dialogue, settled, silence, with_answer};
 
 use ifdb_io::{Failed, OutOfMemory};
 
@@ -101,6 +101,10 @@ pub trait Service {
         ensures over { (d : Dialogue) → says self.old seat d → is_over self.new (number seat) d }
         ensures others { (other : Self.Seat) (d : Dialogue) → number other ≢ number seat
             → says self.old other d → says self.new other d };
+
+    /// Where all is kept that was answered from, so it is for each session.
+    ghost keeps_all: { (s : Self) (seat : Self.Seat) (d : Dialogue)
+        → is_kept s → says s seat d → says s seat (settled d) };
 
     /// It goes on from itself.
     ghost goes_itself: { (s : Self) → goes_on s s };

@@ -67,7 +67,7 @@ fn read<P: Port, T>(
         return Err(Ending::TooMuch);
     }
     client.room = room - count;
-    client.pace.is_full = count == most;
+    client.pace.is_full = client.pace.is_full || count == most;
     client.pace.note(true, timing.now);
     Ok(())
 }

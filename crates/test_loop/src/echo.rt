@@ -126,6 +126,8 @@ impl Service for Echo {
         self.left = self.left.saturating_add(1);
     }
 
+    ghost keeps_all = { λ _ _ _ _ says. says };
+
     ghost goes_itself = { λ _. tt };
 
     ghost goes_further = { λ _ _ _ _ _. tt };

@@ -1,7 +1,6 @@
 // What no clause says: that a loop gets on, whatever the pieces, the waits and the faults.
 use crate::Echo;
-use ifdb_loop::{Client, Coming, Ending, Loop, MemoryGate, MemoryPort, Step, Terms, close, serve};
-use slab::Slab;
+use ifdb_loop::{Coming, Ending, Loop, MemoryGate, MemoryPort, Step, Terms, close, nobody, serve};
 use std::alloc::Global;
 use std::test::Fail;
 
@@ -24,7 +23,7 @@ fn run(
     let mut gate = MemoryGate::new(alloc, coming);
     let mut echo = Echo::new(alloc, fails_at);
     let mut looping = Loop::new(alloc, terms)?;
-    let mut clients: Slab<Client<MemoryPort, u64>> = Slab::new(alloc);
+    let mut clients = nobody::<MemoryPort, Echo>(alloc);
     if serve(&mut gate, &mut echo, &mut looping, &mut clients, rounds).is_err() {
         close(&mut gate, &mut echo, &mut clients);
     }

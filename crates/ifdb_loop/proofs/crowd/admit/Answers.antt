@@ -6,6 +6,10 @@ use Rattle.ifdb_loop.proofs.Endings.{false_true, fresh}
 use Rattle.ifdb_loop.proofs.Crowding.{AreServed-settled, AreServed-same, AreServed-more}
 use Rattle.ifdb_loop.proofs.crowd.admit.Goals as goal
 
+pub returns-then-is_err-2-clause-served : goal.returns-then-is_err-2-clause-served
+returns-then-is_err-2-clause-served g c =
+    AreServed-same g.S.Service g.P.Port c.args.service.now c.args.clients.now c.reserve.new.self (λ j. ap (λ m. get m j) c.reserve.ensures.rest_kept) c.requires.served
+
 pub returns-in_default-clause-served : goal.returns-in_default-clause-served
 returns-in_default-clause-served g c =
     AreServed-settled g.S.Service g.P.Port c.args.service.now c.open.new.self c.reserve.new.self c.open.ensures.others

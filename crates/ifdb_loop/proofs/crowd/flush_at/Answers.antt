@@ -4,6 +4,11 @@ use Rattle.ifdb_loop.specs.declared.client.Client.{Client}
 use Rattle.ifdb_loop.proofs.Crowding.{AreServed-changed}
 use Rattle.ifdb_loop.proofs.crowd.flush_at.Goals as goal
 
+pub flush-requires-clause-served : goal.flush-requires-clause-served
+flush-requires-clause-served g c =
+    let was : get c.args.clients.now c.args.key ≡ Some c.in-Some.client = search rules in
+    c.requires.served.each c.args.key c.in-Some.client was
+
 pub returns : goal.returns
 returns g c =
     let was : get c.args.clients.now c.args.key ≡ Some c.in-Some.client = search rules in

@@ -3,6 +3,11 @@ use Rattle.slab.specs.Slab.{get}
 use Rattle.ifdb_loop.proofs.Crowding.{AreServed-changed}
 use Rattle.ifdb_loop.proofs.crowd.turn_at.Goals as goal
 
+pub turn-requires-clause-served : goal.turn-requires-clause-served
+turn-requires-clause-served g c =
+    let was : get c.args.clients.now c.args.key ≡ Some c.in-Some.client = search rules in
+    c.requires.served.each c.args.key c.in-Some.client was
+
 pub returns-clause-served : goal.returns-clause-served
 returns-clause-served g c =
     let was : get c.args.clients.now c.args.key ≡ Some c.in-Some.client = search rules in

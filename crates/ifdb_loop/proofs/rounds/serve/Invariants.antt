@@ -3,7 +3,7 @@ use Rattle.ifdb_loop.specs.Crowd.{AreServed, WereServed}
 use Rattle.ifdb_loop.proofs.rounds.serve.Given as goal
 
 -- each connection is served, and each that was given back was
-abbrev pub invariant-loop : goal.invariant-loop-_
+abbrev pub invariant-loop : goal.invariant-loop
 invariant-loop g l = record {
   ready : g.S.Service.ready l.service;
   goes_on : g.S.Service.goes_on l.fn.service l.service;

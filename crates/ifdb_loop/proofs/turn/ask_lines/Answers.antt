@@ -1,4 +1,5 @@
 use Rattle.std.proofs.Common.{◌∙◌, refl}
+use Rattle.std.proofs.lemmas.Result.{err_from_is_err_and}
 use Rattle.ifdb_loop.proofs.turn.ask_lines.Goals as goal
 
 pub loop-init : goal.loop-init
@@ -16,7 +17,7 @@ loop-init g c = record {
 pub loop-preserved : goal.loop-preserved
 loop-preserved g c =
     let i = c.loop.invariant in
-    let step = c.in_ok-ask.ensures in
+    let step = c.in_ok-ask-in-Line.ensures in
     record {
       ready = step.ready;
       goes_on = g.met.S.Service.goes_further _ _ _ i.goes_on step.goes_on;
@@ -28,11 +29,16 @@ loop-preserved g c =
       lost = step.lost ∙ i.lost;
     }
 
-pub returns-in_err-ask-clause-goes_on : goal.returns-in_err-ask-clause-goes_on
-returns-in_err-ask-clause-goes_on g c = g.met.S.Service.goes_further _ _ _ c.loop.invariant.goes_on c.ask.ensures.goes_on
+pub returns-in_err-ask-in-Line-clause-stands : goal.returns-in_err-ask-in-Line-clause-stands
+returns-in_err-ask-in-Line-clause-stands g c =
+    let exit = err_from_is_err_and c.from_residual.result c.from_residual.ensures.1 in
+    rw (exit.1, exit.2) c.in_err-ask-in-Line.ensures.stands
 
-pub returns-in_err-ask-clause-others : goal.returns-in_err-ask-clause-others
-returns-in_err-ask-clause-others g c =
+pub returns-in_err-ask-in-Line-clause-goes_on : goal.returns-in_err-ask-in-Line-clause-goes_on
+returns-in_err-ask-in-Line-clause-goes_on g c = g.met.S.Service.goes_further _ _ _ c.loop.invariant.goes_on c.ask.ensures.goes_on
+
+pub returns-in_err-ask-in-Line-clause-others : goal.returns-in_err-ask-in-Line-clause-others
+returns-in_err-ask-in-Line-clause-others g c =
     let i = c.loop.invariant in
     λ other d apart says. c.ask.ensures.others other d (λ e. apart (e ∙ i.number)) (i.others other d apart says)
 

@@ -3,7 +3,7 @@ use Rattle.ifdb_loop.specs.Standing.{Stands, KeepsOthers}
 use Rattle.ifdb_loop.proofs.turn.ask_lines.Given as goal
 
 -- the lines so far were asked
-abbrev pub invariant-loop : goal.invariant-loop-_
+abbrev pub invariant-loop : goal.invariant-loop
 invariant-loop g l = record {
   ready : g.S.Service.ready l.service;
   goes_on : g.S.Service.goes_on l.fn.service l.service;
