@@ -1,5 +1,4 @@
 use Rattle.std.proofs.Common.{◌∙◌, refl}
-use Rattle.std.proofs.lemmas.Result.{err_from_is_err_and}
 use Rattle.ifdb_loop.proofs.turn.ask_lines.Goals as goal
 
 pub loop-init : goal.loop-init
@@ -28,11 +27,6 @@ loop-preserved g c =
       ending = step.ending ∙ i.ending;
       lost = step.lost ∙ i.lost;
     }
-
-pub returns-in_err-ask-in-Line-clause-stands : goal.returns-in_err-ask-in-Line-clause-stands
-returns-in_err-ask-in-Line-clause-stands g c =
-    let exit = err_from_is_err_and c.from_residual.result c.from_residual.ensures.1 in
-    rw (exit.1, exit.2) c.in_err-ask-in-Line.ensures.stands
 
 pub returns-in_err-ask-in-Line-clause-goes_on : goal.returns-in_err-ask-in-Line-clause-goes_on
 returns-in_err-ask-in-Line-clause-goes_on g c = g.met.S.Service.goes_further _ _ _ c.loop.invariant.goes_on c.ask.ensures.goes_on
