@@ -13,7 +13,7 @@ use Rattle.ifdb_loop.specs.Moves.{Sends}
 use Rattle.ifdb_loop.specs.Traffic.{Traffic}
 use Rattle.ifdb_loop.specs.Dialogues.{Dialogue, settled, silence, with_answer}
 use Rattle.ifdb_loop.specs.Exchange.{IsExchanged, IsTooLong}
-use Rattle.ifdb_loop.specs.Closings.{Carries, Exchanges, HasReadCause, HasWriteCause, KeepsLimit, LacksLast, MayBeOpen, WroteKept}
+use Rattle.ifdb_loop.specs.Closings.{Carries, Exchanges, HasReadCause, HasWriteCause, KeepsLimit, WroteKept}
 use Rattle.ifdb_loop.proofs.Talking.{exchanged_asked, exchanged_owes, exchanged_sent, exchanged_came, room_left, past_limit, within_limit, exchanged_new, exchanged_same, room_new}
 
 -- ---- no more was written than what is kept

@@ -1,6 +1,5 @@
-use Rattle.std.proofs.Common.{◌≡◌, ◌∙◌, Some, ap, rules}
+use Rattle.std.proofs.Common.{◌≡◌, Some, ap, rules}
 use Rattle.slab.specs.Slab.{get}
-use Rattle.ifdb_loop.specs.declared.client.Client.{Client}
 use Rattle.ifdb_loop.proofs.Crowding.{AreServed-changed}
 use Rattle.ifdb_loop.proofs.crowd.flush_at.Goals as goal
 

@@ -1,4 +1,4 @@
-use Rattle.std.proofs.Common.{refl, rules, ◌∙◌}
+use Rattle.std.proofs.Common.{refl, rules}
 use Rattle.ifdb_loop.proofs.rounds.serve.Goals as goal
 
 pub loop-init : goal.loop-init
