@@ -1,4 +1,6 @@
 // A connection over TCP, as a port.
+ghost use Rattle.std.specs.Prelude.{◌≡◌};
+
 use crate::stream;
 use ifdb_io::Failed;
 use ifdb_loop::Port;
