@@ -1,0 +1,6 @@
+mod Ranges
+mod Sending
+mod Talking
+mod Endings
+mod Crowding
+mod Leaving

@@ -1,0 +1,30 @@
+use Rattle.std.proofs.Common.{ap}
+use Rattle.slab.specs.Slab.{get}
+use Rattle.ifdb_loop.specs.Dialogues.{silence}
+use Rattle.ifdb_loop.specs.Wiring.{Wiring}
+use Rattle.ifdb_loop.proofs.Endings.{false_true, fresh}
+use Rattle.ifdb_loop.proofs.Crowding.{AreServed-settled, AreServed-same, AreServed-more}
+use Rattle.ifdb_loop.proofs.crowd.admit.Goals as goal
+
+pub returns-then-is_err-2-clause-served : goal.returns-then-is_err-2-clause-served
+returns-then-is_err-2-clause-served g c =
+    AreServed-same g.S.Service g.P.Port c.args.service.now c.args.clients.now c.reserve.new.self (λ j. ap (λ m. get m j) c.reserve.ensures.rest_kept) c.requires.served
+
+pub returns-in_default-clause-served : goal.returns-in_default-clause-served
+returns-in_default-clause-served g c =
+    AreServed-settled g.S.Service g.P.Port c.args.service.now c.open.new.self c.reserve.new.self c.open.ensures.others
+    (AreServed-same g.S.Service g.P.Port c.args.service.now c.args.clients.now c.reserve.new.self (λ j. ap (λ m. get m j) c.reserve.ensures.rest_kept) c.requires.served)
+
+pub returns-clause-served : goal.returns-clause-served
+returns-clause-served g c =
+    let all = AreServed-same g.S.Service g.P.Port c.args.service.now c.args.clients.now c.reserve.new.self (λ j. ap (λ m. get m j) c.reserve.ensures.rest_kept) c.requires.served in
+    AreServed-more g.S.Service g.P.Port c.args.service.now c.open.new.self c.reserve.new.self c.insert_reserved.new.self c.insert_reserved.result _ all c.insert_reserved.ensures.updates
+    c.open.ensures.others c.in-Ok.ensures.apart (
+      (
+        silence,
+        c.in-Ok.ensures.new,
+        fresh _ _ _ _ _ (ap (λ (w : Wiring). w.held) c.new.ensures) (ap (λ (w : Wiring). w.owed) c.new.ensures)
+            c.requires.given c.requires.written c.requires.reads c.requires.writes,
+      ),
+      λ e. absurd (false_true e),
+    )

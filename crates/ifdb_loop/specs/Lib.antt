@@ -1,0 +1,9 @@
+pub mod Moves
+pub mod Traffic
+pub mod Wiring
+pub mod Dialogues
+pub mod Exchange
+pub mod Fronts
+pub mod Closings
+pub mod Standing
+pub mod Crowd

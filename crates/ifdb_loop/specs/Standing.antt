@@ -1,0 +1,45 @@
+-- What is so of a connection and its session.
+use Rattle.std.specs.Prelude.{◌≡◌, ◌≢◌, ◌⊎◌, ◌<◌, ℕ, List, [], Option, Some, true}
+use Rattle.ifdb_loop.specs.declared.port.Port as port
+use Rattle.ifdb_loop.specs.declared.service.Service as service
+use Rattle.ifdb_loop.specs.declared.client.Client.{Client}
+use Rattle.ifdb_loop.specs.declared.over.Over.{Over}
+use Rattle.ifdb_loop.specs.declared.ending.Ending.{Ending}
+use Rattle.ifdb_loop.specs.Traffic.{Traffic}
+use Rattle.ifdb_loop.specs.Dialogues.{Dialogue}
+use Rattle.ifdb_loop.specs.Closings.{Exchanges}
+
+module _ {P : Type 0} (ports : port.Ghosts P) where
+  abbrev pub traffic_of : P → Traffic
+  traffic_of p = record { given = ports.given p; left = ports.left p; written = ports.written p; unread = ports.unread p; unwritten = ports.unwritten p }
+
+  -- a connection that has ended so, if it has, and of which these bytes are held, has exchanged the dialogue
+  abbrev pub HasExchanged : {T : Type 0} → List ℕ → Client P T → Option Ending → List ℕ → Dialogue → Type 0
+  HasExchanged long c ending held d = Exchanges long ending (traffic_of c.port) c.limit c.room held c.wires.owed d
+
+  -- whatever dialogue it had exchanged before its end, it has exchanged still
+  abbrev pub StillExchanges : {T : Type 0} → Client P T → Client P T → Option Ending → List ℕ → Type 0
+  StillExchanges c c' ending held = (long : List ℕ) (d : Dialogue) → HasExchanged long c c.ending c.wires.held d → HasExchanged long c' ending held d
+
+module _ {S T P : Type 0} (services : service.Ghosts S T) (ports : port.Ghosts P) where
+  -- a connection that has ended so, if it has, and of which these bytes are held, has exchanged what its session was asked and told
+  abbrev pub Stands : S → Client P T → Option Ending → List ℕ → Type 0
+  Stands s c ending held = (d : Dialogue) × services.says s c.seat d × HasExchanged ports services.long_text c ending held d
+
+  -- so it is with a connection as it is, and writing has failed if it is lost
+  abbrev pub IsServed : S → Client P T → Type 0
+  IsServed s c = Stands s c c.ending c.wires.held × (c.is_lost ≡ true → 0 < ports.unwritten c.port)
+
+  -- what was said of the sessions of other numbers is so still
+  abbrev pub KeepsOthers : S → S → ℕ → Type 0
+  KeepsOthers old new n = (other : T) (d : Dialogue) → services.number other ≢ n → services.says old other d → services.says new other d
+
+  -- A connection was served and is over, and so is its session. All that it was told was written, but where writing has failed
+  -- or the service has.
+  pub record WasServed (s : S) (o : Over P) : Type 0 where
+    pub number : ℕ
+    pub dialogue : Dialogue
+    pub owed : List ℕ
+    pub over : services.is_over s number dialogue
+    pub exchanged : Exchanges services.long_text (Some o.ending) (traffic_of ports o.port) o.limit 0 [] owed dialogue
+    pub paid : (owed ≡ []) ⊎ ((0 < ports.unwritten o.port) ⊎ services.has_failed s)
