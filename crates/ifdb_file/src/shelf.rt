@@ -3,13 +3,14 @@ ghost use Rattle.std.specs.Prelude.{◌≡◌, None};
 
 use crate::FileDisk;
 use ifdb_disk::Shelf;
+use ifdb_folder::Folder;
 use ifdb_io::Failed;
 use std::fs::File;
-use std::io;
 use std::io::ErrorKind;
 use std::os::unix::fs::OpenOptionsExt;
 use std::path::Path;
 use std::rt::Files;
+use std::{fs, io};
 
 // Who may read and write a file that is made: its owner, and nobody else.
 const OWNER_ALONE: u32 = 0o600;
@@ -79,5 +80,48 @@ impl<'a, R: Files<File = File>> Shelf for FileShelf<'a, R> {
 
     fn close(&mut self, disk: FileDisk) {
         let _ = disk;
+    }
+}
+
+// Gives a file the name of another, in one step, so that it has that name after a crash.
+fn rename_for_good<R: Files<File = File>>(rt: &R, from: &str, to: &str) -> io::Result<()> {
+    fs::rename(rt, from, to)?;
+    folder_of(rt, to)?.sync_all()
+}
+
+impl<'a, R: Files<File = File>> Folder for FileShelf<'a, R> {
+    ghost use Rattle.std.specs.Prelude.{None};
+
+    type Disk = FileDisk;
+
+    ghost tells = { λ _. None };
+
+    ghost faults = { λ shelf. shelf.failed };
+
+    fn take(&mut self, name: &str) -> Result<FileDisk, Failed> {
+        Shelf::open(self, name)
+    }
+
+    fn give(&mut self, name: &str, disk: FileDisk) {
+        let _ = name;
+        let _ = disk;
+    }
+
+    // Both files are locked until the new one has the name.
+    fn replace(
+        &mut self,
+        new: &str,
+        disk: FileDisk,
+        old: &str,
+        gone: FileDisk,
+    ) -> Result<(), Failed> {
+        let renamed = rename_for_good(self.rt, new, old);
+        drop(disk);
+        drop(gone);
+        if renamed.is_err() {
+            self.failed = self.failed.saturating_add(1);
+            return Err(Failed);
+        }
+        Ok(())
     }
 }

@@ -1,6 +1,7 @@
 // A file that is written, synced and opened again.
 use crate::{FileDisk, FileShelf};
 use ifdb_disk::{Disk, Shelf};
+use ifdb_folder::Folder;
 use ifdb_io::Failed;
 use std::fs;
 use std::os::unix::fs::PermissionsExt;
@@ -37,5 +38,22 @@ fn written_and_opened_again(rt: HostRuntime) -> Result<(), Fail> {
     shelf.close(again);
     assert!(rt; shelf.open("nowhere/journal").is_err());
     fs::remove_file(&rt, "journal")?;
+    Ok(())
+}
+
+#[test]
+fn one_takes_the_place_of_another(rt: HostRuntime) -> Result<(), Fail> {
+    let mut folder = FileShelf::new(&rt);
+    let mut old = folder.take("database")?;
+    old.write(0, b"old")?;
+    let mut new = folder.take("database.new")?;
+    new.write(0, b"new and longer")?;
+    new.sync()?;
+    folder.replace("database.new", new, "database", old)?;
+    let mut again = folder.take("database")?;
+    assert!(rt; holds(&mut again, b"new and longer")?);
+    folder.give("database", again);
+    assert!(rt; fs::metadata(&rt, "database.new").is_err());
+    fs::remove_file(&rt, "database")?;
     Ok(())
 }
