@@ -1,0 +1,7 @@
+mod Older
+mod Pieces
+mod Restoring
+mod Writing
+mod Walking
+mod Putting
+mod Taking

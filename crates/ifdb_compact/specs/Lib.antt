@@ -1,0 +1,6 @@
+pub mod Texts
+pub mod Compacted
+pub mod Causes
+pub mod Writing
+pub mod Walks
+pub mod Worth
