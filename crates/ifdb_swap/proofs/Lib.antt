@@ -1,0 +1,5 @@
+mod Titles
+mod Sizes
+mod Files
+mod Damage
+mod Names
