@@ -175,7 +175,7 @@ def main() -> int:
     words.add_argument("--rows", type=int, default=1000)
     words.add_argument("--commits", type=lambda text: [int(it) for it in text.split(",")], default=[100_000, 1_000_000])
     given = words.parse_args()
-    if not program.path().is_file() or b"--file" not in program.run("host").written:
+    if not program.can_host():
         print(f"host.py: {program.path()} isn't there, or has no command host", file=sys.stderr)
         return NOT_HERE
     with tempfile.TemporaryDirectory() as name:

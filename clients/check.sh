@@ -1,12 +1,13 @@
 #!/usr/bin/env bash
 # Tests what runs outside the kit, over the built program: the client, the shell, each stored dialogue, the clinic, TLS in front of a
-# server, recorded runs of the example scripts, journals in files, ranges of keys beside passes, transactions of many writes, and packages.
+# server, recorded runs of the example scripts, journals and databases in files, the service, ranges of keys beside passes, transactions of
+# many writes, backups, and packages.
 #
 #   clients/check.sh      the variable IFDB names another program than crates/ifdb/out/ifdb
 #
 # Names what failed, and says at the end how many passed. Exit statuses: 0 all passed, 1 something didn't, 69 nothing was tried: python3
 # is missing or older than 3.9, or the program isn't built. What wants stunnel, openssl, pip,
-# git or dpkg-deb is left out where that is missing.
+# git, dpkg-deb or systemd's tools is left out where that is missing.
 set -euo pipefail
 
 readonly NOT_HERE=69
@@ -43,7 +44,9 @@ try python3 -m unittest discover -s clients/python
 mapfile -t dialogues < <(find examples -name '*.dialogue' ! -name web.dialogue | LC_ALL=C sort)
 try python3 clients/python/dialogue.py "${dialogues[@]}"
 try examples/tls/try.sh
-for test in clinic traces kept ranges many; do try python3 "tests/$test.py"; done
+for test in clinic traces kept hosted service ranges many; do try python3 "tests/$test.py"; done
+try python3 tests/host_kills.py --kills 3 --clients 4 --life 0.3 --every 25
+try python3 examples/backup/try.py
 try tests/package.sh
 echo "clients: $passed passed, $failed failed"
 ((failed == 0))

@@ -1,8 +1,12 @@
 #!/usr/bin/env python3
-"""Plays the browsers of `web.dialogue` against the clinic's web application over the built program, and compares what they are
-told, and what the log tells, with what stands there. Then has a crowd of browsers ask side by side, none of whom may be refused.
+"""Plays the browsers of `web.dialogue` against the clinic's web application over a database in a file, by the built program, and
+compares what they are told, and what the log tells, with what stands there. Then has a crowd of browsers ask side by side, none of
+whom may be refused. Then kills the server while browsers ask, starts it again over its file and at its port, and looks whether the
+application, which went on, shows all that they had been told was done.
 
     tests/clinic.py [--update]      stores what was told
+
+The status is 0 if all was so, 1 if not, and 69 if the program has no command `host`.
 """
 
 from __future__ import annotations
@@ -12,7 +16,9 @@ import concurrent.futures
 import html.parser
 import pathlib
 import sys
+import tempfile
 import threading
+import time
 import urllib.error
 import urllib.request
 from typing import List, Sequence, Tuple
@@ -25,6 +31,11 @@ import dialogue  # noqa: E402
 import ifdb  # noqa: E402
 import program  # noqa: E402
 import start  # noqa: E402
+
+
+NOT_HERE = 69
+MOST = 2_000
+"""How often browsers ask at most, up to the kill."""
 
 
 class Text(html.parser.HTMLParser):
@@ -77,6 +88,33 @@ def refused_in_a_crowd(browsers: Browsers) -> int:
     return sum(status != "200" for status in replies)
 
 
+def mails(browsers: Browsers, name: str) -> List[str]:
+    """The mails that somebody's home page shows."""
+    page = browsers.ask(name, "GET /")
+    return page[page.index("  number | text") + 1 :]
+
+
+def wrong_behind_a_kill(browsers: Browsers, database: program.Server, file: pathlib.Path) -> List[str]:
+    """What is otherwise than it has to be once the server was killed while ann's browsers asked, each time for one mail more, and was
+    started again."""
+    before, bobs = mails(browsers, "ann"), browsers.ask("bob", "GET /")
+    with concurrent.futures.ThreadPoolExecutor(4) as crowd:
+        asked = [crowd.submit(browsers.ask, "ann", "GET /visit?of=ann&id=10") for _ in range(MOST)]
+        while sum(it.done() for it in asked) < 20:
+            time.sleep(0.01)
+        database.stop()
+        waiting = [it for it in asked if not it.cancel()]
+    done = sum(it.result()[0] == "200" for it in waiting)
+    with program.Server(command=("host", "--file", file), port=database.port):
+        wrong = ["a second start made a clinic"] if start.start(database.port) else []
+        behind = mails(browsers, "ann")
+        if behind[: len(before)] != before or not done <= len(behind) - len(before) <= done + 4:
+            wrong.append(f"ann had {len(before)} mails, was told of {done} more, and has {len(behind)}")
+        if browsers.ask("bob", "GET /") != bobs:
+            wrong.append("bob's page is another")
+    return wrong
+
+
 def let_eve_in(port: int) -> None:
     """What anybody may do who reaches the port: makes a principal, and calls it a doctor."""
     with ifdb.connect(port, "admin", "admin", timeout=program.PATIENCE) as admin:
@@ -89,18 +127,27 @@ def main(words: Sequence[str]) -> int:
     if list(words) not in ([], ["--update"]):
         print(__doc__, file=sys.stderr)
         return 2
+    if not program.can_host():
+        print(f"clinic: nothing was tried: {program.path()} isn't there, or has no command host", file=sys.stderr)
+        return NOT_HERE
     log: List[str] = []
-    with program.Server() as database:
-        start.start(database.port)
-        let_eve_in(database.port)
-        with app.serve(database.port, 0, log.append) as web:
-            threading.Thread(target=web.serve_forever).start()
-            browsers = Browsers(web.server_port, log)
-            differing = dialogue.differs(CLINIC / "web.dialogue", browsers.ask, update=bool(words))
-            refused = refused_in_a_crowd(browsers)
-            web.shutdown()
+    with tempfile.TemporaryDirectory(prefix="ifdb-clinic-") as folder:
+        file = pathlib.Path(folder) / "clinic"
+        with program.Server(command=("host", "--file", file)) as database:
+            start.start(database.port)
+            let_eve_in(database.port)
+            with app.serve(database.port, 0, log.append) as web:
+                threading.Thread(target=web.serve_forever).start()
+                try:
+                    browsers = Browsers(web.server_port, log)
+                    differing = dialogue.differs(CLINIC / "web.dialogue", browsers.ask, update=bool(words))
+                    refused = refused_in_a_crowd(browsers)
+                    wrong = wrong_behind_a_kill(browsers, database, file)
+                finally:
+                    web.shutdown()
     print(f"the clinic's web dialogue {'differs' if differing else 'is as stored'}; {refused} of 20 requests in a crowd failed")
-    return 1 if differing or refused else 0
+    print(f"behind a kill: {'; '.join(wrong) or 'all that was told is there'}")
+    return 1 if differing or refused or wrong else 0
 
 
 if __name__ == "__main__":

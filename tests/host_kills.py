@@ -1,19 +1,22 @@
 #!/usr/bin/env python3
 """Whether what `ifdb host` acknowledges is there after it was killed, and what it makes of a file that is cut or changed.
 
-    tests/host_kills.py [--kills N] [--clients 1,4,63] [--every N] [--seed S] [--folder DIR]
+    tests/host_kills.py [--kills N] [--clients 1,4,63] [--life SECONDS] [--every N] [--full] [--seed S] [--folder DIR]
 
 The variable IFDB names another program than crates/ifdb/out/ifdb.
 
 Three parts, each over a file of its own in DIR, a new folder if it isn't named:
 
 - **Kills.** Each round starts the program over the same file and looks at what is there. Then clients, as many as the list says by
-  turns, insert numbered rows, every other one at a secret label, and move amounts between accounts in transactions, until the program
-  gets SIGKILL at a random moment; at times that is while it starts. The next round has to find every row that was acknowledged, of
+  turns, insert numbered rows, every other one at a secret label, and move amounts between accounts in transactions, and one more client
+  looks at what they do, until the program gets SIGKILL at a random moment, SECONDS after their start at most; at times that is while it
+  starts. The next round has to find every row that was acknowledged to anybody or told to who looked, of
   what was sent and not answered at most the last of each client, nothing else, and on each account what the moves that are there leave.
-- **Damage.** A small file is cut at each byte, and each byte of it is changed, or each Nth one. The program has to refuse it with status 8 and leave it as
-  it is, or to show what was there after one of its steps: all of those before the damage at least.
-- **Two at once.** A second start over a file that is served ends with a status other than 0, and the first one goes on.
+- **Damage.** A small file is cut at each byte, and each byte of it is changed, or each Nth one. The program has to refuse it with status
+  8 and leave it as it is, or to show what was there after one of its steps: all of those before the damage at least.
+- **Full disks**, where `--full` stands, for root alone. A tmpfs of 64 KiB is filled by four clients, and one more looks: the program
+  ends all their connections, and itself with status 7. A start over the full disk has to tell all that was acknowledged or told, and
+  nothing that wasn't sent, and once there is room again the database goes on.
 
 The status is 1 where something was lost, 0 where not, and 69 where nothing was tried: the program isn't there, or has no such command.
 """
@@ -34,11 +37,9 @@ sys.path.append(str(pathlib.Path(__file__).resolve().parents[1] / "clients/pytho
 import program  # noqa: E402
 
 NOT_HERE = 69
-DAMAGED = 8
+DISK_FAULT, DAMAGED = 7, 8
 HELLO = "HELLO admin KEY 'admin'"
 ACCOUNTS, AMOUNT = 10, 1000
-LONGEST_LIFE = 0.25
-"""Seconds at most from the clients' start to the kill."""
 KILLED_EARLY = 0.15
 """In what part of the rounds the program is killed while it starts."""
 
@@ -101,17 +102,20 @@ class Client(threading.Thread):
         try:
             with program.connected(self._port) as session:
                 session.answer(HELLO)
-                if self._client % 2:
-                    session.answer("SET LABEL (secret)")
-                while True:
-                    if self._client % 2 or self._rng.random() < 0.5:
-                        self._insert(session)
-                    else:
-                        self._move(session)
+                self._work(session)
         except (program.Ended, OSError):
             pass  # (of the kill)
         except program.Refused as refusal:
             self.fault = str(refusal)
+
+    def _work(self, session: program.Session) -> None:
+        if self._client % 2:
+            session.answer("SET LABEL (secret)")
+        while True:
+            if self._client % 2 or self._rng.random() < 0.5:
+                self._insert(session)
+            else:
+                self._move(session)
 
     def _number(self) -> int:
         """A number that the client has given to nothing yet. Each client counts for itself."""
@@ -144,6 +148,20 @@ class Client(threading.Thread):
         self.done.append(work)
 
 
+class Reader(Client):
+    """A client that only looks: whatever it is told has to be there behind the kill, also what nobody else was told yet."""
+
+    def _work(self, session: program.Session) -> None:
+        session.answer("SET LABEL (secret)")
+        begun = dict(self._numbers)
+        while True:
+            client = self._rng.choice(list(self._numbers) or [0])
+            newer = f"WHERE client = {client} AND number > {begun.get(client, 0)}"
+            self.done += [Entry(*map(int, row)) for row in told(session, f"SELECT client, number FROM entry {newer}")]
+            moves = told(session, f"SELECT client, number, source, target, amount FROM move {newer}")
+            self.done += [Move(*map(int, row)) for row in moves]
+
+
 class Ledger:
     """What has to be there, over all rounds."""
 
@@ -152,6 +170,8 @@ class Ledger:
         self.sent_last: Set[Work] = set()
         """What was sent and not answered in the last round."""
         self.numbers: Counter[int] = Counter()
+        self.looked = 0
+        """How many rows were told to who looked."""
         self.kept_unanswered = 0
 
     def note(self, clients: Sequence[Client]) -> None:
@@ -160,6 +180,7 @@ class Ledger:
             if client.fault:
                 raise Lost(client.fault)
             self.there.update(client.done)
+            self.looked += len(client.done) if isinstance(client, Reader) else 0
             if client.unanswered:
                 self.sent_last.add(client.unanswered)
 
@@ -209,13 +230,19 @@ def killed_early(file: pathlib.Path, rng: random.Random) -> None:
         process.kill()
 
 
-def try_kills(file: pathlib.Path, kills: int, sizes: Sequence[int], rng: random.Random) -> str:
+def crowd(port: int, size: int, ledger: Ledger, rng: random.Random) -> List[Client]:
+    """So many clients, and one who looks."""
+    kinds = [Client] * size + [Reader]
+    return [kind(port, client, ledger.numbers, rng.randrange(2**32)) for client, kind in enumerate(kinds)]
+
+
+def try_kills(file: pathlib.Path, kills: int, sizes: Sequence[int], life: float, rng: random.Random) -> str:
     """Kills the program so many times. What is to be told of it."""
     ledger = Ledger()
     slowest = 0.0
     for round in range(kills + 1):
         begun = time.monotonic()
-        with host(file, workers=max(sizes) + 1) as server:
+        with host(file, workers=min(max(sizes) + 1, 64)) as server:
             slowest = max(slowest, time.monotonic() - begun)
             with program.connected(server.port) as session:
                 session.answer(HELLO)
@@ -225,10 +252,10 @@ def try_kills(file: pathlib.Path, kills: int, sizes: Sequence[int], rng: random.
                 ledger.check(session)
             if round == kills:
                 break
-            clients = [Client(server.port, it, ledger.numbers, rng.randrange(2**32)) for it in range(sizes[round % len(sizes)])]
+            clients = crowd(server.port, sizes[round % len(sizes)], ledger, rng)
             for client in clients:
                 client.start()
-            time.sleep(rng.uniform(0, LONGEST_LIFE))
+            time.sleep(rng.uniform(0, life))
             server.stop()
             for client in clients:
                 client.join()
@@ -238,7 +265,7 @@ def try_kills(file: pathlib.Path, kills: int, sizes: Sequence[int], rng: random.
     sent = sum(ledger.numbers.values())
     return (
         f"{kills} kills: {len(ledger.there):,} commits of {sent:,} tried are there, {ledger.kept_unanswered} of them unanswered before the"
-        f" kill; {file.stat().st_size:,} bytes, and {slowest:.2f} s for the slowest start"
+        f" kill; {ledger.looked:,} rows were told to who looked; {file.stat().st_size:,} bytes, and {slowest:.2f} s for the slowest start"
     )
 
 
@@ -333,46 +360,68 @@ def try_damage(folder: pathlib.Path, every: int, rng: random.Random) -> str:
     return f"{tried}: {', '.join(f'{count} {how}' for how, count in sorted(came.items()))}"
 
 
-# ---- Two at once
+# ---- Full disks
 
 
-def try_two(file: pathlib.Path) -> str:
-    with host(file, workers=2) as first, program.connected(first.port) as session:
-        session.answer(HELLO)
-        session.answer("CREATE TABLE entry (id INT, PRIMARY KEY (id))")
-        try:
-            host(file, workers=1, quiet=True).stop()
-        except program.NotServing as refusal:
-            status = refusal.status
-        else:
-            raise Lost("two programs serve one file")
-        if status == 0:
-            raise Lost("the second start ended with status 0")
-        session.answer("INSERT INTO entry VALUES (1)")
-    with host(file, workers=1) as again, program.connected(again.port) as session:
-        session.answer(HELLO)
-        if told(session, "SELECT id FROM entry") != [["1"]]:
-            raise Lost("what the first one kept isn't there")
-    return f"a second start over a served file ended with status {status}"
+def try_full(folder: pathlib.Path, rng: random.Random) -> str:
+    """Fills a small disk. What is to be told of it."""
+    folder.mkdir()
+    mounted = ["mount", "-t", "tmpfs", "-o", "size=64k", "ifdb-host-kills", str(folder)]
+    subprocess.run(mounted, check=True)
+    try:
+        return fill(folder, rng)
+    finally:
+        subprocess.run(["umount", str(folder)], check=True)
+
+
+def fill(folder: pathlib.Path, rng: random.Random) -> str:
+    file, ledger = folder / "log", Ledger()
+    with host(file, workers=5) as server:
+        with program.connected(server.port) as session:
+            session.answer(HELLO)
+            for request in SETTING:
+                session.answer(request)
+            session.answer("BYE")
+        clients = crowd(server.port, 4, ledger, rng)
+        for client in clients:
+            client.start()
+        for client in clients:
+            client.join()
+        ledger.note(clients)
+        if server.status() != DISK_FAULT:
+            raise Lost(f"it ended with status {server.status()}")
+    size = file.stat().st_size
+    for room in ("64k", "1m"):
+        subprocess.run(["mount", "-o", f"remount,size={room}", str(folder)], check=True)
+        with host(file, workers=1) as server, program.connected(server.port) as session:
+            session.answer(HELLO)
+            session.answer("SET LABEL (secret)")
+            ledger.check(session)
+            if room == "1m":
+                session.answer("INSERT INTO entry VALUES (1000, 1)")
+    return f"a disk that was full at {size:,} bytes: {len(ledger.there):,} commits are there, {ledger.kept_unanswered} of them unanswered"
 
 
 def main() -> int:
     words = argparse.ArgumentParser(description=__doc__, formatter_class=argparse.RawDescriptionHelpFormatter)
     words.add_argument("--kills", type=int, default=300)
     words.add_argument("--clients", type=lambda text: [int(it) for it in text.split(",")], default=[1, 4, 63])
+    words.add_argument("--life", type=float, default=0.5)
     words.add_argument("--every", type=int, default=1)
+    words.add_argument("--full", action="store_true")
     words.add_argument("--seed", type=int, default=1)
     words.add_argument("--folder", type=pathlib.Path)
     given = words.parse_args()
-    if not program.path().is_file() or b"--file" not in program.run("host").written:
+    if not program.can_host():
         print(f"host_kills: nothing was tried: {program.path()} isn't there, or has no command host", file=sys.stderr)
         return NOT_HERE
     rng = random.Random(given.seed)
     folder: pathlib.Path = given.folder or pathlib.Path(tempfile.mkdtemp(prefix="ifdb-host-"))
     try:
-        print(try_two(folder / "two"), flush=True)
+        if given.full:
+            print(try_full(folder / "full", rng), flush=True)
         print(try_damage(folder, given.every, rng), flush=True)
-        print(try_kills(folder / "kills", given.kills, given.clients, rng), flush=True)
+        print(try_kills(folder / "kills", given.kills, given.clients, given.life, rng), flush=True)
     except Lost as lost:
         print(f"LOST: {lost} (seed {given.seed}, {folder})")
         return 1

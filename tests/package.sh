@@ -32,6 +32,7 @@ mkdir "$work/deb" "$work/tar"
 dpkg-deb -x "$work"/once/*.deb "$work/deb"
 tar -xzf "$work"/once/*.tar.gz -C "$work/tar" --strip-components=1
 diff -r "$work/deb" "$work/tar" >/dev/null || failed "the two packages differ"
+dpkg-deb --info "$work"/once/*.deb conffiles | grep -qx /etc/ifdb/host.conf || failed "settings would be lost at an update"
 for there in "$work/deb/usr" "$work/tar/usr"; do
   cmp -s "$program" "$there/bin/ifdb" || failed "the program is another"
   doc=$there/share/doc/ifdb
@@ -39,6 +40,7 @@ for there in "$work/deb/usr" "$work/tar/usr"; do
   (cd / && python3 "$there/bin/ifdb-shell" --help) | grep -q '^usage: ifdb-shell' || failed "the shell doesn't run"
   grep -q "^program  $(sha256sum <"$program" | cut -d' ' -f1)$" "$doc/PROVED" || failed "PROVED has another sum"
   grep -q "^commit   $(git rev-parse HEAD)" "$doc/PROVED" || failed "PROVED has another commit"
+  [ -x "$there/lib/ifdb/host" ] || failed "what the service runs isn't there"
   for section in 1 5; do gzip -t "$there/share/man/man$section/ifdb.$section.gz" || failed "the manual isn't there"; done
 done
 echo "package: all passed"

@@ -73,6 +73,11 @@ def timed(*words: Word, given: bytes = b"") -> Timed:
     return Timed(written, clock, after.ru_utime + after.ru_stime - before.ru_utime - before.ru_stime)
 
 
+def can_host() -> bool:
+    """Whether the program is there, and has the command `host`."""
+    return path().is_file() and b"--file" in run("host").written
+
+
 # ---- Scripts and their replies
 
 
@@ -222,16 +227,31 @@ class NotServing(OSError):
 
 
 class Server:
-    """`ifdb serve`, or another command that serves, at a free port, until the end of the `with` block."""
+    """`ifdb serve`, or another command that serves, until the end of the `with` block."""
 
     def __init__(
-        self, workers: int = 8, links: int = 1_000_000, limit: int = 2**30, command: Sequence[Word] = ("serve",), quiet: bool = False
+        self,
+        workers: int = 8,
+        links: int = 1_000_000,
+        limit: int = 2**30,
+        command: Sequence[Word] = ("serve",),
+        quiet: bool = False,
+        largest_file: Optional[int] = None,
+        port: Optional[int] = None,
     ) -> None:
-        """Waits until it listens, and raises NotServing where it doesn't. If `quiet`, what it says on standard error is dropped."""
-        self.port = free_port()
+        """Waits until it listens, and raises NotServing where it doesn't. If `quiet`, what it says on standard error is dropped. None
+        of its files grows past `largest_file` bytes: a write past them fails. It serves at a free port, or at `port`."""
+        self.port = free_port() if port is None else port
         words = [f"--port={self.port}", f"--workers={workers}", f"--links={links}", f"--limit={limit}"]
         said = subprocess.DEVNULL if quiet else None
-        self._process = subprocess.Popen([path(), *command, *words], stdout=subprocess.PIPE, stderr=said, text=True)
+        self._process = subprocess.Popen(
+            [path(), *command, *words],
+            stdout=subprocess.PIPE,
+            stderr=said,
+            text=True,
+            restore_signals=largest_file is None,  # (Python sets aside the signal that such a write sends)
+            preexec_fn=None if largest_file is None else lambda: resource.setrlimit(resource.RLIMIT_FSIZE, (largest_file,) * 2),
+        )
         self.pid = self._process.pid
         assert self._process.stdout is not None
         told = self._process.stdout.readline()

@@ -1,8 +1,10 @@
 #!/usr/bin/env python3
-"""The start of a clinic's server: tags, principals, tables, and the view for the bills. To be run once behind each start of the
-server, which keeps nothing from one run to the next.
+"""Begins a clinic in a new database: tags, principals, tables, the view for the bills, and three visits. Where a clinic is there
+already, as behind each later start of a server over its file, nothing is changed.
 
     examples/clinic/start.py PORT [KEY]      the key of admin is 'admin' where none is given
+
+Says on standard error what came of it. The status is 0 if there is a clinic now, and 1 if not.
 """
 
 from __future__ import annotations
@@ -50,25 +52,58 @@ def make_people(cursor: ifdb.Cursor) -> None:
     cursor.execute("GRANT patients TO grey")
 
 
-def start(port: int, admin_key: str = "admin") -> None:
-    """Makes all that the clinic begins with.
+class HalfBegun(Exception):
+    """A clinic was begun, and isn't done. Nobody else has the key to go on."""
+
+    def __init__(self) -> None:
+        super().__init__("a start script has begun here, and isn't done. If it was stopped, its key is gone: take a new file")
+
+
+def is_begun(admin: ifdb.Connection) -> bool:
+    """Whether there is a clinic. Its people are noted last, in one transaction, so they are there only where all else is."""
+    try:
+        return bool(admin.cursor().execute("SELECT name FROM person").fetchall())
+    except ifdb.ProgrammingError as error:
+        if error.name != "UnknownName":
+            raise
+        return False
+    finally:
+        admin.rollback()
+
+
+def start(port: int, admin_key: str = "admin") -> bool:
+    """Makes all that the clinic begins with, where it isn't there, and returns whether it made it.
 
     Whoever makes a tag holds it, and the key of `admin` is known to all. So a principal makes the tags whose key is drawn here and
-    kept nowhere: after the start nobody is that principal again."""
+    kept nowhere: after the start nobody is that principal again. Raises HalfBegun where an earlier start was stopped in between."""
     key = secrets.token_urlsafe()
     with ifdb.connect(port, "admin", admin_key, timeout=30) as admin:
-        admin.cursor().execute("CREATE PRINCIPAL clinic KEY ?", (key,))
+        if is_begun(admin):
+            return False
+        try:
+            admin.cursor().execute("CREATE PRINCIPAL clinic KEY ?", (key,))
+        except ifdb.ProgrammingError as error:
+            if error.name != "Taken":
+                raise
+            raise HalfBegun from error
     with ifdb.connect(port, "clinic", key, timeout=30) as clinic:
         cursor = clinic.cursor()
         make_people(cursor)
         for table in TABLES:
             cursor.execute(table)
-        roles = {**dict.fromkeys(PATIENTS, "patient"), **OTHERS}
-        cursor.executemany("INSERT INTO person VALUES (?, ?)", list(roles.items()))
     with ifdb.connect(port, "grey", key_of("grey"), timeout=30) as grey:
         for patient, visits in VISITS.items():
             with grey.at(patient):
                 grey.cursor().executemany("INSERT INTO visit VALUES (?, ?, ?, ?)", visits)
+    note_people(port, key)
+    return True
+
+
+def note_people(port: int, key: str) -> None:
+    """Notes who is who, all in one transaction."""
+    roles = {**dict.fromkeys(PATIENTS, "patient"), **OTHERS}
+    with ifdb.connect(port, "clinic", key, timeout=30) as clinic:
+        clinic.cursor().executemany("INSERT INTO person VALUES (?, ?)", list(roles.items()))
 
 
 def main(words: Sequence[str]) -> int:
@@ -76,10 +111,11 @@ def main(words: Sequence[str]) -> int:
         print(__doc__, file=sys.stderr)
         return 2
     try:
-        start(int(words[0]), *words[1:])
-    except ifdb.Error as error:
+        made = start(int(words[0]), *words[1:])
+    except (ifdb.Error, HalfBegun) as error:
         print(f"the clinic isn't begun: {error}", file=sys.stderr)
         return 1
+    print("the clinic is begun" if made else "the clinic is there, and stays as it is", file=sys.stderr)
     return 0
 
 
