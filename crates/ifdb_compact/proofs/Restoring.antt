@@ -30,8 +30,9 @@ use Rattle.ifdb_db.specs.Reading.{read_line}
 use Rattle.ifdb_restart.specs.Laws.{AreTextsOf}
 use Rattle.ifdb_restart.specs.Restarted.{log_behind, log_of, with_record}
 use Rattle.ifdb_restart.proofs.FitLogs.{none_behind, restored_fit}
-use Rattle.ifdb_compact.specs.Texts.{change_texts, is_change, rows_behind, with_writes}
-use Rattle.ifdb_compact.specs.Compacted.{AreTextsOfRows, CompactedLogsAnswerAlike, CompactedTextsRestore, IsCompacted, commits_each, records_each, rows_of}
+use Rattle.ifdb_extract.specs.Texts.{change_texts, is_change, rows_behind, with_writes}
+use Rattle.ifdb_extract.specs.Extracts.{AreTextsOfRows, records_each, rows_of}
+use Rattle.ifdb_compact.specs.Compacted.{CompactedLogsAnswerAlike, CompactedTextsRestore, IsCompacted, commits_each}
 use Rattle.ifdb_compact.proofs.Older.{added_fits, are_older, is_behind_parents, row_behind_parents}
 use Rattle.ifdb_compact.proofs.Pieces.{AreInOrder, piece_passes}
 

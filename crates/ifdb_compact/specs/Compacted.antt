@@ -1,30 +1,18 @@
 -- Compacted logs: all public changes in their order, and then all rows in the order of their slots, some at a time.
-use Rattle.std.specs.Prelude.{◌≡◌, ℕ, List, [], ◌∷◌, ◌++◌, map, Option, Some}
-use Rattle.ifdb_disk.specs.Clock.{Clock}
-use Rattle.ifdb_log.specs.Reading.{HoldsTexts}
-use Rattle.ifdb_redo.specs.declared.record.RedoRecord.{RedoRecord}
-use Rattle.ifdb_redo.specs.declared.record.RedoRecord.TheVariants as redo
+use Rattle.std.specs.Prelude.{◌≡◌, ℕ, List, [], ◌++◌, map, Some}
 use Rattle.ifdb_row.specs.declared.row.Row.{Row}
 use Rattle.ifdb_model.specs.Log.{Entry, commits, content_of}
 use Rattle.ifdb_model.specs.Step.{Reader}
 use Rattle.ifdb_model.specs.Run.{Step}
 use Rattle.ifdb_restore.specs.Same.{LeavesSame, RunAlike}
 use Rattle.ifdb_restore.specs.Shorter.{changes_of, writing}
-use Rattle.ifdb_restart.specs.Laws.{AreTextsOf}
 use Rattle.ifdb_restart.specs.Restarted.{log_of}
-use Rattle.ifdb_compact.specs.Texts.{Extracted, change_texts, rows_behind}
+use Rattle.ifdb_extract.specs.Texts.{change_texts, rows_behind}
+use Rattle.ifdb_extract.specs.Extracts.{AreTextsOfRows, rows_of}
 
--- the rows of some parts, in their order
-abbrev pub rows_of : List (List Row) → List Row
-rows_of [] = []
-rows_of (rows ∷ parts) = rows ++ rows_of parts
-
--- a commit of the rows of each part, and its record
+-- a commit of the rows of each part
 abbrev pub commits_each : List (List Row) → List Entry
 commits_each parts = map (λ rows. commits (writing rows)) parts
-
-abbrev pub records_each : List (List Row) → List RedoRecord
-records_each parts = map (λ rows. redo.Commit (writing rows)) parts
 
 -- a log with the public changes of another, and then commits of all its rows; it leaves the same
 pub record IsCompacted (log short : List Entry) : Type 0 where
@@ -37,12 +25,6 @@ pub record IsCompacted (log short : List Entry) : Type 0 where
 abbrev pub RestoreCompacted : List (List ℕ) → List Entry → Type 0
 RestoreCompacted texts log = (short : List Entry) × (log_of texts ≡ Some short) × IsCompacted log short
 
--- some texts are commits of all these rows, some rows at a time
-pub record AreTextsOfRows (texts : List (List ℕ)) (rows : List Row) : Type 0 where
-  pub parts : List (List Row)
-  pub all : rows_of parts ≡ rows
-  pub are : AreTextsOf texts (records_each parts)
-
 -- Where texts restore a log, those of them that are public changes, with commits of all rows behind them, restore the compacted log.
 abbrev pub CompactedTextsRestore : Type 0
 CompactedTextsRestore = (texts more : List (List ℕ)) (log : List Entry) → log_of texts ≡ Some log → AreTextsOfRows more (rows_behind [] texts)
@@ -51,12 +33,3 @@ CompactedTextsRestore = (texts more : List (List ℕ)) (log : List Entry) → lo
 -- whoever comes later is told the same over both
 abbrev pub CompactedLogsAnswerAlike : Type 0
 CompactedLogsAnswerAlike = (read : Reader) (log short : List Entry) (steps : List Step) → IsCompacted log short → RunAlike read short log [] steps
-
--- ---- on a disk
-
--- a disk holds the public changes of an extract, and then commits of all its rows, and no more
-pub record HoldsExtract (t : Option Clock) (x : Extracted) : Type 0 where
-  pub more : List (List ℕ)
-  pub at : ℕ
-  pub rows : AreTextsOfRows more x.rows
-  pub holds : HoldsTexts t (x.changes ++ more) at

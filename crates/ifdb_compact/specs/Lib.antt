@@ -1,6 +1,1 @@
-pub mod Texts
 pub mod Compacted
-pub mod Causes
-pub mod Writing
-pub mod Walks
-pub mod Worth

@@ -7,7 +7,7 @@ use ifdb_folder::Folder;
 use ifdb_io::Failed;
 use std::fs::File;
 use std::io::ErrorKind;
-use std::os::unix::fs::OpenOptionsExt;
+use std::os::unix::fs::{MetadataExt, OpenOptionsExt};
 use std::path::Path;
 use std::rt::Files;
 use std::{fs, io};
@@ -20,7 +20,8 @@ const OWNER_ALONE: u32 = 0o600;
 /// `open` makes the file where there is none, for its owner alone (mode 0600), and syncs the folder, so that its entry is there after
 /// a crash. It locks the file against each other program that opens it so, up to `close` or the end
 /// of the program. It fails, and the count of the shelf's faults rises, where one of these fails: the
-/// file or its folder can't be opened, or another program has the lock.
+/// file or its folder can't be opened, another program has the lock, or another file has taken the name
+/// before the lock was had.
 #[derive(Drop)]
 pub struct FileShelf<'a, R> {
     rt: &'a R,
@@ -44,11 +45,18 @@ fn open_alone<R: Files<File = File>>(rt: &R, name: &str) -> io::Result<File> {
         .create(true)
         .mode(OWNER_ALONE)
         .open(rt, name)?;
-    if file.try_lock().is_err() {
+    if file.try_lock().is_err() || !has_name(rt, &file, name)? {
         return Err(io::Error::from(ErrorKind::WouldBlock));
     }
     folder_of(rt, name)?.sync_all()?;
     Ok(file)
+}
+
+// Whether a file still has the name: another one may have taken its place since it was opened.
+pub(crate) fn has_name<R: Files<File = File>>(rt: &R, file: &File, name: &str) -> io::Result<bool> {
+    let opened = file.metadata()?;
+    let named = fs::metadata(rt, name)?;
+    Ok(opened.dev() == named.dev() && opened.ino() == named.ino())
 }
 
 // The folder that a path's entry stands in.

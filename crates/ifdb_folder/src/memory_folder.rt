@@ -1,5 +1,6 @@
 // A folder in memory.
-ghost use Rattle.std.specs.Prelude.{◌≡◌, ◌∷◌, [], None, Some};
+ghost use Rattle.std.specs.Prelude.{◌≡◌, ◌≤◌, ◌∷◌, [], None, Some};
+ghost use Rattle.ifdb_io.specs.Causes.{Rose};
 ghost use Rattle.ifdb_io.specs.Memory.{counted};
 ghost use Rattle.ifdb_folder.specs.Folders.{disk_of, with_disk};
 
@@ -55,6 +56,7 @@ impl MemoryFolder {
     // Counts a call, and tells whether it is to fail.
     fn fails(&mut self) -> bool
         ensures state { self.new ≡ record self.old { calls = counted self.old.calls } }
+        ensures faults { self.new.faults ≡ self.old.faults }
     {
         let call = self.calls;
         self.calls = call.saturating_add(1);
@@ -64,6 +66,8 @@ impl MemoryFolder {
     // Counts a fault.
     fn failed(&mut self) -> Failed
         ensures state { self.new ≡ record self.old { faults = counted self.old.faults } }
+        ensures later { self.old.faults ≤ self.new.faults }
+        ensures rose { Rose self.old.faults self.new.faults }
     {
         self.faults = self.faults.saturating_add(1);
         Failed
@@ -74,6 +78,7 @@ impl MemoryFolder {
         ensures disk { result ≡ disk_of name.now self.old.disks }
         ensures state { self.new
             ≡ record self.old { disks = with_disk name.now None self.old.disks } }
+        ensures faults { self.new.faults ≡ self.old.faults }
     {
         if self.first.name.is(name) {
             return self.first.disk.take();
@@ -86,8 +91,9 @@ impl MemoryFolder {
 
     // Lets a name have a disk, or none.
     fn put_named(&mut self, name: &str, disk: Option<MemoryDisk>)
-        ensures { self.new
+        ensures state { self.new
             ≡ record self.old { disks = with_disk name.now disk self.old.disks } }
+        ensures faults { self.new.faults ≡ self.old.faults }
     {
         if self.first.name.is(name) {
             self.first.disk = disk;
@@ -108,7 +114,6 @@ impl Folder for MemoryFolder {
 
     ghost faults = { λ f. f.faults };
 
-    #[tactic(auto, using(crate::proofs::Taken::none_taken))]
     fn take(&mut self, name: &str) -> Result<MemoryDisk, Failed> {
         if self.fails() {
             return Err(self.failed());

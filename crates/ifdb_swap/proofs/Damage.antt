@@ -16,13 +16,13 @@ use Rattle.ifdb_redo.specs.Reading.{record_of}
 use Rattle.ifdb_restart.specs.Restarted.{log_behind, log_of, with_record}
 use Rattle.ifdb_restart.proofs.FitLogs.{none_behind}
 use Rattle.ifdb_host.specs.Files.{IsFileOf, ShowsLog}
-use Rattle.ifdb_compact.specs.Texts.{HasBrokenAt}
+use Rattle.ifdb_extract.specs.Texts.{HasBrokenAt}
 
 abbrev some_or : {X : Type 0} → X → Option X → X
 some_or x None = x
 some_or x (Some y) = y
 
-same_some : {X : Type 0} (a b : X) → Some a ≡ Some b → a ≡ b
+pub same_some : {X : Type 0} (a b : X) → Some a ≡ Some b → a ≡ b
 same_some a b e = ap (some_or a) e
 
 behind_more : (o : Option (List Entry)) (texts more : List (List ℕ)) → log_behind o (texts ++ more) ≡ log_behind (log_behind o texts) more

@@ -16,19 +16,14 @@ use Rattle.ifdb_log.proofs.Fronts.{leaves_behind}
 use Rattle.ifdb_model.specs.Log.{Entry}
 use Rattle.ifdb_restart.specs.Restarted.{log_of}
 use Rattle.ifdb_host.specs.Files.{HoldsLog, IsFileOf, IsOldOrBare, IsTold, Restore, ShowsLog}
-use Rattle.ifdb_compact.specs.Texts.{Extracted, IsExtractOf, extract_of}
-use Rattle.ifdb_compact.specs.Compacted.{CompactedTextsRestore, HoldsExtract, IsCompacted}
-use Rattle.ifdb_compact.specs.Writing.{GoesOn}
-use Rattle.ifdb_swap.specs.Swapped.{Compacts, HoldsCompacted, HoldsFileOf, IsExtractFor, KeepsFile}
+use Rattle.ifdb_extract.specs.Texts.{Extracted, IsExtractOf, change_texts, extract_of}
+use Rattle.ifdb_extract.specs.Extracts.{AreTextsOfRows, HoldsExtract}
+use Rattle.ifdb_compact.specs.Compacted.{CompactedTextsRestore, IsCompacted}
+use Rattle.ifdb_extract.specs.Writing.{GoesOn}
+use Rattle.ifdb_swap.specs.Swapped.{HoldsCompacted, HoldsFileOf, IsExtractFor, KeepsFile}
+use Rattle.ifdb_swap.proofs.Damage.{same_some}
 use Rattle.ifdb_swap.proofs.Sizes.{head_same, sizes_same}
 use Rattle.ifdb_swap.proofs.Titles.{IsTitle, all_settled, front_and_rest, log_not_new, title_of, title_then}
-
-abbrev some_or : {X : Type 0} → X → Option X → X
-some_or x None = x
-some_or x (Some y) = y
-
-same_some : {X : Type 0} (a b : X) → Some a ≡ Some b → a ≡ b
-same_some a b e = ap (some_or a) e
 
 -- ---- files of no more than the title and a byte
 
@@ -51,7 +46,7 @@ bare_file texts log bytes image file short titled small =
 -- ---- moments
 
 -- what holds of the bytes at first, and of each image since, holds of the bytes now
-leaves_now : (b c : Clock) (P : List ℕ → Type 0) → P b.now.bytes → IsImage c.now c.now.bytes → Leaves (Some b) (Some c) P → P c.now.bytes
+pub leaves_now : (b c : Clock) (P : List ℕ → Type 0) → P b.now.bytes → IsImage c.now c.now.bytes → Leaves (Some b) (Some c) P → P c.now.bytes
 leaves_now b c P first present leaves = by leaves.0 leaves.1 leaves.2 where
   by : (states : List Shown) → c.now ∷ c.before ≡ states ++ (b.now ∷ b.before) → AllByRecursion (λ (s : Shown). (image : List ℕ) → IsImage s image → P image) states → P c.now.bytes
   by [] e all = subst (λ (s : Shown). P s.bytes) (sym (head_same c.now b.now c.before b.before e)) first
@@ -62,9 +57,9 @@ leaves_now b c P first present leaves = by leaves.0 leaves.1 leaves.2 where
 -- ---- the title is made, or looked at
 
 -- of a file with a log the title is only looked at
-pub entitled_keeps : (t u : Option Clock) → IsSettled IsLog u → Entitles t u → Leaves t u (IsOldOrMade t) → KeepsFile t u
-entitled_keeps None u titled kept moments texts log shows = absurd shows
-entitled_keeps (Some c) u titled kept moments texts log shows = leaves_weaker (Some c) u (IsOldOrMade (Some c)) (IsFileOf texts log) (λ image is. by image is) moments where
+pub entitled_keeps : (t u : Option Clock) → Leaves t u (IsOldOrMade t) → KeepsFile t u
+entitled_keeps None u moments texts log shows = absurd shows
+entitled_keeps (Some c) u moments texts log shows = leaves_weaker (Some c) u (IsOldOrMade (Some c)) (IsFileOf texts log) (λ image is. by image is) moments where
   by : (image : List ℕ) → IsImage c.now image ⊎ (IsNew c.now.bytes × IsNewOrTitle image) → IsFileOf texts log image
   by image (inl old) = subst (IsFileOf texts log) (sym (settled_only c.now.bytes image (subst (λ (s : Shown). IsImage s image) shows.0 old))) shows.1
   by image (inr new) = absurd (log_not_new c.now.bytes shows.1.titled new.0)
@@ -76,10 +71,6 @@ entitled_shows (Some c) (Some d) texts log titled kept moments shows = (titled.0
   by : (IsNew c.now.bytes × (d.now.bytes ≡ Rattle.ifdb_log.specs.Title.title)) ⊎ (d.now.bytes ≡ c.now.bytes) → IsFileOf texts log d.now.bytes
   by (inl new) = absurd (log_not_new c.now.bytes shows.1.titled new.0)
   by (inr same) = subst (IsFileOf texts log) (sym same) shows.1
-
-pub other_shows : (t : Option Clock) (texts : List (List ℕ)) (log : List Entry) → Now t (λ s. IsOther s.bytes) → ShowsLog t texts log → ⊥
-other_shows None texts log other shows = shows
-other_shows (Some c) texts log other shows = other.0 shows.1.titled
 
 pub keeps_on : (t u v : Option Clock) → KeepsFile t u → ((texts : List (List ℕ)) (log : List Entry) → ShowsLog t texts log → ShowsLog u texts log) → KeepsFile u v → KeepsFile t v
 keeps_on t u v first shows second texts log is = leaves_on t u v (IsFileOf texts log) (first texts log is) (second texts log (shows texts log is))
@@ -170,9 +161,9 @@ written_file n (Some b) (Some d) x told titled first last later holds =
 -- the file of an extract is that of the compacted log
 pub file_compacted : CompactedTextsRestore → (u : Option Clock) (x : Extracted) (log : List Entry) → IsExtractFor x log → HoldsFileOf u x → HoldsCompacted u log
 file_compacted restores u x log comes file =
-    let rows = subst (λ (y : Extracted). Rattle.ifdb_compact.specs.Compacted.AreTextsOfRows file.holds.more y.rows) comes.2 file.holds.rows in
+    let rows = subst (λ (y : Extracted). AreTextsOfRows file.holds.more y.rows) comes.2 file.holds.rows in
     let found = restores comes.0 file.holds.more log comes.1 rows in
-    let changes : x.changes ≡ Rattle.ifdb_compact.specs.Texts.change_texts comes.0 = ap (λ (y : Extracted). y.changes) comes.2 in
+    let changes : x.changes ≡ change_texts comes.0 = ap (λ (y : Extracted). y.changes) comes.2 in
     let texts = x.changes ++ file.holds.more in
     let is : log_of texts ≡ Some found.0 = ap (λ (l : List (List ℕ)). log_of (l ++ file.holds.more)) changes ∙ found.1 in
     record { texts = texts; short = found.0; holds = by u file.titled file.holds.holds is; compacted = found.2 }

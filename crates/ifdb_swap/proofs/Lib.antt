@@ -1,5 +1,8 @@
 mod Titles
 mod Sizes
-mod Files
 mod Damage
+mod Files
+mod Twice
+mod Deciding
 mod Names
+mod Swaps

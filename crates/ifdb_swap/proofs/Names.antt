@@ -1,10 +1,19 @@
 -- Names whose disks were taken, and what has them then.
 use Rattle.std.proofs.Common.{◌≡◌, ◌≢◌, ℕ, Bool, true, false, List, [], ◌∷◌, ◌∙◌, refl, sym, ap, cond}
 use Rattle.std.specs.Prelude.{Option, Some, None, bytes_eq}
+use Rattle.std.proofs.lemmas.Slice.Eq.{bytes_eq-Decides}
 use Rattle.ifdb_folder.specs.declared.named.Named.{Named}
 use Rattle.ifdb_folder.specs.Folders.{disk_of, is_named, with_disk}
 
+-- no name is two
+two_names : (n name other : List ℕ) (b : Bool) → bytes_eq n name ≡ b → bytes_eq n other ≡ true → other ≢ name → b ≡ false
+two_names n name other true is has apart = absurd (apart (sym ((bytes_eq-Decides n other).0 has) ∙ (bytes_eq-Decides n name).0 is))
+two_names n name other false is has apart = refl
+
 module _ {D : Type 0} where
+  not_both : (n : Named D) (name other : List ℕ) → is_named other n ≡ true → other ≢ name → is_named name n ≡ false
+  not_both n name other has apart = two_names n.name name other (is_named name n) refl has apart
+
   -- some entry has the name
   abbrev pub has_name : List ℕ → List (Named D) → Bool
   has_name name [] = false
@@ -33,3 +42,14 @@ module _ {D : Type 0} where
         → disk_of name (cond b (record n { disk = d } ∷ disks) (n ∷ with_disk name d disks)) ≡ d
     by true is k more = ap (λ b. cond b d (disk_of name disks)) is
     by false is k more = ap (λ b. cond b n.disk (disk_of name (with_disk name d disks))) is ∙ more k
+
+  -- another name keeps its disk
+  pub disk_kept : (name other : List ℕ) (d : Option D) (disks : List (Named D)) → other ≢ name → disk_of name (with_disk other d disks) ≡ disk_of name disks
+  disk_kept name other d [] apart = refl
+  disk_kept name other d (n ∷ disks) apart = by (is_named other n) refl (disk_kept name other d disks apart) where
+    by : (b : Bool) → is_named other n ≡ b → disk_of name (with_disk other d disks) ≡ disk_of name disks
+        → disk_of name (cond b (record n { disk = d } ∷ disks) (n ∷ with_disk other d disks)) ≡ disk_of name (n ∷ disks)
+    by true is more =
+        let none : is_named name n ≡ false = not_both n name other is apart in
+        ap (λ b. cond b d (disk_of name disks)) none ∙ sym (ap (λ b. cond b n.disk (disk_of name disks)) none)
+    by false is more = ap (cond (is_named name n) n.disk) more

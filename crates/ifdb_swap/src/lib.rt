@@ -1,12 +1,12 @@
-//! A database's file, compacted to another file, which can then take its place.
+//! A database of a folder, compacted in its place.
 #![tactic(auto)]
 
 mod compaction;
 mod fault;
 mod reading;
-mod swap;
+mod when;
 mod writing;
 
-pub use compaction::{Compaction, When, compact};
+pub use compaction::compact_in;
 pub use fault::CompactFault;
-pub use swap::{SwapFault, compact_in};
+pub use when::When;

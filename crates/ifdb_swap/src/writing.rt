@@ -1,11 +1,12 @@
 // The file of a compacted log.
-ghost use Rattle.std.specs.Prelude.{◌≡◌, OnOk};
+ghost use Rattle.std.specs.Prelude.{◌≡◌, ℕ, Err, OnOk};
+ghost use Rattle.ifdb_disk.specs.Clock.{Now};
 ghost use Rattle.ifdb_log.specs.Causes.{HasLogCause};
-ghost use Rattle.ifdb_log.specs.Title.{IsLog, IsSettled};
+ghost use Rattle.ifdb_log.specs.Title.{IsLog, IsOther, IsSettled};
 ghost use Rattle.ifdb_host.specs.Files.{IsTold};
 ghost use Rattle.ifdb_swap.specs.Swapped.{HoldsFileOf};
 
-use ifdb_compact::{Extract, WriteFault};
+use ifdb_extract::{Extract, WriteFault};
 use ifdb_disk::Disk;
 use ifdb_log::{Behind, LogFault, Origin, TITLE_SIZE, entitle};
 use std::alloc::Global;
@@ -22,6 +23,9 @@ pub(crate) struct Written<D> {
 pub(crate) fn write_log<D: Disk + Drop>(alloc: Global, extract: &Extract, disk: D) -> Written<D>
     ensures written { OnOk result.result (IsTold (D.tells disk)
         → HoldsFileOf (D.tells result.disk) extract.now) }
+    ensures other { result.result ≡ Err LogFault.NotALog
+        → Now (D.tells disk) (λ s. IsOther s.bytes) }
+    ensures sound { (at : ℕ) → result.result ≡ Err (LogFault.Damaged at) → ⊥ }
     ensures cause { HasLogCause (D.faults disk) (D.faults result.disk) result.result }
 {
     let mut disk = disk;
@@ -40,6 +44,8 @@ fn write_titled<B: Origin, D: Disk + Drop>(alloc: Global, extract: &Extract, dis
     requires titled { IsSettled IsLog (D.tells disk) }
     ensures written { OnOk result.result (IsTold (D.tells disk)
         → HoldsFileOf (D.tells result.disk) extract.now) }
+    ensures titled { result.result ≡ Err LogFault.NotALog → ⊥ }
+    ensures sound { (at : ℕ) → result.result ≡ Err (LogFault.Damaged at) → ⊥ }
     ensures cause { HasLogCause (D.faults disk) (D.faults result.disk) result.result }
 {
     let mut behind: Behind<B, D> = Behind::new(disk, TITLE_SIZE);

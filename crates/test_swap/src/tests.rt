@@ -5,7 +5,7 @@ use ifdb_folder::{Folder, MemoryFolder, Name, Named};
 use ifdb_journal::{Batch, RecordKind};
 use ifdb_log::{LogFault, Pieces};
 use ifdb_restart::{Restarted, restart};
-use ifdb_swap::{CompactFault, SwapFault, When, compact_in};
+use ifdb_swap::{CompactFault, When, compact_in};
 use ifdb_wire::Out;
 use std::alloc::Global;
 use std::test::Fail;
@@ -160,7 +160,7 @@ fn ended(
     alloc: Global,
     disk_fails: Vec<u64>,
     fails: Vec<u64>,
-) -> Result<Result<bool, SwapFault>, Fail> {
+) -> Result<Result<bool, CompactFault>, Fail> {
     let mut folder = folder_of(alloc, file(alloc)?, disk_fails, fails)?;
     let end = compact_in(alloc, &mut folder, DATABASE, SPARE, When::Always);
     let disk = folder.take(DATABASE)?;
@@ -174,7 +174,7 @@ fn ended(
 #[test]
 fn each_call_of_the_new_disk_fails(rt: HostRuntime) -> Result<(), Fail> {
     let alloc = rt.alloc();
-    let fault = Err(SwapFault::Compact(CompactFault::Write(LogFault::Disk)));
+    let fault = Err(CompactFault::Write(LogFault::Disk));
     // Seven calls make the title, and nine write the log.
     for call in 0..16 {
         let end = ended(alloc, Vec::from_array(alloc, [call])?, Vec::new(alloc))?;
@@ -188,7 +188,7 @@ fn each_call_of_the_folder_fails(rt: HostRuntime) -> Result<(), Fail> {
     let alloc = rt.alloc();
     for call in 0..3 {
         let end = ended(alloc, Vec::new(alloc), Vec::from_array(alloc, [call])?)?;
-        assert_eq!(rt; end, Err(SwapFault::Folder));
+        assert_eq!(rt; end, Err(CompactFault::Folder));
     }
     Ok(())
 }
@@ -199,10 +199,7 @@ fn other_files_stay(rt: HostRuntime) -> Result<(), Fail> {
     let text = Vec::from_slice(alloc, b"just a file\n")?;
     let mut folder = folder_of(alloc, text, Vec::new(alloc), Vec::new(alloc))?;
     let end = compact_in(alloc, &mut folder, DATABASE, SPARE, When::Always);
-    assert_eq!(rt;
-        end,
-        Err(SwapFault::Compact(CompactFault::Read(LogFault::NotALog)))
-    );
+    assert_eq!(rt; end, Err(CompactFault::Read(LogFault::NotALog)));
     let disk = folder.take(DATABASE)?;
     assert_eq!(rt; disk.bytes(), b"just a file\n".as_slice());
     Ok(())
