@@ -1,12 +1,12 @@
 -- A name that has no disk stays so.
-use Rattle.std.proofs.Common.{◌≡◌, ℕ, Bool, true, false, List, [], ◌∷◌, refl, ap, cond}
-use Rattle.std.specs.Prelude.{Option, None}
+use Rattle.std.proofs.Common.{◌≡◌, ℕ, Bool, true, false, List, [], ◌∷◌, refl, sym, ap, cond}
+use Rattle.std.specs.Prelude.{None}
 use Rattle.ifdb_folder.specs.declared.named.Named.{Named}
 use Rattle.ifdb_folder.specs.Folders.{disk_of, is_named, with_disk}
 
 module _ {D : Type 0} where
   none_of : (n : Named D) → n.disk ≡ None → record n { disk = None } ≡ n
-  none_of n e = λ i. record n { disk = e (~ i) }
+  none_of n e = sym (λ i. record n { disk = e i })
 
   pub none_taken : (name : List ℕ) (disks : List (Named D)) → disk_of name disks ≡ None → with_disk name None disks ≡ disks
   none_taken name [] e = refl
