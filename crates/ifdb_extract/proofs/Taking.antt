@@ -37,7 +37,7 @@ rows_more rows [] text = refl
 rows_more rows (s ∷ texts) text = rows_more (with_writes rows (record_of s)) texts text
 
 extract_more : (texts : List (List ℕ)) (text : List ℕ) → with_text (extract_of texts) text ≡ extract_of (texts ++ text ∷ [])
-extract_more texts text = λ i. record { changes = changes_more texts text (~ i); rows = rows_more [] texts text (~ i) }
+extract_more texts text = sym (λ i. record { changes = changes_more texts text i; rows = rows_more [] texts text i })
 
 -- ---- the loop
 

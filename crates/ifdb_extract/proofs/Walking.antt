@@ -1,6 +1,6 @@
 -- All rows, walked run by run.
 use Rattle.std.proofs.Common.{◌≡◌, ℕ, zero, suc, ◌-◌, ◌<◌, ◌+◌, Bool, true, false, List, [], ◌∷◌, ◌++◌, ◌∙◌, length, map, take, refl, sym, ap, subst, arith, cond, append_assoc, append-nil, length-append, Option, Some, None}
-use Rattle.std.specs.Prelude.{◌&&◌, not, nat_lt, slice_get}
+use Rattle.std.specs.Prelude.{◌&&◌, not, nat_lt, slice_get, Result, Ok, Err, IfOk}
 use Rattle.std.specs.List.{flat_map, list_all}
 use Rattle.std.proofs.lemmas.Bool.Decides.{nat_tests}
 use Rattle.std.proofs.lemmas.List.{length-map, map-append, take_all}
@@ -72,6 +72,11 @@ pub none_last : (run : List Row) → slice_get run (length run - 1) ≡ None →
 none_last [] e = refl
 none_last (y ∷ run) e = absurd (is_there (y ∷ run) (length (y ∷ run) - 1) (omega arith) e)
 
+-- of an answer that is there two facts are known
+pub if_both : {A E : Type 0} {P Q R : A → Type 0} (r : Result A E) → IfOk r P → IfOk r Q → ((x : A) → P x → Q x → R x) → IfOk r R
+if_both (Ok x) p q so = so x p q
+if_both (Err e) p q so = tt
+
 -- ---- the writes of some rows
 
 pub write_there : (rows : List Row) (i : ℕ) (r : Row) (w : Write) → slice_get rows i ≡ Some r → w.slot ≡ r.slot → w.row ≡ Some r → slice_get (writing rows) i ≡ Some w
@@ -94,7 +99,9 @@ writing_fits [] = refl
 writing_fits (r ∷ rows) = λ i. slot_itself r.slot i && writing_fits rows i
 
 pub all_written : (rows : List Row) (n : ℕ) (ws : List Write) → n ≡ length rows → ws ≡ take n (writing rows) → ws ≡ writing rows
-all_written rows n ws size is = is ∙ take_all n (writing rows) (omega (arith, size, length-map rows (λ (r : Row). record { slot = r.slot; row = Some r })))
+all_written rows n ws size is =
+    let one : Row → Write = λ r. record { slot = r.slot; row = Some r } in
+    is ∙ take_all n (writing rows) (omega (arith, size, length-map rows one))
 
 pub written_rise : (rows : List Row) (n : ℕ) (ws : List Write) → n ≡ length rows → ws ≡ take n (writing rows) → rising rows ≡ true → are_rising ws ≡ true
 written_rise rows n ws size is up = ap are_rising (all_written rows n ws size is) ∙ writing_rises rows ∙ up
@@ -114,13 +121,10 @@ from_first (r ∷ rows) =
 -- what is skipped stands in front
 skipped : (p : Row → Bool) (rows : List Row) → (done : List Row) × (rows ≡ done ++ skip p rows)
 skipped p [] = ([], refl)
-skipped p (r ∷ rows) = by (p r) where
-  rest : (done : List Row) × (rows ≡ done ++ skip p rows)
-  rest = skipped p rows
-
-  by : (b : Bool) → (done : List Row) × (r ∷ rows ≡ done ++ cond b (skip p rows) (r ∷ rows))
-  by true = (r ∷ rest.0, ap (λ l. r ∷ l) rest.1)
-  by false = ([], refl)
+skipped p (r ∷ rows) = by (p r) (skipped p rows) where
+  by : (b : Bool) → ((done : List Row) × (rows ≡ done ++ skip p rows)) → (done : List Row) × (r ∷ rows ≡ done ++ cond b (skip p rows) (r ∷ rows))
+  by true rest = (r ∷ rest.0, ap (λ l. r ∷ l) rest.1)
+  by false rest = ([], refl)
 
 -- the rows of a run rise
 pub run_rises : (rows run : List Row) (e : Edge) → rising rows ≡ true → IsRun run (rows_from e rows) → rising run ≡ true

@@ -1,6 +1,6 @@
 -- Records that are put behind others, and what a disk holds at the end.
-use Rattle.std.proofs.Common.{◌≡◌, ℕ, ◌+◌, ◌≤◌, true, List, [], ◌∷◌, ◌++◌, ◌∙◌, length, refl, sym, ap, subst, arith, append_assoc, append-nil}
-use Rattle.std.specs.Prelude.{Option, Some, None, nat_le}
+use Rattle.std.proofs.Common.{◌≡◌, ℕ, zero, suc, ◌+◌, ◌≤◌, Bool, true, false, cond, List, [], ◌∷◌, ◌++◌, ◌∙◌, length, refl, sym, ap, subst, arith, append_assoc, append-nil}
+use Rattle.std.specs.Prelude.{◌==◌, Option, Some, None, Result, Ok, Err, OnOk}
 use Rattle.std.specs.List.{flat_map}
 use Rattle.std.proofs.lemmas.Bool.Decides.{nat_tests}
 use Rattle.std.proofs.lemmas.Grind.{flat_map-append}
@@ -9,7 +9,7 @@ use Rattle.ifdb_disk.specs.Clock.{Clock, Leaves, Now, Stored, Torn, goes}
 use Rattle.ifdb_disk.proofs.Moments.{leaves_on, leaves_weaker, since_here}
 use Rattle.ifdb_journal.specs.declared.record.Record.{Record}
 use Rattle.ifdb_journal.specs.Kinds.{is_fine}
-use Rattle.ifdb_journal.specs.Records.{IsFront, IsLawful, break, scan}
+use Rattle.ifdb_journal.specs.Records.{IsFront, break, bytes_of, is_whole, record_at, scan, size_at}
 use Rattle.ifdb_journal.specs.Reading.{Adds, HasAllOrNone, HeldImages, Holds, IsOldOrShort, IsReady, MayAdd, Place, ReadTo}
 use Rattle.ifdb_log.specs.Pieces.{TextsAreReadAgain, piece, pieces, texts_of}
 use Rattle.ifdb_log.specs.Reading.{HoldsTexts}
@@ -18,11 +18,26 @@ use Rattle.ifdb_extract.specs.Extracts.{HoldsExtract}
 use Rattle.ifdb_extract.specs.Walks.{PutsRows}
 use Rattle.ifdb_extract.specs.Writing.{Finishes, GoesOn, IsWritten, Keeps, Puts, Writing}
 
+-- of an answer that is there two facts are known
+pub on_both : {A E : Type 0} {P Q R : Type 0} (r : Result A E) → OnOk r P → OnOk r Q → (P → Q → R) → OnOk r R
+on_both (Ok x) p q so = so p q
+on_both (Err e) p q so = tt
+
 -- ---- one record more
 
 pub put_one : (t : Option Clock) (w v : Writing) (r : Record) → v.at ≡ w.at → v.waiting ≡ w.waiting ++ r ∷ [] → Puts (r ∷ []) t w t v
 put_one t w v r at waiting = λ rs is.
     (is.0, subst (Holds t is.0) (sym at) is.1, ap (λ l. l ++ r ∷ []) is.2 ∙ append_assoc is.0 w.waiting (r ∷ []) ∙ sym (ap (λ l. is.0 ++ l) waiting))
+
+-- nothing was appended
+pub keeps_here : (t : Option Clock) (w : Writing) → Keeps t w t w
+keeps_here t w = λ rs is. is
+
+-- there is room for a piece where none waits
+pub room_at_first : (waiting : List Record) (size session room : ℕ) → waiting ≡ [] → room ≡ 1048576 → is_fine 2 session size ≡ true → bytes_of waiting + (14 + size) ≤ room
+room_at_first waiting size session room none is fine =
+    let short : size ≤ 65535 = grind (arith, nat_tests, fine) in
+    omega (arith, ap bytes_of none, is, short)
 
 -- an append of what waits
 pub flushed : (t u : Option Clock) (w v : Writing) → Adds w.waiting t w.at u v.at → v.waiting ≡ [] → Keeps t w u v
@@ -61,7 +76,22 @@ no_front (zero ∷ front) is = absurd (shut (is.records 1 whole)) where
 
   shut : [] ≡ scan 0 (1 ∷ whole) → ⊥
   shut e = cc e
-no_front (suc gate ∷ front) is = absurd (cc (is.records 0 [], is.breaks 0 0 []))
+no_front (suc gate ∷ front) is = absurd (by (is_whole rest) found broken) where
+  rest : List ℕ
+  rest = front ++ 0 ∷ []
+
+  is_open : (suc gate == 0) ≡ false
+  is_open = grind (arith, nat_tests)
+
+  found : cond (is_whole rest) (record_at rest ∷ scan (13 + size_at rest) rest) [] ≡ []
+  found = sym (ap (λ (b : Bool). cond b [] (cond (is_whole rest) (record_at rest ∷ scan (13 + size_at rest) rest) [])) is_open) ∙ is.records 0 []
+
+  broken : cond (is_whole rest) (break (13 + size_at rest) (0 + 1) rest) (Some 0) ≡ None
+  broken = sym (ap (λ (b : Bool). cond b None (cond (is_whole rest) (break (13 + size_at rest) (0 + 1) rest) (Some 0))) is_open) ∙ is.breaks 0 0 []
+
+  by : (b : Bool) → cond b (record_at rest ∷ scan (13 + size_at rest) rest) [] ≡ [] → cond b (break (13 + size_at rest) (0 + 1) rest) (Some 0) ≡ None → ⊥
+  by true r k = cc r
+  by false r k = cc k
 
 -- a journal that was begun, once its first gate is closed
 pub begun : (t u : Option Clock) (p : Place) → ReadTo t [] p → u ≡ goes synced (goes (written 0 (0 ∷ [])) t) → Holds u [] p.at
@@ -80,7 +110,7 @@ begun (Some c) u p read is = subst (λ o. Holds o [] p.at) (sym is) (bytes, refl
   size = sym (ap length (no_front read.2.front read.2.is)) ∙ read.2.size
 
   none : IsFront [] []
-  none = record { records = λ gate rest. refl; breaks = λ at gate rest. refl }
+  none = record { records = λ gate rest. refl; breaks = λ at gate rest. let place : at ≡ at + 0 = omega arith in ap (λ (k : ℕ). break 0 k (gate ∷ rest)) place }
 
 pub begun_written : (t u : Option Clock) (p : Place) (w : Writing) → ReadTo t [] p → u ≡ goes synced (goes (written 0 (0 ∷ [])) t) → w.at ≡ p.at → w.waiting ≡ [] → IsWritten u w []
 begun_written t u p w read is at none = ([], subst (Holds u []) (sym at) (begun t u p read is), sym none)
@@ -127,7 +157,7 @@ pub stored_of : (t : Option Clock) (p : Place) → ReadTo t [] p → (bytes : Li
 stored_of None p read = ([], tt)
 stored_of (Some c) p read = (read.0, read.1)
 
-pub begun_later : (t u v : Option Clock) (p : Place) → Leaves t u (IsOldOrShort t) → ReadTo u [] p → ((old : List ℕ) → Stored u old → Leaves u v (Torn old 0 (length (0 ∷ [])))) → GoesOn t v
+pub begun_later : (t u v : Option Clock) (p : Place) → Leaves t u (IsOldOrShort t) → ReadTo u [] p → ((old : List ℕ) → Stored u old → Leaves u v (Torn old 0 (length {A = ℕ} (0 ∷ [])))) → GoesOn t v
 begun_later t u v p first read second =
     let stored = stored_of u p read in
-    later_on t u v (later_so t u (IsOldOrShort t) first) (later_so u v (Torn stored.0 0 (length (0 ∷ []))) (second stored.0 stored.1))
+    later_on t u v (later_so t u (IsOldOrShort t) first) (later_so u v (Torn stored.0 0 (length {A = ℕ} (0 ∷ []))) (second stored.0 stored.1))

@@ -36,7 +36,6 @@ impl<'a> RowTexts<'a> {
     }
 
     // The next text, or `None` behind the last row. Takes memory for the rows of the text.
-    #[tactic(auto, using(crate::proofs::Walking::none_left, crate::proofs::Walking::run_rises))]
     pub(crate) fn next(&mut self, alloc: Global) -> Result<Option<Vec<u8>>, OutOfMemory>
         ensures some { IfOk result (λ next. IfSome next (λ text.
             IsNextText self.old.rows.now self.old.edge self.new.edge text.items)) }
@@ -78,7 +77,6 @@ fn writes_of(alloc: Global, run: Run<'_>) -> Result<Writes, OutOfMemory>
 }
 
 // The write that makes the row at a place.
-#[tactic(auto, using(crate::proofs::Walking::write_there))]
 fn write_at(alloc: Global, run: Run<'_>, place: usize) -> Result<Write, OutOfMemory>
     requires { place < length (rows_in run) }
     ensures { IfOk result (λ write. slice_get (writing (rows_in run.entry)) place ≡ Some write) }

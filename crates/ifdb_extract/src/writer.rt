@@ -13,8 +13,8 @@ use ifdb_log::Pieces;
 use std::alloc::Global;
 use std::marker::Model;
 
-// The bytes of the records that are appended together. There is room for the longest piece of a text.
-const ROOM: usize = 1 << 20;
+// The bytes of the records that are appended together: 1 MiB. There is room for the longest piece of a text.
+const ROOM: usize = 1_048_576;
 
 // A journal, and the records that wait to be appended to it. Each call needs the disk as the last one left it.
 #[derive(Drop)]
@@ -24,14 +24,14 @@ pub(crate) struct TextWriter {
 }
 
 impl Model for TextWriter {
-    ghost use Rattle.std.specs.Prelude.{◌≤◌};
+    ghost use Rattle.std.specs.Prelude.{◌≡◌};
     ghost use Rattle.ifdb_extract.specs.Writing.{Writing};
 
     ghost Value = { Writing };
 
     ghost view = { λ w. record { at = w.journal.at; waiting = w.batch.records } };
 
-    ghost invariant = { λ w. 65549 ≤ w.batch.room };
+    ghost invariant = { λ w. w.batch.room ≡ 1048576 };
 }
 
 impl TextWriter {

@@ -42,8 +42,8 @@ module _ {D : Type 0} where
   pub other_may : (name other : List ℕ) (t u v : Option (List (Named D))) (d e : D) → name ≢ other → Takes name d t u → Takes other e u v → MayHave other t e
   other_may name other None u v d e apart first second = tt
   other_may name other (Some disks) u v d e apart first second =
-      let then : Takes other e (Some (with_disk name None disks)) v = subst (λ t. Takes other e t v) first.1 second in
-      sym (disk_kept other name None disks apart) ∙ then.0
+      let more : Takes other e (Some (with_disk name None disks)) v = subst (λ t. Takes other e t v) first.1 second in
+      sym (disk_kept other name None disks apart) ∙ more.0
 
   -- ---- what was given back
 
@@ -66,8 +66,8 @@ module _ {D : Type 0} where
   -- of two disks that were taken
   both_taken : (name spare : List ℕ) (disks : List (Named D)) (u v : Option (List (Named D))) (d e : D) → Takes name d (Some disks) u → Takes spare e u v → v ≡ Some (with_disk spare None (with_disk name None disks))
   both_taken name spare disks u v d e first second =
-      let then : Takes spare e (Some (with_disk name None disks)) v = subst (λ t. Takes spare e t v) first.1 second in
-      then.1
+      let more : Takes spare e (Some (with_disk name None disks)) v = subst (λ t. Takes spare e t v) first.1 second in
+      more.1
 
   both_named : (one name spare : List ℕ) (disks : List (Named D)) → has_name one disks ≡ true → has_name one (with_disk spare None (with_disk name None disks)) ≡ true
   both_named one name spare disks there = same_names one spare None (with_disk name None disks) ∙ same_names one name None disks ∙ there
@@ -82,23 +82,23 @@ module _ {D : Type 0} where
 
   pub spare_may : (name spare : List ℕ) (t u v w : Option (List (Named D))) (d e d' e' : D) → name ≢ spare → Takes name d t u → Takes spare e u v → GivesBoth spare e' name d' v w → MayHave spare w e'
   spare_may name spare None u v w d e d' e' apart first second gives =
-      let then : Takes spare e None v = subst (λ t. Takes spare e t v) first second in
-      let given : GivesBoth spare e' name d' None w = subst (λ t. GivesBoth spare e' name d' t w) then gives in
+      let more : Takes spare e None v = subst (λ t. Takes spare e t v) first second in
+      let given : GivesBoth spare e' name d' None w = subst (λ t. GivesBoth spare e' name d' t w) more gives in
       subst (λ t. MayHave spare t e') (sym given) tt
   spare_may name spare (Some disks) u v w d e d' e' apart first second gives =
       let x = with_disk spare None (with_disk name None disks) in
       let given : GivesBoth spare e' name d' (Some x) w = subst (λ t. GivesBoth spare e' name d' t w) (both_taken name spare disks u v d e first second) gives in
-      let then : Takes spare e (Some (with_disk name None disks)) v = subst (λ t. Takes spare e t v) first.1 second in
-      let there = same_names spare spare None (with_disk name None disks) ∙ named spare (with_disk name None disks) e then.0 in
+      let more : Takes spare e (Some (with_disk name None disks)) v = subst (λ t. Takes spare e t v) first.1 second in
+      let there = same_names spare spare None (with_disk name None disks) ∙ named spare (with_disk name None disks) e more.0 in
       subst (λ t. MayHave spare t e') (sym given) (disk_kept spare name (Some d') (with_disk spare (Some e') x) apart ∙ disk_there spare (Some e') x there)
 
   new_has : (name spare : List ℕ) (t u v w : Option (List (Named D))) (disk d e e' : D) → HasDisk name t disk → Takes name d t u → Takes spare e u v → Replaces spare e' name v w → HasDisk name w e'
   new_has name spare None u v w disk d e e' has first second swaps = absurd has
   new_has name spare (Some disks) u v w disk d e e' has first second swaps =
       let x = with_disk spare None (with_disk name None disks) in
-      let then : Replaces spare e' name (Some x) w = subst (λ t. Replaces spare e' name t w) (both_taken name spare disks u v d e first second) swaps in
+      let more : Replaces spare e' name (Some x) w = subst (λ t. Replaces spare e' name t w) (both_taken name spare disks u v d e first second) swaps in
       let there = same_names name spare None x ∙ both_named name name spare disks (named name disks disk has) in
-      subst (λ t. HasDisk name t e') (sym then) (disk_there name (Some e') (with_disk spare None x) there)
+      subst (λ t. HasDisk name t e') (sym more) (disk_there name (Some e') (with_disk spare None x) there)
 
   module _ (tells : D → Option Clock) where
     -- ---- what is so of the disk that was taken

@@ -1,6 +1,6 @@
 -- A log that is made again, and then read a second time.
 use Rattle.std.proofs.Common.{◌≡◌, ◌⊎◌, ℕ, List, refl, subst}
-use Rattle.std.specs.Prelude.{Option, Some, None}
+use Rattle.std.specs.Prelude.{Option, Some, None, Result, Ok, Err, IfOk, OnOk}
 use Rattle.ifdb_disk.specs.Images.{IsImage, settled}
 use Rattle.ifdb_disk.specs.Clock.{Clock, Leaves, Now}
 use Rattle.ifdb_journal.specs.declared.record.Record.{Record}
@@ -58,3 +58,13 @@ module _ (n m : ℕ) (begun t u : Option Clock) (rs : List Record) (place : ℕ)
   twice_whole law at same found = λ texts log shows.
       let is = sized (told_of begun texts log shows) in
       read_whole law m t u texts log at (still_shows begun t texts log present (synced_16 is) opened shows) (read_16 is) (same_16 is same) found
+
+-- of an answer that is there a fact is known, and from it another
+pub if_one : {A E : Type 0} {P R : A → Type 0} (r : Result A E) → IfOk r P → ((x : A) → P x → R x) → IfOk r R
+if_one (Ok x) p so = so x p
+if_one (Err e) p so = tt
+
+-- and from two facts
+pub if_both : {A E : Type 0} {P R : A → Type 0} {Q : Type 0} (r : Result A E) → IfOk r P → OnOk r Q → ((x : A) → P x → Q → R x) → IfOk r R
+if_both (Ok x) p q so = so x p q
+if_both (Err e) p q so = tt

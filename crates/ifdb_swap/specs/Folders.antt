@@ -37,7 +37,7 @@ module _ {D : Type 0} where
     -- log. Each image of the disk that it had before was the file of the log.
     abbrev pub Swaps : List ℕ → List ℕ → Option (List (Named D)) → Option (List (Named D)) → Type 0
     Swaps name spare before after = (disk : D) (texts : List (List ℕ)) (log : List Entry) → HasDisk name before disk → ShowsLog (tells disk) texts log → OfName spare before IsTold
-        → (old now : D) × Leaves (tells disk) (tells old) (IsFileOf texts log) × HasDisk name after now × HoldsCompacted (tells now) log
+        → (old : D) × (now : D) × Leaves (tells disk) (tells old) (IsFileOf texts log) × HasDisk name after now × HoldsCompacted (tells now) log
 
     -- the one or the other, and never neither
     abbrev pub KeepsOrSwaps : List ℕ → List ℕ → Option (List (Named D)) → Option (List (Named D)) → Type 0
@@ -54,7 +54,7 @@ module _ {D : Type 0} where
   module _ (faults : D → ℕ) where
     -- a disk's fault came so: only where the count of faults rose of the disk that the name had
     abbrev pub IsCausedBy : List ℕ → Option (List (Named D)) → Option (List (Named D)) → LogFault → Type 0
-    IsCausedBy name before after f = (disk now : D) × MayHave name before disk × MayHave name after now × IsCaused (faults disk) (faults now) f
+    IsCausedBy name before after f = (disk : D) × (now : D) × MayHave name before disk × MayHave name after now × IsCaused (faults disk) (faults now) f
 
     -- behind a fault of the folder its own count of faults rose, and else it stands as it stood
     abbrev pub HasSwapCause : List ℕ → List ℕ → Option (List (Named D)) → Option (List (Named D)) → ℕ → ℕ → Result Bool CompactFault → Type 0

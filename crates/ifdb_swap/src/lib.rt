@@ -4,9 +4,11 @@
 mod compaction;
 mod fault;
 mod reading;
+mod spare;
 mod when;
 mod writing;
 
 pub use compaction::compact_in;
 pub use fault::CompactFault;
+pub use spare::spare_name;
 pub use when::When;

@@ -152,6 +152,9 @@ fn a_small_file_stays(rt: HostRuntime) -> Result<(), Fail> {
     let disk = folder.take(DATABASE)?;
     let told = told_by(alloc, disk.bytes())?;
     assert_eq!(rt; told.as_str(), ANSWERS);
+    // Nothing was written to the new file.
+    let spare = folder.take(SPARE)?;
+    assert!(rt; spare.bytes().is_empty());
     Ok(())
 }
 

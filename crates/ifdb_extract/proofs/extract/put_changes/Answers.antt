@@ -27,3 +27,7 @@ loop-change-preserved g c =
 pub returns-clause-put : goal.returns-clause-put
 returns-clause-put g c =
     changes_last c.args.changes.now c.loop-change.change-index (g.D.Disk.tells c.args.disk.now) (g.D.Disk.tells c.loop-change.disk) c.args.writer.now c.loop-change.writer c.loop-change-test.false c.loop-change.invariant.puts
+
+pub returns-in_err-put-clause-later : goal.returns-in_err-put-clause-later
+returns-in_err-put-clause-later g c =
+    later_on (g.D.Disk.tells c.args.disk.now) (g.D.Disk.tells c.loop-change.disk) (g.D.Disk.tells c.put.new.disk) c.loop-change.invariant.later c.put.ensures.later

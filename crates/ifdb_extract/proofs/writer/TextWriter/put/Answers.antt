@@ -1,4 +1,4 @@
-use Rattle.std.proofs.Common.{List, refl, rules, ◌∙◌}
+use Rattle.std.proofs.Common.{List, arith, refl, rules, ◌∙◌}
 use Rattle.ifdb_journal.specs.declared.record.Record.{Record}
 use Rattle.ifdb_log.specs.Pieces.{piece, pieces, pieces_left}
 use Rattle.ifdb_extract.proofs.Putting.{left_first, left_last, left_next}
@@ -11,7 +11,9 @@ loop-piece-init g c =
     record {
       can = search rules;
       ends = search rules;
-      left = left_first (pieces c.args.text.now) _ t c.args.self.now c.of.ensures;
+      left =
+          left_first (pieces c.args.text.now) (pieces_left c.into_iter-piece-iterator.result.is_done c.into_iter-piece-iterator.result.session c.into_iter-piece-iterator.result.rest.now) t c.args.self.now
+          (first_of (search rules, grind arith));
       ready = c.requires.ready;
       later = later_here t;
       calm = refl;
@@ -23,11 +25,12 @@ loop-piece-preserved g c =
     let t = g.D.Disk.tells c.loop-piece.disk in
     let u = g.D.Disk.tells c.push.new.disk in
     let one : Record = piece c.in-Some.piece.session c.in-Some.piece.line.now in
+    let all : List Record = pieces_left c.loop-piece.piece-iterator.is_done c.loop-piece.piece-iterator.session c.loop-piece.piece-iterator.rest.now in
     let rest : List Record = pieces_left c.next.new.self.is_done c.next.new.self.session c.next.new.self.rest.now in
     record {
       can = search rules;
       ends = search rules;
-      left = left_next (pieces c.args.text.now) _ rest one begun t u c.args.self.now c.loop-piece.self c.push.new.self c.in-Some.ensures.steps c.in_ok-push.ensures.put c.loop-piece.invariant.left;
+      left = left_next (pieces c.args.text.now) all rest one begun t u c.args.self.now c.loop-piece.self c.push.new.self c.in-Some.ensures.steps c.in_ok-push.ensures.put c.loop-piece.invariant.left;
       ready = c.in_ok-push.ensures.ready;
       later = later_on begun t u c.loop-piece.invariant.later c.push.ensures.later;
       calm = c.in_ok-push.ensures.cause ∙ c.loop-piece.invariant.calm;
