@@ -131,9 +131,13 @@ module _ {D : Type 0} where
         → KeepsFile (tells d) (tells d') → IsExtractIn (tells d) x → (IsTold (tells e) → HoldsFileOf (tells e') x) → Swaps tells name spare t w
     swapped restores name spare t u v w d e d' e' x apart first second swaps keeps extract written = λ disk texts log has shows told.
         let same = taken_is name t u disk d first has in
-        let shown = subst (λ y. ShowsLog (tells y) texts log) (sym same) shows in
-        (d', e', kept_since disk d d' texts log same keeps shows, new_has name spare t u v w disk d e e' has first second swaps,
-        file_compacted restores (tells e') x log (extract texts log shown) (written (told_spare name spare t u v disk d e apart has first second told)))
+        let shown = subst (λ y. ShowsLog (tells y) texts log) (sym same) shows in (
+          d',
+          e',
+          kept_since disk d d' texts log same keeps shows,
+          new_has name spare t u v w disk d e e' has first second swaps,
+          file_compacted restores (tells e') x log (extract texts log shown) (written (told_spare name spare t u v disk d e apart has first second told)),
+        )
       where
         told_spare : (name spare : List ℕ) (t u v : Option (List (Named D))) (disk d e : D) → name ≢ spare → HasDisk name t disk → Takes name d t u → Takes spare e u v → OfName tells spare t IsTold → IsTold (tells e)
         told_spare name spare None u v disk d e apart has first second told = absurd has

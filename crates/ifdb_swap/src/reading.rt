@@ -8,8 +8,8 @@ ghost use Rattle.ifdb_extract.specs.Worth.{is_worth};
 ghost use Rattle.ifdb_swap.specs.Swapped.{HasNoLog, IsExtractIn, IsUnneeded, IsWorth, KeepsFile};
 
 use crate::When;
-use ifdb_extract::{Extract, extract_log, is_worth};
 use ifdb_disk::Disk;
+use ifdb_extract::{Extract, extract_log, is_worth};
 use ifdb_host::{NotReopened, Reopened, reopen};
 use ifdb_log::{LogFault, Origin, damaged_has_no_texts, entitle};
 use std::alloc::Global;

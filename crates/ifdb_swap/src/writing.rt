@@ -6,8 +6,8 @@ ghost use Rattle.ifdb_log.specs.Title.{IsLog, IsOther, IsSettled};
 ghost use Rattle.ifdb_host.specs.Files.{IsTold};
 ghost use Rattle.ifdb_swap.specs.Swapped.{HoldsFileOf};
 
-use ifdb_extract::{Extract, WriteFault};
 use ifdb_disk::Disk;
+use ifdb_extract::{Extract, WriteFault};
 use ifdb_log::{Behind, LogFault, Origin, TITLE_SIZE, entitle};
 use std::alloc::Global;
 use std::marker::Brand;

@@ -1,7 +1,7 @@
 //! A history that is logged on a disk in memory, compacted to another, and made again from there.
-use ifdb_extract::{WriteFault, extract_log, is_worth};
 use ifdb_db::{ReadLine, Room};
 use ifdb_disk::MemoryDisk;
+use ifdb_extract::{WriteFault, extract_log, is_worth};
 use ifdb_journal::{Batch, RecordKind};
 use ifdb_log::{LogFault, Pieces};
 use ifdb_restart::{Restarted, restart};
