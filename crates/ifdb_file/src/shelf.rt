@@ -3,13 +3,14 @@ ghost use Rattle.std.specs.Prelude.{◌≡◌, None};
 
 use crate::FileDisk;
 use ifdb_disk::Shelf;
+use ifdb_folder::Folder;
 use ifdb_io::Failed;
 use std::fs::File;
-use std::io;
 use std::io::ErrorKind;
-use std::os::unix::fs::OpenOptionsExt;
+use std::os::unix::fs::{MetadataExt, OpenOptionsExt};
 use std::path::Path;
 use std::rt::Files;
+use std::{fs, io};
 
 // Who may read and write a file that is made: its owner, and nobody else.
 const OWNER_ALONE: u32 = 0o600;
@@ -19,7 +20,8 @@ const OWNER_ALONE: u32 = 0o600;
 /// `open` makes the file where there is none, for its owner alone (mode 0600), and syncs the folder, so that its entry is there after
 /// a crash. It locks the file against each other program that opens it so, up to `close` or the end
 /// of the program. It fails, and the count of the shelf's faults rises, where one of these fails: the
-/// file or its folder can't be opened, or another program has the lock.
+/// file or its folder can't be opened, another program has the lock, or another file has taken the name
+/// before the lock was had.
 #[derive(Drop)]
 pub struct FileShelf<'a, R> {
     rt: &'a R,
@@ -43,11 +45,18 @@ fn open_alone<R: Files<File = File>>(rt: &R, name: &str) -> io::Result<File> {
         .create(true)
         .mode(OWNER_ALONE)
         .open(rt, name)?;
-    if file.try_lock().is_err() {
+    if file.try_lock().is_err() || !has_name(rt, &file, name)? {
         return Err(io::Error::from(ErrorKind::WouldBlock));
     }
     folder_of(rt, name)?.sync_all()?;
     Ok(file)
+}
+
+// Whether a file still has the name: another one may have taken its place since it was opened.
+pub(crate) fn has_name<R: Files<File = File>>(rt: &R, file: &File, name: &str) -> io::Result<bool> {
+    let opened = file.metadata()?;
+    let named = fs::metadata(rt, name)?;
+    Ok(opened.dev() == named.dev() && opened.ino() == named.ino())
 }
 
 // The folder that a path's entry stands in.
@@ -79,5 +88,48 @@ impl<'a, R: Files<File = File>> Shelf for FileShelf<'a, R> {
 
     fn close(&mut self, disk: FileDisk) {
         let _ = disk;
+    }
+}
+
+// Gives a file the name of another, in one step, so that it has that name after a crash.
+fn rename_for_good<R: Files<File = File>>(rt: &R, from: &str, to: &str) -> io::Result<()> {
+    fs::rename(rt, from, to)?;
+    folder_of(rt, to)?.sync_all()
+}
+
+impl<'a, R: Files<File = File>> Folder for FileShelf<'a, R> {
+    ghost use Rattle.std.specs.Prelude.{None};
+
+    type Disk = FileDisk;
+
+    ghost tells = { λ _. None };
+
+    ghost faults = { λ shelf. shelf.failed };
+
+    fn take(&mut self, name: &str) -> Result<FileDisk, Failed> {
+        Shelf::open(self, name)
+    }
+
+    fn give(&mut self, name: &str, disk: FileDisk) {
+        let _ = name;
+        let _ = disk;
+    }
+
+    // Both files are locked until the new one has the name.
+    fn replace(
+        &mut self,
+        new: &str,
+        disk: FileDisk,
+        old: &str,
+        gone: FileDisk,
+    ) -> Result<(), Failed> {
+        let renamed = rename_for_good(self.rt, new, old);
+        drop(disk);
+        drop(gone);
+        if renamed.is_err() {
+            self.failed = self.failed.saturating_add(1);
+            return Err(Failed);
+        }
+        Ok(())
     }
 }

@@ -1,8 +1,11 @@
 // A file that is written, synced and opened again.
+use crate::shelf::has_name;
 use crate::{FileDisk, FileShelf, ReadShelf};
 use ifdb_disk::{Disk, Shelf};
+use ifdb_folder::Folder;
 use ifdb_io::Failed;
 use std::fs;
+use std::fs::File;
 use std::os::unix::fs::PermissionsExt;
 use std::test::Fail;
 
@@ -56,5 +59,35 @@ fn read_alone(rt: HostRuntime) -> Result<(), Fail> {
     shelf.close(read);
     files.close(disk);
     fs::remove_file(&rt, "secret")?;
+    Ok(())
+}
+
+#[test]
+fn one_takes_the_place_of_another(rt: HostRuntime) -> Result<(), Fail> {
+    let mut folder = FileShelf::new(&rt);
+    let mut old = folder.take("database")?;
+    old.write(0, b"old")?;
+    let mut new = folder.take("database.new")?;
+    new.write(0, b"new and longer")?;
+    new.sync()?;
+    folder.replace("database.new", new, "database", old)?;
+    let mut again = folder.take("database")?;
+    assert!(rt; holds(&mut again, b"new and longer")?);
+    folder.give("database", again);
+    assert!(rt; fs::metadata(&rt, "database.new").is_err());
+    fs::remove_file(&rt, "database")?;
+    Ok(())
+}
+
+#[test]
+fn one_that_lost_its_name(rt: HostRuntime) -> Result<(), Fail> {
+    let first = File::create(&rt, "first")?;
+    let second = File::create(&rt, "second")?;
+    assert!(rt; has_name(&rt, &first, "first")?);
+    fs::rename(&rt, "second", "first")?;
+    // Whoever locks it now must not take it for the file of that name.
+    assert!(rt; !has_name(&rt, &first, "first")?);
+    assert!(rt; has_name(&rt, &second, "first")?);
+    fs::remove_file(&rt, "first")?;
     Ok(())
 }

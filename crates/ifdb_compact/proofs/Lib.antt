@@ -1,0 +1,3 @@
+mod Older
+mod Pieces
+mod Restoring

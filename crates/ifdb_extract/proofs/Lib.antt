@@ -1,0 +1,5 @@
+mod Writing
+mod Walking
+mod Sizing
+mod Putting
+mod Taking
