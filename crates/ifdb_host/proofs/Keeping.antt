@@ -35,10 +35,10 @@ use Rattle.ifdb_restart.specs.Laws.{FirstTextsAddAFront}
 use Rattle.ifdb_session.specs.Durable.{count_of, HasRecords}
 use Rattle.ifdb_session.specs.Records.{records_of, texts_of}
 use Rattle.ifdb_session.specs.Starts.{start_of}
-use Rattle.ifdb_host.specs.Files.{IsFileOf, Restore, ShowsLog}
+use Rattle.ifdb_reopen.specs.Files.{IsFileOf, Restore, ShowsLog}
 use Rattle.ifdb_host.specs.Fronts.{opening_of, HasFrontOf, HasTextsOf, IsKeptSince, IsToldOf, KnowsOf, LeavesFrom}
-use Rattle.ifdb_host.proofs.Titles.{IsTitle, title_of}
-use Rattle.ifdb_host.proofs.Sizes.{head_same, sizes_same}
+use Rattle.ifdb_reopen.proofs.Titles.{IsTitle, title_of}
+use Rattle.ifdb_reopen.proofs.Sizes.{head_same, sizes_same}
 use Rattle.ifdb_host.proofs.Rests.{file_of, rest_of, IsRestOf}
 
 -- ---- lists that end in an element

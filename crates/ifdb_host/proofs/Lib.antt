@@ -1,6 +1,3 @@
-mod Titles
-mod Sizes
-mod Restarts
 mod Rests
 mod Keeping
 mod Openings

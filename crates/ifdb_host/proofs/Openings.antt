@@ -17,14 +17,14 @@ use Rattle.ifdb_model.specs.Log.{Entry as LogEntry}
 use Rattle.ifdb_history.specs.declared.entry.Entry.{Entry}
 use Rattle.ifdb_words.specs.declared.service.Service.{Service}
 use Rattle.ifdb_service.proofs.AtSite.{served_wider}
-use Rattle.ifdb_host.specs.Causes.{IsCaused}
-use Rattle.ifdb_host.specs.Files.{IsFileOf, IsOldOrBare, IsTold, ShowsLog}
+use Rattle.ifdb_reopen.specs.Causes.{IsCaused}
+use Rattle.ifdb_reopen.specs.Files.{IsFileOf, IsOldOrBare, IsTold, ShowsLog}
 use Rattle.ifdb_host.specs.Fronts.{HasFrontOf, IsKeptSince, LeavesFrom}
 use Rattle.ifdb_host.specs.Hosted.{end_of, DiskSpan, HostsSite, IsBare, IsFileOn, IsHosted, IsKeptOn, IsNewOn, IsOldOrBegun, IsUnopened}
 use Rattle.ifdb_host.specs.Serving.{IsKeptBehind, LeavesFronts, ServedHere, ServesOpened}
 use Rattle.ifdb_host.specs.declared.end.HostEnd.{HostEnd}
 use Rattle.ifdb_host.specs.declared.end.HostEnd.TheVariants as ends
-use Rattle.ifdb_host.proofs.Titles.{title_size}
+use Rattle.ifdb_reopen.proofs.Titles.{title_size}
 
 -- ---- files
 

@@ -20,9 +20,9 @@ use Rattle.ifdb_session.specs.Durable.{count_of}
 use Rattle.ifdb_session.specs.Records.{records_of, texts_of}
 use Rattle.ifdb_session.specs.Starts.{start_of}
 use Rattle.ifdb_session.specs.Texts.{AreReadAgain}
-use Rattle.ifdb_host.specs.Files.{Restore}
+use Rattle.ifdb_reopen.specs.Files.{Restore}
 use Rattle.ifdb_host.specs.Fronts.{HasFrontOf}
-use Rattle.ifdb_host.proofs.Titles.{IsTitle, title_then}
+use Rattle.ifdb_reopen.proofs.Titles.{IsTitle, title_then}
 
 -- what stands behind the title: the texts of before and the first ones of a history, at least so many
 pub record IsRestOf (before : List (List ℕ)) (first : List LogEntry) (h : List Entry) (least : ℕ) (rest : List ℕ) : Type 0 where

@@ -11,7 +11,7 @@ use Rattle.ifdb_history.specs.declared.entry.Entry.{Entry}
 use Rattle.ifdb_history.specs.History.{added_in}
 use Rattle.ifdb_session.specs.Records.{texts_of}
 use Rattle.ifdb_session.specs.Starts.{start_of}
-use Rattle.ifdb_host.specs.Files.{IsFileOf}
+use Rattle.ifdb_reopen.specs.Files.{IsFileOf}
 
 -- An image is the file of the texts of before and then the first ones of a history, at least so many. It restores the log that there
 -- was before, and then as many of the entries that the history added to it, in their order.

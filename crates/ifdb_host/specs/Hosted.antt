@@ -17,7 +17,7 @@ use Rattle.ifdb_history.specs.declared.entry.Entry.{Entry}
 use Rattle.ifdb_words.specs.declared.service.Service.{Service}
 use Rattle.ifdb_service.specs.Site.{Exchanges, GivesNone, IsServedOver}
 use Rattle.ifdb_service.specs.Summary.{listening_line}
-use Rattle.ifdb_host.specs.Files.{IsFileOf, IsTold, ShowsLog}
+use Rattle.ifdb_reopen.specs.Files.{IsFileOf, IsTold, ShowsLog}
 use Rattle.ifdb_host.specs.Fronts.{HasFrontOf, IsKeptSince, LeavesFrom}
 use Rattle.ifdb_host.specs.declared.end.HostEnd.{HostEnd}
 use Rattle.ifdb_host.specs.declared.end.HostEnd.TheVariants as ends

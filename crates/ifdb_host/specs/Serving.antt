@@ -25,7 +25,7 @@ use Rattle.ifdb_words.specs.declared.service.Service.{Service}
 use Rattle.ifdb_service.specs.Doors.{ServedAll}
 use Rattle.ifdb_service.specs.Site.{GivesNone, IsServedOver}
 use Rattle.ifdb_service.specs.Summary.{listening_line}
-use Rattle.ifdb_host.specs.Files.{ShowsLog}
+use Rattle.ifdb_reopen.specs.Files.{ShowsLog}
 use Rattle.ifdb_host.specs.Fronts.{HasFrontOf, IsKeptSince, LeavesFrom}
 use Rattle.ifdb_host.specs.Hosted.{DiskRose, DiskSpan, IsUnvisited, WroteAll, WroteFront}
 use Rattle.ifdb_host.specs.declared.end.HostEnd.{HostEnd}

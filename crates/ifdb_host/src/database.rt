@@ -16,13 +16,13 @@ ghost use Rattle.ifdb_session.specs.Counts.{counts_of};
 ghost use Rattle.ifdb_session.specs.Durable.{count_of};
 ghost use Rattle.ifdb_session.specs.Records.{texts_of};
 ghost use Rattle.ifdb_session.specs.Starts.{start_of};
-ghost use Rattle.ifdb_host.specs.Files.{ShowsLog};
+ghost use Rattle.ifdb_reopen.specs.Files.{ShowsLog};
 ghost use Rattle.ifdb_host.specs.Fronts.{opening_of, HasFrontOf, IsKeptSince, IsToldOf, KnowsOf, LeavesFrom};
 
-use crate::reopening::{Means, Reopened};
 use ifdb_disk::Disk;
 use ifdb_durable::{Begun, GroupCommit, Member, Queue, Writer};
 use ifdb_log::{Behind, Origin, fronts_are_first_texts};
+use ifdb_reopen::{Means, Reopened};
 use ifdb_restart::{Restarted, first_texts_add_a_front};
 use ifdb_session::{Begins, Counts, SharedRoom};
 use ifdb_turn::{NoTurnstile, Pass, Turnstile};

@@ -18,11 +18,12 @@ ghost use Rattle.ifdb_host.specs.Hosted.{HostsSite};
 ghost use Rattle.ifdb_host.specs.Serving.{IsWholePass, LeavesFronts, ServesOpened, VisitedAll, site_end, span_of};
 
 use crate::end::{HostEnd, end_of};
-use crate::{Closed, Database, NotReopened, Reopened, reopen};
+use crate::{Closed, Database};
 use ifdb_disk::Disk;
 use ifdb_durable::{GroupCommit, Member, Queue};
 use ifdb_io::{Door, Failed, Sink, Site, SiteFault};
 use ifdb_log::{Behind, Origin, entitle};
+use ifdb_reopen::{NotReopened, Reopened, reopen};
 use ifdb_service::{Ended, Unserved, serve_doors, write_numbered, write_summary};
 use ifdb_session::{Begins, Durable, SharedRoom};
 use ifdb_turn::{Pass, Turnstile};

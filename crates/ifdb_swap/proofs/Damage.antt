@@ -15,7 +15,7 @@ use Rattle.ifdb_model.specs.Log.{Entry}
 use Rattle.ifdb_redo.specs.Reading.{record_of}
 use Rattle.ifdb_restart.specs.Restarted.{log_behind, log_of, with_record}
 use Rattle.ifdb_restart.proofs.FitLogs.{none_behind}
-use Rattle.ifdb_host.specs.Files.{IsFileOf, ShowsLog}
+use Rattle.ifdb_reopen.specs.Files.{IsFileOf, ShowsLog}
 use Rattle.ifdb_extract.specs.Texts.{HasBrokenAt}
 
 abbrev some_or : {X : Type 0} → X → Option X → X

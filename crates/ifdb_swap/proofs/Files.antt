@@ -15,7 +15,7 @@ use Rattle.ifdb_log.specs.Title.{Entitles, IsLog, IsNew, IsNewOrTitle, IsOldOrMa
 use Rattle.ifdb_log.proofs.Fronts.{leaves_behind}
 use Rattle.ifdb_model.specs.Log.{Entry}
 use Rattle.ifdb_restart.specs.Restarted.{log_of}
-use Rattle.ifdb_host.specs.Files.{HoldsLog, IsFileOf, IsOldOrBare, IsTold, Restore, ShowsLog}
+use Rattle.ifdb_reopen.specs.Files.{HoldsLog, IsFileOf, IsOldOrBare, IsTold, Restore, ShowsLog}
 use Rattle.ifdb_extract.specs.Texts.{Extracted, IsExtractOf, change_texts, extract_of}
 use Rattle.ifdb_extract.specs.Extracts.{AreTextsOfRows, HoldsExtract}
 use Rattle.ifdb_compact.specs.Compacted.{CompactedTextsRestore, IsCompacted}

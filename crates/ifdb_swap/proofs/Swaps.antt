@@ -8,8 +8,8 @@ use Rattle.ifdb_folder.specs.declared.named.Named.{Named}
 use Rattle.ifdb_folder.specs.Folders.{Gives, GivesBoth, MayReplace, Replaces, Takes, disk_of, with_disk}
 use Rattle.ifdb_log.specs.declared.fault.LogFault.{LogFault}
 use Rattle.ifdb_model.specs.Log.{Entry}
-use Rattle.ifdb_host.specs.Causes.{IsCaused}
-use Rattle.ifdb_host.specs.Files.{IsFileOf, IsTold, ShowsLog}
+use Rattle.ifdb_reopen.specs.Causes.{IsCaused}
+use Rattle.ifdb_reopen.specs.Files.{IsFileOf, IsTold, ShowsLog}
 use Rattle.ifdb_extract.specs.Texts.{Extracted}
 use Rattle.ifdb_compact.specs.Compacted.{CompactedTextsRestore}
 use Rattle.ifdb_swap.specs.Swapped.{HoldsCompacted, HoldsFileOf, IsExtractIn, KeepsFile}

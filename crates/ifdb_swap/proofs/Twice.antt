@@ -9,7 +9,7 @@ use Rattle.ifdb_log.specs.Behind.{Fronted, behind, front_of}
 use Rattle.ifdb_log.specs.Reading.{DamagedHasNoTexts, IsDamaged}
 use Rattle.ifdb_log.specs.Title.{IsLog, IsSettled}
 use Rattle.ifdb_model.specs.Log.{Entry}
-use Rattle.ifdb_host.specs.Files.{IsFileOf, IsOldOrBare, IsTold, ShowsLog}
+use Rattle.ifdb_reopen.specs.Files.{IsFileOf, IsOldOrBare, IsTold, ShowsLog}
 use Rattle.ifdb_extract.specs.Texts.{Extracted, HasBrokenAt, IsExtractOf}
 use Rattle.ifdb_swap.specs.Swapped.{HasNoLog, IsExtractIn, KeepsFile}
 use Rattle.ifdb_swap.proofs.Damage.{read_whole}

@@ -6,8 +6,8 @@ use Rattle.ifdb_folder.specs.declared.named.Named.{Named}
 use Rattle.ifdb_folder.specs.Folders.{disk_of}
 use Rattle.ifdb_log.specs.declared.fault.LogFault.{LogFault}
 use Rattle.ifdb_model.specs.Log.{Entry}
-use Rattle.ifdb_host.specs.Causes.{IsCaused}
-use Rattle.ifdb_host.specs.Files.{IsFileOf, IsTold, ShowsLog}
+use Rattle.ifdb_reopen.specs.Causes.{IsCaused}
+use Rattle.ifdb_reopen.specs.Files.{IsFileOf, IsTold, ShowsLog}
 use Rattle.ifdb_swap.specs.Swapped.{HoldsCompacted}
 use Rattle.ifdb_swap.specs.declared.fault.CompactFault.{CompactFault}
 use Rattle.ifdb_swap.specs.declared.fault.CompactFault.TheVariants as fault

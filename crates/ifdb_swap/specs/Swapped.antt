@@ -5,7 +5,7 @@ use Rattle.ifdb_log.specs.Behind.{behind}
 use Rattle.ifdb_log.specs.Title.{IsLog, IsSettled}
 use Rattle.ifdb_model.specs.Log.{Entry}
 use Rattle.ifdb_restart.specs.Restarted.{log_of}
-use Rattle.ifdb_host.specs.Files.{HoldsLog, IsFileOf, ShowsLog}
+use Rattle.ifdb_reopen.specs.Files.{HoldsLog, IsFileOf, ShowsLog}
 use Rattle.ifdb_extract.specs.Texts.{Extracted, extract_of}
 use Rattle.ifdb_extract.specs.Extracts.{HoldsExtract, IsSizeOf}
 use Rattle.ifdb_compact.specs.Compacted.{IsCompacted}

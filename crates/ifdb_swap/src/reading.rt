@@ -10,8 +10,8 @@ ghost use Rattle.ifdb_swap.specs.Swapped.{HasNoLog, IsExtractIn, IsUnneeded, IsW
 use crate::When;
 use ifdb_disk::Disk;
 use ifdb_extract::{Extract, extract_log, is_worth};
-use ifdb_host::{NotReopened, Reopened, reopen};
 use ifdb_log::{LogFault, Origin, damaged_has_no_texts, entitle};
+use ifdb_reopen::{NotReopened, Reopened, reopen};
 use std::alloc::Global;
 use std::marker::Brand;
 

@@ -3,7 +3,7 @@ ghost use Rattle.std.specs.Prelude.{◌≡◌, ℕ, Err, OnOk};
 ghost use Rattle.ifdb_disk.specs.Clock.{Now};
 ghost use Rattle.ifdb_log.specs.Causes.{HasLogCause};
 ghost use Rattle.ifdb_log.specs.Title.{IsLog, IsOther, IsSettled};
-ghost use Rattle.ifdb_host.specs.Files.{IsTold};
+ghost use Rattle.ifdb_reopen.specs.Files.{IsTold};
 ghost use Rattle.ifdb_swap.specs.Swapped.{HoldsFileOf};
 
 use ifdb_disk::Disk;

@@ -3,8 +3,8 @@ use Rattle.std.proofs.lemmas.Result.{IfErr-at_err}
 use Rattle.ifdb_disk.specs.Clock.{Leaves}
 use Rattle.ifdb_log.specs.declared.fault.LogFault.TheVariants as fault
 use Rattle.ifdb_model.specs.Log.{Entry}
-use Rattle.ifdb_host.specs.Causes.{IsCaused}
-use Rattle.ifdb_host.specs.Files.{IsOldOrBare, ShowsLog}
+use Rattle.ifdb_reopen.specs.Causes.{IsCaused}
+use Rattle.ifdb_reopen.specs.Files.{IsOldOrBare, ShowsLog}
 use Rattle.ifdb_restart.specs.Restarted.{log_in}
 use Rattle.ifdb_host.specs.Hosted.{HostsSite}
 use Rattle.ifdb_host.specs.Serving.{span_of}

@@ -7,7 +7,7 @@ use Rattle.ifdb_log.specs.Title.{title}
 use Rattle.ifdb_model.specs.Log.{Entry}
 use Rattle.ifdb_db.specs.Room.{Hall}
 use Rattle.ifdb_restart.specs.Restarted.{HasUnfitAt, IsRestarted}
-use Rattle.ifdb_host.specs.Files.{IsFileOf}
+use Rattle.ifdb_reopen.specs.Files.{IsFileOf}
 
 -- What a restart says of a file that restores a log: what it goes on from is that log, and it is never damaged.
 pub record IsRestartedAs (t : Option Clock) (log : List Entry) : Type 0 where

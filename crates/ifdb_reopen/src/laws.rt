@@ -1,5 +1,5 @@
 // What is true of every database's file.
-ghost use Rattle.ifdb_host.specs.Laws.{FilesAreRestarted, TitleIsAFile};
+ghost use Rattle.ifdb_reopen.specs.Laws.{FilesAreRestarted, TitleIsAFile};
 
 use ifdb_log::damaged_has_no_texts;
 

@@ -5,7 +5,7 @@ use Rattle.std.proofs.lemmas.List.{append-nil, take_at}
 use Rattle.ifdb_disk.specs.Clock.{Clock}
 use Rattle.ifdb_log.specs.Behind.{HasFront}
 use Rattle.ifdb_log.specs.Title.{title, title_rest, IsLog, IsSettled}
-use Rattle.ifdb_host.specs.Laws.{TitleIsAFile}
+use Rattle.ifdb_reopen.specs.Laws.{TitleIsAFile}
 
 -- 16 bytes that are a title
 abbrev pub IsTitle : List ℕ → Type 0

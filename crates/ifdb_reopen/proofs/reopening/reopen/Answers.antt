@@ -6,9 +6,9 @@ use Rattle.ifdb_log.specs.Title.{IsLog, IsSettled}
 use Rattle.ifdb_log.specs.declared.fault.LogFault.{LogFault}
 use Rattle.ifdb_log.proofs.TextsRead.{no_texts}
 use Rattle.ifdb_restart.specs.Restarted.{log_in}
-use Rattle.ifdb_host.specs.Files.{IsOldOrBare, IsTold, ShowsLog}
-use Rattle.ifdb_host.proofs.Restarts.{behind_begun, file_restarted, front_begun, reopen_left, reopened_shows, reopened_whole}
-use Rattle.ifdb_host.proofs.reopening.reopen.Goals as goal
+use Rattle.ifdb_reopen.specs.Files.{IsOldOrBare, IsTold, ShowsLog}
+use Rattle.ifdb_reopen.proofs.Restarts.{behind_begun, file_restarted, front_begun, reopen_left, reopened_shows, reopened_whole}
+use Rattle.ifdb_reopen.proofs.reopening.reopen.Goals as goal
 
 pub returns-in-Ok-restart-clause-shows : goal.returns-in-Ok-restart-clause-shows
 returns-in-Ok-restart-clause-shows g c = λ told.

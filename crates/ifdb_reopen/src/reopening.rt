@@ -8,8 +8,8 @@ ghost use Rattle.ifdb_log.specs.Title.{IsLog, IsSettled};
 ghost use Rattle.ifdb_model.specs.Log.{Entry};
 ghost use Rattle.ifdb_durable.specs.Seats.{IsOpened};
 ghost use Rattle.ifdb_restart.specs.Restarted.{IsClosedOver, log_in};
-ghost use Rattle.ifdb_host.specs.Causes.{IsCaused};
-ghost use Rattle.ifdb_host.specs.Files.{IsOldOrBare, IsTold, ShowsLog};
+ghost use Rattle.ifdb_reopen.specs.Causes.{IsCaused};
+ghost use Rattle.ifdb_reopen.specs.Files.{IsOldOrBare, IsTold, ShowsLog};
 
 use ifdb_disk::Disk;
 use ifdb_durable::Opened;

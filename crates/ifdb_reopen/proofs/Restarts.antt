@@ -20,10 +20,10 @@ use Rattle.ifdb_db.specs.Room.{Hall}
 use Rattle.ifdb_restart.specs.Restarted.{log_behind, log_of, with_record, HasUnfitAt, IsRestarted}
 use Rattle.ifdb_restart.proofs.FitLogs.{none_behind}
 use Rattle.ifdb_redo.specs.Reading.{record_of}
-use Rattle.ifdb_host.specs.Files.{IsFileOf, IsOldOrBare, IsTold, Restore, ShowsLog}
-use Rattle.ifdb_host.specs.Laws.{FilesAreRestarted, IsRestartedAs}
-use Rattle.ifdb_host.proofs.Sizes.{sizes_same}
-use Rattle.ifdb_host.proofs.Titles.{IsTitle, title_of, title_then}
+use Rattle.ifdb_reopen.specs.Files.{IsFileOf, IsOldOrBare, IsTold, Restore, ShowsLog}
+use Rattle.ifdb_reopen.specs.Laws.{FilesAreRestarted, IsRestartedAs}
+use Rattle.ifdb_reopen.proofs.Sizes.{sizes_same}
+use Rattle.ifdb_reopen.proofs.Titles.{IsTitle, title_of, title_then}
 
 -- ---- a file that restores a log
 

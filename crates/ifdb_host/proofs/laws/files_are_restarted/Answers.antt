@@ -1,5 +1,0 @@
-use Rattle.ifdb_host.proofs.Restarts.{file_restarted}
-use Rattle.ifdb_host.proofs.laws.files_are_restarted.Goals as goal
-
-pub returns : goal.returns
-returns c = file_restarted c.damaged_has_no_texts.ensures

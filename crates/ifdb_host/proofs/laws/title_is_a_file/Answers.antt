@@ -1,5 +1,0 @@
-use Rattle.ifdb_host.proofs.Titles.{title_file}
-use Rattle.ifdb_host.proofs.laws.title_is_a_file.Goals as goal
-
-pub returns : goal.returns
-returns c = title_file

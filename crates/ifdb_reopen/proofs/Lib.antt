@@ -1,0 +1,3 @@
+mod Titles
+mod Sizes
+mod Restarts
