@@ -1,15 +1,14 @@
 -- decides: a served database
 -- What the service of a database on a disk did.
-use Rattle.std.specs.Prelude.{◌≡◌, ◌⊎◌, ℕ, ◌≤◌, List, [], length, Option, Some, None}
+use Rattle.std.specs.Prelude.{◌≡◌, ◌⊎◌, ℕ, ◌≤◌, List, [], Option}
 use Rattle.std.specs.Io.KnownBytes.{Appends}
 use Rattle.ifdb_io.specs.Causes.{Rose, WritesShort}
 use Rattle.ifdb_io.specs.declared.outside.Source as source
 use Rattle.ifdb_io.specs.declared.outside.Sink as sink
 use Rattle.ifdb_io.specs.declared.doors.Door as door
 use Rattle.ifdb_io.specs.declared.doors.Site as site
-use Rattle.ifdb_disk.specs.Images.{IsImage}
-use Rattle.ifdb_disk.specs.Clock.{Clock, Leaves, Now}
-use Rattle.ifdb_log.specs.Title.{IsLog, IsNew, IsOther}
+use Rattle.ifdb_disk.specs.Clock.{Clock, Now}
+use Rattle.ifdb_log.specs.Title.{IsOther}
 use Rattle.ifdb_log.specs.declared.fault.LogFault.{LogFault}
 use Rattle.ifdb_log.specs.declared.fault.LogFault.TheVariants as fault
 use Rattle.ifdb_model.specs.Log.{Entry as LogEntry}
@@ -17,7 +16,7 @@ use Rattle.ifdb_history.specs.declared.entry.Entry.{Entry}
 use Rattle.ifdb_words.specs.declared.service.Service.{Service}
 use Rattle.ifdb_service.specs.Site.{Exchanges, GivesNone, IsServedOver}
 use Rattle.ifdb_service.specs.Summary.{listening_line}
-use Rattle.ifdb_reopen.specs.Files.{IsFileOf, IsTold, ShowsLog}
+use Rattle.ifdb_reopen.specs.Files.{IsFileOn, IsNewOn, IsTold, IsUnopened, ShowsLog}
 use Rattle.ifdb_host.specs.Fronts.{HasFrontOf, IsKeptSince, LeavesFrom}
 use Rattle.ifdb_host.specs.declared.end.HostEnd.{HostEnd}
 use Rattle.ifdb_host.specs.declared.end.HostEnd.TheVariants as ends
@@ -30,28 +29,6 @@ end_of (fault.Damaged at) = ends.Damaged at
 end_of fault.OutOfMemory = ends.OutOfMemory
 
 -- ---- the file
-
--- a disk tells what it holds, and these bytes are the file of a database, whose texts restore this log
-abbrev pub IsFileOn : Option Clock → List (List ℕ) → List LogEntry → Type 0
-IsFileOn None texts log = ⊥
-IsFileOn (Some c) texts log = IsFileOf texts log c.now.bytes
-
--- it does, and nothing was kept in it
-abbrev pub IsNewOn : Option Clock → Type 0
-IsNewOn None = ⊥
-IsNewOn (Some c) = IsNew c.now.bytes
-
--- a file without an entry: it is new, or a title and at most one byte behind it
-abbrev pub IsBare : List ℕ → Type 0
-IsBare bytes = IsNew bytes ⊎ (IsLog bytes × (length bytes ≤ 17))
-
--- an image is one of those at a start, or without an entry where the disk was so too
-abbrev pub IsOldOrBegun : Option Clock → List ℕ → Type 0
-IsOldOrBegun old image = Now old (λ s. IsImage s image ⊎ (IsBare s.bytes × IsBare image))
-
--- No entry was added: until now each image is one of those at the start, or without an entry where the disk was so too.
-abbrev pub IsUnopened : Option Clock → Option Clock → Type 0
-IsUnopened disk disk' = Leaves disk disk' (IsOldOrBegun disk)
 
 -- A database was opened over the log that the disk held, or over none on a new one. From then on each image is the file of that log
 -- and of a front of what this history added to it.

@@ -1,3 +1,4 @@
-mod Titles
-mod Sizes
-mod Restarts
+pub mod Titles
+pub mod Sizes
+pub mod Restarts
+pub mod Unopened

@@ -31,10 +31,10 @@ abbrev some_or : {X : Type 0} → X → Option X → X
 some_or x None = x
 some_or x (Some y) = y
 
-same_some : {X : Type 0} (a b : X) → Some a ≡ Some b → a ≡ b
+pub same_some : {X : Type 0} (a b : X) → Some a ≡ Some b → a ≡ b
 same_some a b e = ap (some_or a) e
 
-behind_more : (o : Option (List Entry)) (texts more : List (List ℕ)) → log_behind o (texts ++ more) ≡ log_behind (log_behind o texts) more
+pub behind_more : (o : Option (List Entry)) (texts more : List (List ℕ)) → log_behind o (texts ++ more) ≡ log_behind (log_behind o texts) more
 behind_more o [] more = refl
 behind_more o (text ∷ texts) more = behind_more (with_record o (record_of text)) texts more
 
@@ -49,7 +49,7 @@ spelled bytes (x ∷ front) rest gate r rs split is =
     many n le = grind (arith, nat_tests)
 
 -- texts that were read stand first among those of the bytes
-read_first : (bytes : List ℕ) (rs : List Record) (at : ℕ) (texts all : List (List ℕ)) → ((more : List Record) → texts_of (rs ++ more) ≡ with_texts texts (texts_of more)) → IsReadTo bytes rs at
+pub read_first : (bytes : List ℕ) (rs : List Record) (at : ℕ) (texts all : List (List ℕ)) → ((more : List Record) → texts_of (rs ++ more) ≡ with_texts texts (texts_of more)) → IsReadTo bytes rs at
     → texts_of (records bytes) ≡ Some all → (more : List (List ℕ)) × (all ≡ texts ++ more)
 read_first bytes [] at texts all up read is =
     let none : texts ++ [] ≡ [] = same_some (texts ++ []) [] (sym (up [])) in
@@ -61,7 +61,7 @@ read_first bytes (r ∷ rs) at texts all up read is =
     by None e = absurd (cc e)
     by (Some more) e = (more, sym (same_some (texts ++ more) all e))
 
-stood : (s : Shown) (before : List Shown) (rs : List Record) (p : Place) → ReadTo (Some (record { now = s; before = before })) rs p → IsReadTo s.bytes rs p.at
+pub stood : (s : Shown) (before : List Shown) (rs : List Record) (p : Place) → ReadTo (Some (record { now = s; before = before })) rs p → IsReadTo s.bytes rs p.at
 stood s before rs p read = subst (λ (b : List ℕ). IsReadTo b rs p.at) (ap (λ (s : Shown). s.bytes) (sym read.1)) read.2
 
 pub file_restarted : DamagedHasNoTexts → FilesAreRestarted
@@ -100,7 +100,7 @@ none_mapped : (n : ℕ) (ranges : List Range) → map (range_behind n) ranges �
 none_mapped n [] e = refl
 none_mapped n (r ∷ ranges) e = absurd (cc e)
 
-all_settled : (front : List ℕ) (s : Shown) (rest : List ℕ) → Stands 16 front s → shown_behind 16 s ≡ settled rest → s ≡ settled s.bytes
+pub all_settled : (front : List ℕ) (s : Shown) (rest : List ℕ) → Stands 16 front s → shown_behind 16 s ≡ settled rest → s ≡ settled s.bytes
 all_settled front s rest stands is =
     let behind_bytes : drop 16 s.bytes ≡ rest = ap (λ (u : Shown). u.bytes) is in
     let behind_synced : drop 16 s.synced ≡ rest = ap (λ (u : Shown). u.synced) is in

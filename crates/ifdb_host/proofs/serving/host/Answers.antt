@@ -2,7 +2,8 @@ use Rattle.std.proofs.Common.{rules, ◌≡◌, ◌∙◌, ap, sym, subst, Err}
 use Rattle.ifdb_log.specs.Causes.{HasLogCause}
 use Rattle.ifdb_host.specs.Hosted.{HostsSite}
 use Rattle.ifdb_host.specs.Serving.{span_of}
-use Rattle.ifdb_host.proofs.Openings.{hosts_before, refused_so, titled_unopened, IsTitledFrom}
+use Rattle.ifdb_reopen.proofs.Unopened.{titled_unopened, IsTitledFrom}
+use Rattle.ifdb_host.proofs.Openings.{hosts_before, refused_so}
 use Rattle.ifdb_host.proofs.serving.host.Goals as goal
 
 pub returns-in-Ok : goal.returns-in-Ok

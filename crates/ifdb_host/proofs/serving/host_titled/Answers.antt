@@ -8,7 +8,8 @@ use Rattle.ifdb_reopen.specs.Files.{IsOldOrBare, ShowsLog}
 use Rattle.ifdb_restart.specs.Restarted.{log_in}
 use Rattle.ifdb_host.specs.Hosted.{HostsSite}
 use Rattle.ifdb_host.specs.Serving.{span_of}
-use Rattle.ifdb_host.proofs.Openings.{hosts_opened, refused_so, bare_unopened, shown_on, IsReopenedFrom}
+use Rattle.ifdb_reopen.proofs.Unopened.{bare_unopened, shown_on}
+use Rattle.ifdb_host.proofs.Openings.{hosts_opened, refused_so, IsReopenedFrom}
 use Rattle.ifdb_host.proofs.serving.host_titled.Goals as goal
 
 pub returns-in-Ok-clause-hosts : goal.returns-in-Ok-clause-hosts
