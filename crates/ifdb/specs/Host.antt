@@ -10,6 +10,7 @@ use Rattle.ifdb_io.specs.declared.doors.Site as site
 use Rattle.ifdb_disk.specs.Clock.{Now}
 use Rattle.ifdb_disk.specs.declared.disk.Disk as disk
 use Rattle.ifdb_disk.specs.declared.shelf.Shelf as shelf
+use Rattle.ifdb_folder.specs.declared.folder.Folder as folder
 use Rattle.ifdb_host.specs.Hosted.{HostsSite}
 use Rattle.ifdb_host.specs.Serving.{span_of}
 use Rattle.ifdb_host.specs.declared.end.HostEnd.{HostEnd}
@@ -25,33 +26,21 @@ use Rattle.ifdb_words.specs.declared.host.Hosting.{Hosting}
 use Rattle.ifdb.specs.declared.top.Status.TheVariants as status
 use Rattle.ifdb.specs.declared.more.MoreStatus.{MoreStatus}
 use Rattle.ifdb.specs.declared.more.MoreStatus.TheVariants.{Base, Damaged}
-use Rattle.ifdb.specs.declared.hosting.HostStatus.{HostStatus}
-use Rattle.ifdb.specs.declared.hosting.HostStatus.TheVariants.{More, DiskFault, NoKey, NotADatabase}
+use Rattle.ifdb.specs.declared.status.HostStatus.{HostStatus}
+use Rattle.ifdb.specs.declared.status.HostStatus.TheVariants.{More, DiskFault, NoKey, NotADatabase}
 use Rattle.ifdb.specs.Base.{DoesBase}
 use Rattle.ifdb.specs.Check.{DoesCheck}
 use Rattle.ifdb.specs.Closures.{DoesClosures}
+use Rattle.ifdb.specs.Compact.{IsReadied}
 use Rattle.ifdb.specs.Keep.{DoesKeep}
-use Rattle.ifdb.specs.Lending.{Lends, Refuses}
-use Rattle.ifdb.specs.More.{IsBase, IsCheck, IsClosures, IsKeep, IsProject, OnBase, exit_code}
+use Rattle.ifdb.specs.Ends.{OnMore}
+use Rattle.ifdb.specs.Lending.{Gave, GaveNone, Lends, Refuses}
+use Rattle.ifdb.specs.More.{IsBase, IsCheck, IsClosures, IsKeep, IsProject, OnBase}
 use Rattle.ifdb.specs.Project.{DoesProject}
 use Rattle.ifdb.specs.Usage.{WritesUsage}
 
 abbrev pub host_usage : List ℕ
 host_usage = codes "usage: ifdb host --file F --admin-key A --port P [--workers W] [--links K] [--limit N]\n"
-
--- the exit status
-abbrev pub host_code : HostStatus → ℕ
-host_code (More end) = exit_code end
-host_code DiskFault = 7
-host_code NotADatabase = 8
-host_code NoKey = 8
-
--- the end is one of other words
-abbrev pub OnMore : HostStatus → (MoreStatus → Type 0) → Type 0
-OnMore (More end) P = P end
-OnMore DiskFault P = ⊥
-OnMore NotADatabase P = ⊥
-OnMore NoKey P = ⊥
 
 -- the first word
 abbrev pub IsHost : List (String Global) → Type 0
@@ -81,31 +70,36 @@ module _ {T D : Type 0} (secrets : shelf.Ghosts T D) (disks : disk.Ghosts D) whe
 
 -- ---- the service
 
-module _ {O S T D G K : Type 0} (outputs : sink.Ghosts O) (shelves : shelf.Ghosts T D) (disks : disk.Ghosts D)
+module _ {O S F D G K : Type 0} (outputs : sink.Ghosts O) (folders : folder.Ghosts F D) (disks : disk.Ghosts D)
     (sites : site.Ghosts S G K) (doors : door.Ghosts G K) (sources : source.Ghosts K) (sinks : sink.Ghosts K) where
   -- a database on a disk was served to this end
   abbrev pub HostsOn : Hosting → O → O → S → S → HostEnd → D → D → Type 0
   HostsOn h output output' before after end disk disk' =
       HostsSite sites doors sources sinks outputs h.service before after output output' (span_of disks.tells disks.faults disk disk') end
 
-  -- The shelf gave a disk, the database on it was served, and the disk came back; or it gave none.
-  abbrev pub HostsDatabase : Hosting → O → O → S → S → T → T → HostStatus → Type 0
-  HostsDatabase h output output' before after shelf shelf' end =
-      ((e : HostEnd) × (end ≡ status_of e) × Lends shelves h.file shelf shelf' (HostsOn h output output' before after e))
-      ⊎ ((end ≡ DiskFault) × (output' ≡ output) × (after ≡ before) × Refuses {D = D} shelves h.file shelf shelf')
+  -- The folder gave a disk, the database on it was served, and the disk was given back; or it gave none.
+  abbrev pub HostsFile : Hosting → O → O → S → S → F → F → HostStatus → Type 0
+  HostsFile h output output' before after folder folder' end =
+      ((e : HostEnd) × (end ≡ status_of e) × Gave folders h.file folder folder' (HostsOn h output output' before after e))
+      ⊎ ((end ≡ DiskFault) × (output' ≡ output) × (after ≡ before) × GaveNone folders folder folder')
 
-module _ {O S T D X Y G K : Type 0} (outputs : sink.Ghosts O) (shelves : shelf.Ghosts T D) (disks : disk.Ghosts D)
+  -- The database was as it was, or was compacted, and then it was served.
+  abbrev pub HostsDatabase : Hosting → O → O → S → S → F → F → HostStatus → Type 0
+  HostsDatabase h output output' before after folder folder' end =
+      (readied : F) × IsReadied folders disks h.file folder readied × HostsFile h output output' before after readied folder' end
+
+module _ {O S F D X Y G K : Type 0} (outputs : sink.Ghosts O) (folders : folder.Ghosts F D) (disks : disk.Ghosts D)
     (secrets : shelf.Ghosts X Y) (secret_disks : disk.Ghosts Y) (sites : site.Ghosts (KeyedSite S G K) (KeyedDoor G) (KeyedLink K))
     (doors : door.Ghosts (KeyedDoor G) (KeyedLink K)) (sources : source.Ghosts (KeyedLink K)) (sinks : sink.Ghosts (KeyedLink K))
-    (output output' : O) (before after : KeyedSite S G K) (shelf shelf' : T) (secret secret' : X) where
-  -- nothing was written, and neither the site nor the database's shelf was asked for anything
+    (output output' : O) (before after : KeyedSite S G K) (folder folder' : F) (secret secret' : X) where
+  -- nothing was written, and neither the site nor the folder was asked for anything
   abbrev pub IsUntouched : Type 0
-  IsUntouched = (output' ≡ output) × (after ≡ before) × (shelf' ≡ shelf)
+  IsUntouched = (output' ≡ output) × (after ≡ before) × (folder' ≡ folder)
 
   -- the database was served by the key that the file holds
   abbrev pub ServesByKey : Hosting → HostStatus → Type 0
   ServesByKey h end = (key : AdminKey) × ReadsKey secrets secret_disks h.key_file secret secret' (Some key)
-      × HostsDatabase outputs shelves disks sites doors sources sinks h output output' (record before { key = key }) after shelf shelf' end
+      × HostsDatabase outputs folders disks sites doors sources sinks h output output' (record before { key = key }) after folder folder' end
 
   -- nobody was served, since the file holds no key, or couldn't be read
   abbrev pub LacksKey : Hosting → HostStatus → Type 0
@@ -121,7 +115,7 @@ module _ {O S T D X Y G K : Type 0} (outputs : sink.Ghosts O) (shelves : shelf.G
     pub well_formed : (h : Hosting) → host_in words ≡ Some h
         → HostsByKey h end ⊎ ((end ≡ More (Base status.OutOfMemory)) × IsUntouched × (secret' ≡ secret))
     pub malformed : host_in words ≡ None
-        → OnMore end (WritesUsage outputs host_usage output output') × (after ≡ before) × (shelf' ≡ shelf) × (secret' ≡ secret)
+        → OnMore end (WritesUsage outputs host_usage output output') × (after ≡ before) × (folder' ≡ folder) × (secret' ≡ secret)
 
 module _ {I O S T D G K : Type 0} (inputs : source.Ghosts I) (outputs : sink.Ghosts O) (shelves : shelf.Ghosts T D) (disks : disk.Ghosts D)
     (sites : site.Ghosts S G K) (doors : door.Ghosts G K) (sources : source.Ghosts K) (sinks : sink.Ghosts K) where

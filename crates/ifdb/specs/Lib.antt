@@ -1,6 +1,8 @@
 pub mod Base
 pub mod Check
 pub mod Closures
+pub mod Compact
+pub mod Ends
 pub mod Host
 pub mod Keep
 pub mod Lending

@@ -3,6 +3,7 @@ ghost use Rattle.std.specs.Prelude.{◌≡◌, ◌<◌};
 
 mod ceilings;
 mod closures;
+mod compacts;
 mod ends;
 mod faults;
 mod generate;

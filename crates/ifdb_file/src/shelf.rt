@@ -106,6 +106,16 @@ impl<'a, R: Files<File = File>> Folder for FileShelf<'a, R> {
 
     ghost faults = { λ shelf. shelf.failed };
 
+    fn has(&mut self, name: &str) -> Result<bool, Failed> {
+        match fs::exists(self.rt, name) {
+            Ok(there) => Ok(there),
+            Err(_) => {
+                self.failed = self.failed.saturating_add(1);
+                Err(Failed)
+            }
+        }
+    }
+
     fn take(&mut self, name: &str) -> Result<FileDisk, Failed> {
         Shelf::open(self, name)
     }

@@ -1,24 +1,26 @@
-// The words of `host`, over shelves with one disk in memory and a site of doors in memory.
+// The words of `host`, over a folder in memory and a site of doors in memory.
 use super::*;
-use crate::hosting::{HostStatus, top_host};
+use crate::status::HostStatus;
+use crate::top_host::top_host;
+use ifdb_folder::{Folder, MemoryFolder, Name, Named};
 use ifdb_io::{Failed, MemoryDoor};
 use ifdb_keyed::KeyedSite;
 
 // A table is made and a row inserted, and another in a transaction that the client leaves open.
-const FIRST: &str =
+pub(super) const FIRST: &str =
     "HELLO admin KEY 'sesame'\nCREATE TABLE note (id INT, PRIMARY KEY (id))\nINSERT INTO note VALUES (1)\nBEGIN\nINSERT INTO note VALUES (2)\n";
 
-const FIRST_REPLIES: &str = "OK\nOK\nOK 1\nOK\nOK 1\n";
+pub(super) const FIRST_REPLIES: &str = "OK\nOK\nOK 1\nOK\nOK 1\n";
 
-const FIRST_OUTPUT: &str =
+pub(super) const FIRST_OUTPUT: &str =
     "LISTENING 7070\nsessions 1\nentries 6\ncommits 1\nrefused 0\nrows 1\nfaults 0\n";
 
 // What is there is looked at.
-const SECOND: &str = "HELLO admin KEY 'sesame'\nSELECT id FROM note\nBYE\n";
+pub(super) const SECOND: &str = "HELLO admin KEY 'sesame'\nSELECT id FROM note\nBYE\n";
 
-const SECOND_REPLIES: &str = "OK\nROWS 1 1\n1\nOK\n";
+pub(super) const SECOND_REPLIES: &str = "OK\nROWS 1 1\n1\nOK\n";
 
-const SECOND_OUTPUT: &str =
+pub(super) const SECOND_OUTPUT: &str =
     "LISTENING 7070\nsessions 1\nentries 4\ncommits 0\nrefused 0\nrows 1\nfaults 0\n";
 
 const WORDS: &str = "host --file d --admin-key k --port 7070 --workers 1 --links 1";
@@ -27,23 +29,23 @@ const WORDS: &str = "host --file d --admin-key k --port 7070 --workers 1 --links
 const NOBODY: &str = "ERR 4 BadKey\nERR 2 NotHello\n";
 
 // The file of the key.
-const KEY: &[u8] = b"sesame\n";
+pub(super) const KEY: &[u8] = b"sesame\n";
 
 const USAGE: &str =
     "usage: ifdb host --file F --admin-key A --port P [--workers W] [--links K] [--limit N]\n";
 
-// How a call of the program ended, what was written for it, what the last connection was told, and the disk that came back to
-// the shelf.
+// How a call of the program ended, what was written for it, what the last connection was told, and the disk that the database's
+// name has then.
 #[derive(Drop)]
-struct HostedHere {
-    end: HostStatus,
-    written: Vec<u8>,
-    replies: Vec<u8>,
-    back: Option<MemoryDisk>,
+pub(super) struct HostedHere {
+    pub(super) end: HostStatus,
+    pub(super) written: Vec<u8>,
+    pub(super) replies: Vec<u8>,
+    pub(super) disk: MemoryDisk,
 }
 
 // A disk of these bytes, which fails at this one of its calls.
-fn disk_of(alloc: Global, bytes: &[u8], fails: Option<u64>) -> Result<MemoryDisk, Fail> {
+pub(super) fn disk_of(alloc: Global, bytes: &[u8], fails: Option<u64>) -> Result<MemoryDisk, Fail> {
     let bytes = Vec::from_slice(alloc, bytes)?;
     Ok(MemoryDisk::new(alloc, bytes, 1000, 1000, failing(alloc, fails)?)?)
 }
@@ -70,25 +72,44 @@ fn replies_of(alloc: Global, site: &KeyedSite<MemorySite<MemoryLink>>) -> Result
     Ok(replies)
 }
 
-// Calls the program with these words over a client, and shelves that give these disks, but at this call of `open`: the database's,
-// and that of the key.
-fn run_over<R: AllocGlobal + Threads + Wait + Sync>(
+// A folder with the disk of a database, and that of its new file; these calls of it fail.
+pub(super) fn folder_of(
+    alloc: Global,
+    disk: MemoryDisk,
+    spare: MemoryDisk,
+    fails: &[u64],
+) -> Result<MemoryFolder, Fail> {
+    let first = Named {
+        name: Name::of("d"),
+        disk: Some(disk),
+    };
+    let second = Named {
+        name: Name::of("d.new"),
+        disk: Some(spare),
+    };
+    Ok(MemoryFolder::new(first, second, Vec::from_slice(alloc, fails)?))
+}
+
+// Calls the program with these words over a client, a folder, and a shelf that gives the file of the key.
+pub(super) fn run_over<R: AllocGlobal + Threads + Wait + Sync>(
     rt: &R,
     words: &str,
     client: &str,
-    mut shelf: MemoryShelf,
+    mut folder: MemoryFolder,
     mut secrets: MemoryShelf,
 ) -> Result<HostedHere, Fail> {
     let words = words_of(rt.alloc(), words)?;
     let mut input = source(rt.alloc(), b"", all_of(64))?;
     let mut output = sink(rt.alloc(), all_of(64))?;
     let mut site = site_of(rt.alloc(), client)?;
+    let mut shelf = shelf_of(rt.alloc(), disk_of(rt.alloc(), b"", None)?, None)?;
     let end = top_host(
         rt,
         &words,
         &mut input,
         &mut output,
         &mut site,
+        &mut folder,
         &mut shelf,
         &mut secrets,
     );
@@ -100,40 +121,45 @@ fn run_over<R: AllocGlobal + Threads + Wait + Sync>(
         end,
         written,
         replies,
-        back: shelf.back(),
+        disk: folder.take("d")?,
     })
 }
 
 // A shelf that gives this disk, but at this call of `open`.
-fn shelf_of(alloc: Global, disk: MemoryDisk, fails: Option<u64>) -> Result<MemoryShelf, Fail> {
+pub(super) fn shelf_of(
+    alloc: Global,
+    disk: MemoryDisk,
+    fails: Option<u64>,
+) -> Result<MemoryShelf, Fail> {
     Ok(MemoryShelf::new(disk, failing(alloc, fails)?))
 }
 
-// Calls the program with these words over a client and a disk, which the shelf gives but at this call, by the key.
-fn run_hosted<R: AllocGlobal + Threads + Wait + Sync>(
+// Calls the program with these words over a client, by the key, and a folder with this disk, of which these calls fail.
+pub(super) fn run_hosted<R: AllocGlobal + Threads + Wait + Sync>(
     rt: &R,
     words: &str,
     client: &str,
     disk: MemoryDisk,
-    fails: Option<u64>,
+    fails: &[u64],
 ) -> Result<HostedHere, Fail> {
-    let shelf = shelf_of(rt.alloc(), disk, fails)?;
+    let spare = disk_of(rt.alloc(), b"", None)?;
+    let folder = folder_of(rt.alloc(), disk, spare, fails)?;
     let secrets = shelf_of(rt.alloc(), disk_of(rt.alloc(), KEY, None)?, None)?;
-    run_over(rt, words, client, shelf, secrets)
+    run_over(rt, words, client, folder, secrets)
 }
 
 // Serves a client over a disk, and compares what is written for it and what the client is told.
-fn goes_on<R: Abort + AllocGlobal + Threads + Wait + Sync>(
+pub(super) fn goes_on<R: Abort + AllocGlobal + Threads + Wait + Sync>(
     rt: &R,
     client: &str,
     disk: MemoryDisk,
     (written, replies): (&str, &str),
 ) -> Result<MemoryDisk, Fail> {
-    let ran = run_hosted(rt, WORDS, client, disk, None)?;
+    let ran = run_hosted(rt, WORDS, client, disk, &[])?;
     assert_eq!(rt; ran.end, HostStatus::More(MoreStatus::Base(Status::Done)));
     assert_eq!(rt; ran.written.as_slice(), written.as_bytes());
     assert_eq!(rt; ran.replies.as_slice(), replies.as_bytes());
-    Ok(ran.back.ok_or(Failed)?)
+    Ok(ran.disk)
 }
 
 #[test]
@@ -144,29 +170,37 @@ fn kept_and_served_again(rt: HostRuntime) -> Result<(), Fail> {
     Ok(())
 }
 
-// Words, the disk's bytes, which call of the shelf gives no disk, how it ends, what is written, and whether the disk comes back:
-// another file, a damaged one, and no disk.
-static STOPS: [(&[u8], Option<u64>, HostStatus, bool); 3] = [
-    (b"\x01\x09\0", None, HostStatus::NotADatabase, true),
+// The disk's bytes, which calls of the folder fail, and how it ends: another file, a damaged one, and no disk. The first call
+// is that of a compaction, without which the database is served too.
+static STOPS: [(&[u8], &[u64], HostStatus); 4] = [
+    (b"\x01\x09\0", &[], HostStatus::NotADatabase),
     (
         b"ifdb log 1     \n\x01\x09\0",
-        None,
+        &[],
         HostStatus::More(MoreStatus::Damaged(16)),
-        true,
     ),
-    (b"", Some(0), HostStatus::DiskFault, false),
+    (b"", &[1], HostStatus::DiskFault),
+    (b"", &[0, 1], HostStatus::DiskFault),
 ];
 
 #[test]
 fn what_stops_it(rt: HostRuntime) -> Result<(), Fail> {
-    for (bytes, refused, end, back) in &STOPS {
+    for (bytes, refused, end) in &STOPS {
         let disk = disk_of(rt.alloc(), bytes, None)?;
-        let ran = run_hosted(&rt, WORDS, FIRST, disk, *refused)?;
+        let ran = run_hosted(&rt, WORDS, FIRST, disk, refused)?;
         assert_eq!(rt; ran.end, *end);
         assert!(rt; ran.written.is_empty());
-        assert_eq!(rt; ran.back.is_some(), *back);
     }
     assert_eq!(rt; HostStatus::NotADatabase.exit_code(), 8);
+    Ok(())
+}
+
+#[test]
+fn served_where_it_is_not_compacted(rt: HostRuntime) -> Result<(), Fail> {
+    let disk = disk_of(rt.alloc(), b"", None)?;
+    let ran = run_hosted(&rt, WORDS, FIRST, disk, &[0])?;
+    assert_eq!(rt; ran.end, HostStatus::More(MoreStatus::Base(Status::Done)));
+    assert_eq!(rt; ran.replies.as_slice(), FIRST_REPLIES.as_bytes());
     Ok(())
 }
 
@@ -186,12 +220,14 @@ static LACKS: [(&[u8], Option<u64>, HostStatus); 4] = [
 #[test]
 fn without_a_key(rt: HostRuntime) -> Result<(), Fail> {
     for (bytes, refused, end) in &LACKS {
-        let shelf = shelf_of(rt.alloc(), disk_of(rt.alloc(), b"", None)?, None)?;
+        let disk = disk_of(rt.alloc(), b"", None)?;
+        let spare = disk_of(rt.alloc(), b"", None)?;
+        let folder = folder_of(rt.alloc(), disk, spare, &[])?;
         let secrets = shelf_of(rt.alloc(), disk_of(rt.alloc(), bytes, None)?, *refused)?;
-        let ran = run_over(&rt, WORDS, FIRST, shelf, secrets)?;
+        let ran = run_over(&rt, WORDS, FIRST, folder, secrets)?;
         assert_eq!(rt; ran.end, *end);
         assert!(rt; ran.written.is_empty());
-        assert!(rt; ran.back.is_none());
+        assert!(rt; ran.disk.bytes().is_empty());
     }
     assert_eq!(rt; HostStatus::NoKey.exit_code(), 8);
     assert_eq!(rt; HostStatus::DiskFault.exit_code(), 7);
@@ -207,7 +243,7 @@ fn the_first_key_is_no_longer_one(rt: HostRuntime) -> Result<(), Fail> {
         WORDS,
         "HELLO admin KEY 'admin'\nCREATE TABLE t (id INT, PRIMARY KEY (id))\n",
         disk,
-        None,
+        &[],
     )?;
     assert_eq!(rt; ran.replies.as_slice(), NOBODY.as_bytes());
     Ok(())
@@ -219,7 +255,7 @@ fn no_reply_before_it_is_kept(rt: HostRuntime) -> Result<(), Fail> {
     let mut has_failed = false;
     for call in 0..20 {
         let disk = disk_of(rt.alloc(), b"", Some(call))?;
-        let ran = run_hosted(&rt, WORDS, FIRST, disk, None)?;
+        let ran = run_hosted(&rt, WORDS, FIRST, disk, &[])?;
         if ran.end == HostStatus::DiskFault {
             assert!(rt; FIRST_REPLIES.as_bytes().starts_with(&ran.replies));
             assert!(rt; ran.replies.len() < FIRST_REPLIES.len());
@@ -245,23 +281,23 @@ fn malformed_words_of_host(rt: HostRuntime) -> Result<(), Fail> {
         "host --file d --file e --admin-key k --port 7",
     ] {
         let disk = disk_of(rt.alloc(), b"", None)?;
-        let ran = run_hosted(&rt, words, FIRST, disk, None)?;
+        let ran = run_hosted(&rt, words, FIRST, disk, &[])?;
         assert_eq!(rt;
             ran.end,
             HostStatus::More(MoreStatus::Base(Status::Usage)),
             "{words}"
         );
         assert_eq!(rt; ran.written.as_slice(), USAGE.as_bytes(), "{words}");
-        assert!(rt; ran.back.is_none(), "{words}");
+        assert!(rt; ran.disk.bytes().is_empty(), "{words}");
     }
     Ok(())
 }
 
-// Any other first word is that of a program without `host`.
+// Any other first word is that of a program without these two.
 #[test]
 fn other_words_are_as_before(rt: HostRuntime) -> Result<(), Fail> {
     let disk = disk_of(rt.alloc(), b"", None)?;
-    let ran = run_hosted(&rt, "generate 1", "", disk, None)?;
+    let ran = run_hosted(&rt, "generate 1", "", disk, &[])?;
     assert_eq!(rt; ran.end, HostStatus::More(MoreStatus::Base(Status::Done)));
     assert!(rt;
         ran.written
