@@ -1,10 +1,11 @@
 -- decides: the program
 -- What the program does by the words of `compact`.
-use Rattle.std.specs.Prelude.{◌≡◌, ◌⊎◌, ℕ, ◌<◌, ◌++◌, true, List, String, codes, length, None, Result, Ok, Err, Bool, Some}
+use Rattle.std.specs.Prelude.{◌≡◌, ◌⊎◌, ℕ, ◌<◌, ◌++◌, true, false, List, String, codes, length, None, Result, Ok, Err, Bool, Some}
 use Rattle.std.specs.declared.alloc.Global.{Global}
 use Rattle.ifdb_io.specs.declared.outside.Sink as sink
 use Rattle.ifdb_disk.specs.declared.disk.Disk as disk
 use Rattle.ifdb_folder.specs.declared.folder.Folder as folder
+use Rattle.ifdb_folder.specs.Folders.{IsThere}
 use Rattle.ifdb_log.specs.declared.fault.LogFault.{LogFault}
 use Rattle.ifdb_log.specs.declared.fault.LogFault.TheVariants as fault
 use Rattle.ifdb_swap.specs.Folders.{Compacts}
@@ -21,6 +22,7 @@ use Rattle.ifdb.specs.declared.more.MoreStatus.TheVariants.{Base, Damaged}
 use Rattle.ifdb.specs.declared.status.HostStatus.{HostStatus}
 use Rattle.ifdb.specs.declared.status.HostStatus.TheVariants.{More, DiskFault, NotADatabase, SpareTaken}
 use Rattle.ifdb.specs.Ends.{OnMore}
+use Rattle.ifdb.specs.Lending.{GaveNone}
 use Rattle.ifdb.specs.Usage.{WritesUsage}
 
 abbrev pub compact_usage : List ℕ
@@ -69,10 +71,20 @@ module _ {F D : Type 0} (folders : folder.Ghosts F D) (disks : disk.Ghosts D) wh
   IsReadied name before after = (after ≡ before) ⊎ ((r : Result Bool CompactFault) × CompactsTo IfWorth name before after r)
 
   -- The database was compacted to this end; or nothing was done, since there was no memory, or the new file's name would be too long.
-  abbrev pub CompactsFile : List ℕ → F → F → HostStatus → Type 0
-  CompactsFile name before after end =
+  abbrev pub CompactsThere : List ℕ → F → F → HostStatus → Type 0
+  CompactsThere name before after end =
       ((r : Result Bool CompactFault) × (end ≡ compact_status r) × CompactsTo Always name before after r)
       ⊎ ((after ≡ before) × ((end ≡ More (Base status.OutOfMemory)) ⊎ ((end ≡ DiskFault) × (251 < length name))))
+
+  -- the folder was asked whether something has the name
+  abbrev pub Looks : List ℕ → Bool → F → F → Type 0
+  Looks name there before after = (folders.tells after ≡ folders.tells before) × IsThere name there (folders.tells before)
+
+  -- A file has the name, and was compacted. Or none has it, or that isn't known, and none has come.
+  abbrev pub CompactsFile : List ℕ → F → F → HostStatus → Type 0
+  CompactsFile name before after end =
+      ((looked : F) × Looks name true before looked × CompactsThere name looked after end)
+      ⊎ ((end ≡ DiskFault) × (Looks name false before after ⊎ GaveNone folders before after))
 
   -- the words behind `compact`, unless there was no memory to read them
   pub record DoesCompact {O : Type 0} (outputs : sink.Ghosts O) (output output' : O) (before after : F) (words : List (List ℕ)) (end : HostStatus) : Type 0 where

@@ -33,7 +33,7 @@ module _ {F D : Type 0} (folders : folder.Ghosts F D) where
     pub returned : Gives name back (folders.tells between) (folders.tells after)
     pub became : Became given back
 
-  -- `take` was called once, and failed
+  -- a call failed, and nothing was taken
   pub record GaveNone (before after : F) : Type 0 where
     pub same : folders.tells after ≡ folders.tells before
     pub rose : Rose (folders.faults before) (folders.faults after)

@@ -1,6 +1,6 @@
 // The words of `compact`.
-ghost use Rattle.std.specs.Prelude.{◌≡◌, ◌≤◌, map, string_bytes};
-ghost use Rattle.ifdb.specs.Compact.{CompactsFile, DoesCompact, compact_status, read_status, write_status};
+ghost use Rattle.std.specs.Prelude.{◌≡◌, ◌≤◌, length, map, string_bytes};
+ghost use Rattle.ifdb.specs.Compact.{CompactsFile, CompactsThere, DoesCompact, compact_status, read_status, write_status};
 
 use crate::more::MoreStatus;
 use crate::status::HostStatus;
@@ -36,7 +36,7 @@ where
     }
 }
 
-/// Compacts the database in a file to another, which has its name and `.new` behind it, and then takes its place.
+/// Compacts the database in a file, if it is there.
 fn compact_file<F: Folder>(alloc: Global, folder: &mut F, file: &FileName) -> HostStatus
 where
     F::Disk: Drop,
@@ -44,6 +44,20 @@ where
     ensures folder_later { F.faults folder.old ≤ F.faults folder.new }
 {
     let name = file.as_str();
+    match folder.has(name) {
+        Ok(true) => compact_there(alloc, folder, name),
+        Ok(false) | Err(_) => HostStatus::DiskFault,
+    }
+}
+
+/// Compacts the database in a file to another, which has its name and `.new` behind it, and then takes its place.
+fn compact_there<F: Folder>(alloc: Global, folder: &mut F, name: &str) -> HostStatus
+where
+    F::Disk: Drop,
+    requires { (1 ≤ length name.now) × (length name.now ≤ 255) }
+    ensures compacted { CompactsThere F.Folder F.Disk.Disk name.now folder.old folder.new result }
+    ensures folder_later { F.faults folder.old ≤ F.faults folder.new }
+{
     match spare_name(alloc, name) {
         Ok(Some(spare)) => compact_status(compact_file_in(
             alloc,

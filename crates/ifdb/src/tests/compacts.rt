@@ -45,7 +45,7 @@ fn compacted_and_served_again(rt: HostRuntime) -> Result<(), Fail> {
 // Each call of the folder fails in turn: the database is served as before.
 #[test]
 fn served_again_behind_a_fault(rt: HostRuntime) -> Result<(), Fail> {
-    for call in 0..3 {
+    for call in 0..4 {
         let disk = changed(&rt)?;
         let ran = run_hosted(&rt, WORDS, "", disk, &[call])?;
         assert_eq!(rt; ran.end, HostStatus::DiskFault);
@@ -77,6 +77,15 @@ fn what_is_left_as_it_is(rt: HostRuntime) -> Result<(), Fail> {
         assert!(rt; ran.disk.bytes().starts_with(bytes));
     }
     assert_eq!(rt; HostStatus::SpareTaken.exit_code(), 8);
+    Ok(())
+}
+
+#[test]
+fn no_file_is_made(rt: HostRuntime) -> Result<(), Fail> {
+    let disk = disk_of(rt.alloc(), b"", None)?;
+    let ran = run_hosted(&rt, "compact --file e", "", disk, &[])?;
+    assert_eq!(rt; ran.end, HostStatus::DiskFault);
+    assert!(rt; ran.written.is_empty());
     Ok(())
 }
 

@@ -4,8 +4,8 @@ use Rattle.ifdb_words.specs.Clap.{IsTaken}
 use Rattle.ifdb_words.proofs.CompactOptions.{compact_taken}
 use Rattle.ifdb_words.proofs.compact.compact_in.Goals as goal
 
-pub returns-in-Some-clause-file : goal.returns-in-Some-clause-file
-returns-in-Some-clause-file c =
+pub returns-in-Some : goal.returns-in-Some
+returns-in-Some c =
     let app = app_of c.in_ok-command.command in
     let words = map string_bytes c.args.words.now in
     compact_taken app words c.in-Some.matches c.named.result c.in_ok-command.ensures
