@@ -2,18 +2,6 @@
 #![tactic(auto)]
 
 mod adapters;
-mod check;
-mod closures;
-mod compacting;
-mod hosting;
-mod keep;
-mod more;
-mod project;
-mod status;
-#[cfg(test)]
-mod tests;
-mod top;
-mod top_host;
 
 use adapters::{Reading, Writing};
 use ifdb_file::{FileShelf, ReadShelf};
@@ -21,12 +9,9 @@ use ifdb_io::write_all;
 use ifdb_keyed::KeyedSite;
 use ifdb_net::TcpSite;
 use ifdb_service::write_numbered;
-use more::MoreStatus;
-use status::HostStatus;
+use ifdb_top::{HostStatus, MoreStatus, Status, top_host};
 use std::io;
 use std::process::ExitCode;
-use top::Status;
-use top_host::top_host;
 
 // Hands the program's words, standard input and output, and this machine's ports and files to the top call. Tells on standard error
 // where a journal is damaged, and of `host` and `compact` that a file can't be had, is no database, or holds no key.
