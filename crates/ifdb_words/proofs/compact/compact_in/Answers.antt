@@ -8,5 +8,7 @@ pub returns-in-Some : goal.returns-in-Some
 returns-in-Some c =
     let app = app_of c.in_ok-command.command in
     let words = map string_bytes c.args.words.now in
-    compact_taken app words c.in-Some.matches c.named.result c.in_ok-command.ensures
-    (subst (IsTaken app words) c.in-Some.is c.in_ok-matches.ensures) c.named.ensures
+    record {
+      file = compact_taken app words c.in-Some.matches c.named.result c.in_ok-command.ensures
+          (subst (IsTaken app words) c.in-Some.is c.in_ok-matches.ensures) c.named.ensures;
+    }
