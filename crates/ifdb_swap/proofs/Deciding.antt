@@ -1,6 +1,6 @@
 -- Whether a file is worth a compaction.
-use Rattle.std.proofs.Common.{◌≡◌, ℕ, ◌≤◌, Bool, true, false, List, ◌∙◌, inl, length, sym, ap, arith}
-use Rattle.std.specs.Prelude.{Option, Some, None}
+use Rattle.std.proofs.Common.{◌≡◌, ℕ, ◌≤◌, Bool, false, ◌∙◌, inl, length, sym, ap, arith}
+use Rattle.std.specs.Prelude.{Option, Some, None, Result, Ok, Err, IfOk, IfSome}
 use Rattle.std.proofs.lemmas.Bool.Decides.{nat_tests}
 use Rattle.ifdb_disk.specs.Clock.{Clock, Now}
 use Rattle.ifdb_extract.specs.Texts.{Extracted}
@@ -18,4 +18,16 @@ short_unneeded (Some c) size is none = inl (omega (arith, is, short_file size no
 
 pub worth_of : (answer : Bool) (t : Option Clock) (size n : ℕ) (x : Extracted) → Now t (λ s. size ≡ length s.bytes) → IsExtractIn t x → IsSizeOf n x → is_worth size n ≡ answer → IsWorth answer t
 worth_of answer None size n x is extract sized worth = tt
-worth_of answer (Some c) size n x is extract sized worth = λ texts log shows. (n, (x, extract texts log shows, sized), ap (λ k. is_worth k n) (sym is) ∙ worth)
+worth_of answer (Some c) size n x is extract sized worth =
+    let found = extract tt in
+    (found.0, n, found.1, (x, found.2, sized), ap (λ k. is_worth k n) (sym is) ∙ worth)
+
+-- of what was found a fact is known, and from it another
+pub if_one : {A E : Type 0} {P R : A → Type 0} (r : Result A E) → IfOk r P → ((x : A) → P x → R x) → IfOk r R
+if_one (Ok x) p so = so x p
+if_one (Err e) p so = tt
+
+pub if_found : {A E : Type 0} {P R : A → Type 0} (r : Result (Option A) E) → IfOk r (λ found. IfSome found P) → ((x : A) → P x → R x) → IfOk r (λ found. IfSome found R)
+if_found (Ok None) p so = tt
+if_found (Ok (Some x)) p so = so x p
+if_found (Err e) p so = tt

@@ -1,8 +1,7 @@
-mod Titles
-mod Sizes
 mod Damage
 mod Files
 mod Twice
 mod Deciding
 mod Names
 mod Swaps
+mod Ends

@@ -1,6 +1,6 @@
 -- Names whose disks were taken, and what has them then.
 use Rattle.std.proofs.Common.{◌≡◌, ◌≢◌, ℕ, Bool, true, false, List, [], ◌∷◌, ◌∙◌, refl, sym, ap, cond}
-use Rattle.std.specs.Prelude.{Option, Some, None, bytes_eq}
+use Rattle.std.specs.Prelude.{Option, Some, bytes_eq}
 use Rattle.std.proofs.lemmas.Slice.Eq.{bytes_eq-Decides}
 use Rattle.ifdb_folder.specs.declared.named.Named.{Named}
 use Rattle.ifdb_folder.specs.Folders.{disk_of, is_named, with_disk}

@@ -1,10 +1,7 @@
 // A database of a folder, compacted in its place.
-ghost use Rattle.std.specs.Prelude.{◌≡◌, ◌≢◌, ◌≤◌, ℕ, Err, Ok, false, length, true};
-ghost use Rattle.ifdb_disk.specs.Clock.{Now};
+ghost use Rattle.std.specs.Prelude.{◌≡◌, ◌≢◌, ◌≤◌, length};
 ghost use Rattle.ifdb_folder.specs.Folders.{GivesBoth};
-ghost use Rattle.ifdb_log.specs.Title.{IsOther};
-ghost use Rattle.ifdb_swap.specs.Swapped.{HasNoLog, IsUnneeded, IsWorth};
-ghost use Rattle.ifdb_swap.specs.Folders.{Ends, HasSwapCause, OfName};
+ghost use Rattle.ifdb_swap.specs.Folders.{Compacts};
 
 use crate::reading::{Decided, read_if};
 use crate::writing::{Written, write_log};
@@ -37,22 +34,8 @@ where
     requires name { (1 ≤ length name.now) × (length name.now ≤ 255) }
     requires spare { (1 ≤ length spare.now) × (length spare.now ≤ 255) }
     requires apart { spare.now ≢ name.now }
-    ensures database { Ends F.Disk.tells name.now spare.now
-        (F.tells folder.old) (F.tells folder.new) result }
-    ensures needed { result ≡ Ok true → when ≡ When.IfWorth
-        → OfName F.Disk.tells name.now (F.tells folder.old) (IsWorth true) }
-    ensures asked { result ≡ Ok false → when ≡ When.IfWorth }
-    ensures unneeded { result ≡ Ok false
-        → OfName F.Disk.tells name.now (F.tells folder.old) IsUnneeded }
-    ensures damaged { (at : ℕ) → result ≡ Err (CompactFault.Read (LogFault.Damaged at))
-        → OfName F.Disk.tells name.now (F.tells folder.old) HasNoLog }
-    ensures other { result ≡ Err (CompactFault.Read LogFault.NotALog)
-        → OfName F.Disk.tells name.now (F.tells folder.old) (λ t. Now t (λ s. IsOther s.bytes)) }
-    ensures spare { result ≡ Err (CompactFault.Write LogFault.NotALog)
-        → OfName F.Disk.tells spare.now (F.tells folder.old) (λ t. Now t (λ s. IsOther s.bytes)) }
-    ensures sound { (at : ℕ) → result ≡ Err (CompactFault.Write (LogFault.Damaged at)) → ⊥ }
-    ensures cause { HasSwapCause F.Disk.faults name.now spare.now (F.tells folder.old)
-        (F.tells folder.new) (F.faults folder.old) (F.faults folder.new) result }
+    ensures { Compacts F.Disk.tells F.Disk.faults when name.now spare.now
+        (F.tells folder.old) (F.tells folder.new) (F.faults folder.old) (F.faults folder.new) result }
 {
     compacted_texts_restore();
     let old = folder.take(name)?;

@@ -13,7 +13,7 @@ pub enum CompactFault {
     /// The database wasn't read.
     Read(LogFault),
     /// The new file wasn't written.
-    Write(LogFault),
+    Write(SpareFault),
 }
 
 impl fmt::Display for CompactFault {
@@ -38,3 +38,26 @@ impl From<Failed> for CompactFault {
         CompactFault::Folder
     }
 }
+
+/// Why a new file isn't written.
+#[derive(Clone, Copy, Debug, PartialEq, Eq)]
+pub enum SpareFault {
+    /// Another file has its name, which is neither new nor that of a log: it was left as it was.
+    NotALog,
+    /// The disk failed.
+    Disk,
+    /// There was no memory.
+    OutOfMemory,
+}
+
+impl fmt::Display for SpareFault {
+    fn fmt<W: fmt::Write>(&self, f: &mut fmt::Formatter<W>) -> fmt::Result {
+        match self {
+            SpareFault::NotALog => write!(f, "another file has its name"),
+            SpareFault::Disk => write!(f, "the disk failed"),
+            SpareFault::OutOfMemory => write!(f, "out of memory"),
+        }
+    }
+}
+
+impl Error for SpareFault {}

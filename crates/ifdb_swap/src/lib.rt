@@ -9,6 +9,6 @@ mod when;
 mod writing;
 
 pub use compaction::compact_in;
-pub use fault::CompactFault;
+pub use fault::{CompactFault, SpareFault};
 pub use spare::spare_name;
 pub use when::When;

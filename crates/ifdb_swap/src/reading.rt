@@ -5,7 +5,7 @@ ghost use Rattle.ifdb_log.specs.Causes.{HasLogCause};
 ghost use Rattle.ifdb_log.specs.Title.{IsLog, IsOther, IsSettled};
 ghost use Rattle.ifdb_extract.specs.Extracts.{IsSizeOf};
 ghost use Rattle.ifdb_extract.specs.Worth.{is_worth};
-ghost use Rattle.ifdb_swap.specs.Swapped.{HasNoLog, IsExtractIn, IsUnneeded, IsWorth, KeepsFile};
+ghost use Rattle.ifdb_swap.specs.Swapped.{HasNoLog, IsExtractIn, IsKept, IsUnneeded, IsWorth};
 
 use crate::When;
 use ifdb_disk::Disk;
@@ -36,7 +36,7 @@ pub(crate) fn read_if<D: Disk + Drop>(alloc: Global, disk: D, when: When) -> Dec
         when ≡ When.IfWorth → IsWorth true (D.tells disk))) }
     ensures asked { result.extract ≡ Ok None → when ≡ When.IfWorth }
     ensures unneeded { result.extract ≡ Ok None → IsUnneeded (D.tells disk) }
-    ensures kept { KeepsFile (D.tells disk) (D.tells result.disk) }
+    ensures kept { IsKept (D.tells disk) (D.tells result.disk) }
     ensures damaged { (at : ℕ) → result.extract ≡ Err (LogFault.Damaged at)
         → HasNoLog (D.tells disk) }
     ensures other { result.extract ≡ Err LogFault.NotALog
@@ -93,7 +93,7 @@ fn wanted(
 // Reads the file of a database, each entry of which is tested, and then gives what it comes to.
 fn read_log<D: Disk + Drop>(alloc: Global, disk: D) -> FileRead<D>
     ensures extract { IfOk result.extract (IsExtractIn (D.tells disk)) }
-    ensures kept { KeepsFile (D.tells disk) (D.tells result.disk) }
+    ensures kept { IsKept (D.tells disk) (D.tells result.disk) }
     ensures damaged { (at : ℕ) → result.extract ≡ Err (LogFault.Damaged at)
         → HasNoLog (D.tells disk) }
     ensures other { result.extract ≡ Err LogFault.NotALog
@@ -115,7 +115,7 @@ fn read_titled<B: Origin, D: Disk + Drop>(alloc: Global, disk: D) -> FileRead<D>
     requires begun { B.begun ≡ D.tells disk }
     requires titled { IsSettled IsLog (D.tells disk) }
     ensures extract { IfOk result.extract (IsExtractIn (D.tells disk)) }
-    ensures kept { KeepsFile (D.tells disk) (D.tells result.disk) }
+    ensures kept { IsKept (D.tells disk) (D.tells result.disk) }
     ensures damaged { (at : ℕ) → result.extract ≡ Err (LogFault.Damaged at)
         → HasNoLog (D.tells disk) }
     ensures titled { result.extract ≡ Err LogFault.NotALog → ⊥ }
