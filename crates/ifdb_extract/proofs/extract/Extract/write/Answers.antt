@@ -21,8 +21,8 @@ pub returns-clause-later : goal.returns-clause-later
 returns-clause-later g c =
     later_on (g.D.Disk.tells c.args.disk.now) (g.D.Disk.tells c.put_rows.new.disk) (g.D.Disk.tells c.finish.new.disk)
     (
-      later_on (g.D.Disk.tells c.args.disk.now) (g.D.Disk.tells c.put_changes.new.disk) (g.D.Disk.tells c.put_rows.new.disk)
-      (later_on (g.D.Disk.tells c.args.disk.now) (g.D.Disk.tells c.begin.new.disk) (g.D.Disk.tells c.put_changes.new.disk) c.begin.ensures.later c.put_changes.ensures.later) c.put_rows.ensures.later
+    later_on (g.D.Disk.tells c.args.disk.now) (g.D.Disk.tells c.put_changes.new.disk) (g.D.Disk.tells c.put_rows.new.disk)
+    (later_on (g.D.Disk.tells c.args.disk.now) (g.D.Disk.tells c.begin.new.disk) (g.D.Disk.tells c.put_changes.new.disk) c.begin.ensures.later c.put_changes.ensures.later) c.put_rows.ensures.later
     ) c.finish.ensures.later
 
 pub returns-clause-written : goal.returns-clause-written
