@@ -1,6 +1,6 @@
 -- Whether a file is worth a compaction.
 use Rattle.std.proofs.Common.{◌≡◌, ℕ, ◌≤◌, Bool, false, ◌∙◌, inl, length, sym, ap, arith}
-use Rattle.std.specs.Prelude.{Option, Some, None, Result, Ok, Err, IfOk, IfSome}
+use Rattle.std.specs.Prelude.{Option, Some, None, Result, Ok, Err, IfOk, IfSome, OnOk}
 use Rattle.std.proofs.lemmas.Bool.Decides.{nat_tests}
 use Rattle.ifdb_disk.specs.Clock.{Clock, Now}
 use Rattle.ifdb_extract.specs.Texts.{Extracted}
@@ -26,6 +26,11 @@ worth_of answer (Some c) size n x is extract sized worth =
 pub if_one : {A E : Type 0} {P R : A → Type 0} (r : Result A E) → IfOk r P → ((x : A) → P x → R x) → IfOk r R
 if_one (Ok x) p so = so x p
 if_one (Err e) p so = tt
+
+-- and from two facts
+pub if_both : {A E : Type 0} {P R : A → Type 0} {Q : Type 0} (r : Result A E) → IfOk r P → OnOk r Q → ((x : A) → P x → Q → R x) → IfOk r R
+if_both (Ok x) p q so = so x p q
+if_both (Err e) p q so = tt
 
 pub if_found : {A E : Type 0} {P R : A → Type 0} (r : Result (Option A) E) → IfOk r (λ found. IfSome found P) → ((x : A) → P x → R x) → IfOk r (λ found. IfSome found R)
 if_found (Ok None) p so = tt
