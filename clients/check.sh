@@ -46,6 +46,7 @@ try python3 clients/python/dialogue.py "${dialogues[@]}"
 try examples/tls/try.sh
 for test in clinic traces kept hosted service ranges many; do try python3 "tests/$test.py"; done
 try python3 tests/host_kills.py --kills 3 --clients 4 --life 0.3 --every 25
+try python3 tests/compact_kills.py --kills 20 --starts 0
 try python3 examples/backup/try.py
 try tests/package.sh
 echo "clients: $passed passed, $failed failed"

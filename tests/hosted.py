@@ -179,6 +179,33 @@ def a_full_disk_loses_nothing(folder: pathlib.Path) -> None:
     expect("what a start finds", ids(file), [str(it) for it in range(told)])
 
 
+def a_database_is_compacted_in_its_place(folder: pathlib.Path) -> None:
+    file, new = folder / "long", folder / "long.new"
+    made(file, "CREATE TAG secret", "INSERT INTO note VALUES (1, 'one'), (2, 'two')", *["UPDATE note SET body = 'again' WHERE id = 1"] * 20)
+    long = file.stat().st_size
+    expect("a compaction", program.run("compact", "--file", file), (0, b"", b""))
+    expect("that the file is shorter", file.stat().st_size < long // 2, True)
+    expect("its mode", oct(file.stat().st_mode & 0o777), "0o600")
+    expect("that no second file is left", new.exists(), False)
+    with host(file) as server, admin(server.port) as session:
+        expect("a compaction of a served file", program.run("compact", "--file", file).status, DISK_FAULT)
+        expect("what is there", session.answer("SELECT id, body FROM note ORDER BY id"), ["ROWS 2 2", "1\tagain", "2\ttwo"])
+        session.answer("SET LABEL (secret)")
+        session.answer("INSERT INTO note VALUES (3, 'three')")
+    again = file.read_bytes()
+    new.write_text("somebody's notes")
+    taken = b"ifdb: the name of the new file, with .new behind it, has another file\n"
+    expect("a second file of somebody's", program.run("compact", "--file", file), (DAMAGED, b"", taken))
+    expect("both files", (file.read_bytes(), new.read_text()), (again, "somebody's notes"))
+    new.write_bytes(again[:40])
+    expect("a compaction behind one that was cut short", program.run("compact", "--file", file).status, 0)
+    expect("what is there at the empty label", ids(file), ["1", "2"])
+    expect("a file that isn't there", program.run("compact", "--file", folder / "none").status, DISK_FAULT)
+    expect("that it isn't made", (folder / "none").exists(), False)
+    file.write_bytes(again[:-1] + b"\1")
+    expect("a damaged one", program.run("compact", "--file", file).said, f"ifdb: the journal is damaged at byte {len(again) - 1}\n".encode())
+
+
 TESTS: List[Callable[[pathlib.Path], None]] = [
     what_was_told_is_kept,
     nothing_is_kept_of_what_only_looks,
@@ -187,6 +214,7 @@ TESTS: List[Callable[[pathlib.Path], None]] = [
     without_a_key_nobody_is_served,
     what_stands_before_damage_goes_on,
     a_full_disk_loses_nothing,
+    a_database_is_compacted_in_its_place,
 ]
 
 

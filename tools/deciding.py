@@ -20,10 +20,11 @@ from typing import NamedTuple, Optional
 TOP = Path(__file__).resolve().parent.parent
 CRATES = TOP / "crates"
 ROOTS = [
-    "ifdb/src/hosting.rt",
-    "ifdb/src/more.rt",
+    "ifdb_top/src/top_host.rt",
+    "ifdb_top/src/more.rt",
     *(f"ifdb_io/src/{name}.rt" for name in ("outside", "doors")),
     *(f"ifdb_disk/src/{name}.rt" for name in ("disk", "shelf")),
+    "ifdb_folder/src/folder.rt",
     *(f"ifdb_keyed/src/{name}.rt" for name in ("link", "door", "site")),
     *(f"{crate}/src/laws.rt" for crate in ("ifdb_parse", "ifdb_keep", "ifdb_keyed")),
 ]

@@ -2,30 +2,19 @@
 #![tactic(auto)]
 
 mod adapters;
-mod check;
-mod closures;
-mod hosting;
-mod keep;
-mod more;
-mod project;
-#[cfg(test)]
-mod tests;
-mod top;
 
 use adapters::{Reading, Writing};
-use hosting::{HostStatus, top_host};
 use ifdb_file::{FileShelf, ReadShelf};
 use ifdb_io::write_all;
 use ifdb_keyed::KeyedSite;
 use ifdb_net::TcpSite;
 use ifdb_service::write_numbered;
-use more::MoreStatus;
+use ifdb_top::{HostStatus, MoreStatus, Status, top_host};
 use std::io;
 use std::process::ExitCode;
-use top::Status;
 
 // Hands the program's words, standard input and output, and this machine's ports and files to the top call. Tells on standard error
-// where a journal is damaged, and of `host` that a file can't be had, is no database, or holds no key.
+// where a journal is damaged, and of `host` and `compact` that a file can't be had, is no database, or holds no key.
 fn main(rt: HostRuntime) -> ExitCode {
     let words = match words(&rt) {
         Ok(words) => words,
@@ -38,6 +27,7 @@ fn main(rt: HostRuntime) -> ExitCode {
     let mut input = Reading::new(rt.stdin());
     let mut output = Writing::new(rt.stdout());
     let mut site = KeyedSite::new(rt.alloc(), TcpSite::new(&rt, rt.alloc()));
+    let mut folder = FileShelf::new(&rt);
     let mut shelf = FileShelf::new(&rt);
     let mut secrets = ReadShelf::new(&rt);
     let end = top_host(
@@ -46,6 +36,7 @@ fn main(rt: HostRuntime) -> ExitCode {
         &mut input,
         &mut output,
         &mut site,
+        &mut folder,
         &mut shelf,
         &mut secrets,
     );
@@ -63,6 +54,10 @@ fn main(rt: HostRuntime) -> ExitCode {
         HostStatus::NoKey => write_all(
             &mut errors,
             b"ifdb: the first line of the file of admin's key is no key\n",
+        ),
+        HostStatus::SpareTaken => write_all(
+            &mut errors,
+            b"ifdb: the name of the new file, with .new behind it, has another file\n",
         ),
         HostStatus::More(_) => Ok(()),
     };

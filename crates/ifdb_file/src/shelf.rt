@@ -1,5 +1,6 @@
 // The files of the system, by their paths.
 ghost use Rattle.std.specs.Prelude.{◌≡◌, None};
+ghost use Rattle.ifdb_io.specs.Causes.{HasCause};
 
 use crate::FileDisk;
 use ifdb_disk::Shelf;
@@ -34,6 +35,19 @@ impl<'a, R> FileShelf<'a, R> {
         ensures { result.failed ≡ 0 }
     {
         FileShelf { rt, failed: 0 }
+    }
+
+    // What the system gave, with its failure counted.
+    fn counted<T>(&mut self, given: io::Result<T>) -> Result<T, Failed>
+        ensures { HasCause self.old.failed self.new.failed result }
+    {
+        match given {
+            Ok(found) => Ok(found),
+            Err(_) => {
+                self.failed = self.failed.saturating_add(1);
+                Err(Failed)
+            }
+        }
     }
 }
 
@@ -77,13 +91,8 @@ impl<'a, R: Files<File = File>> Shelf for FileShelf<'a, R> {
     ghost faults = { λ shelf. shelf.failed };
 
     fn open(&mut self, name: &str) -> Result<FileDisk, Failed> {
-        match open_alone(self.rt, name) {
-            Ok(file) => Ok(FileDisk::new(file)),
-            Err(_) => {
-                self.failed = self.failed.saturating_add(1);
-                Err(Failed)
-            }
-        }
+        let file = self.counted(open_alone(self.rt, name))?;
+        Ok(FileDisk::new(file))
     }
 
     fn close(&mut self, disk: FileDisk) {
@@ -106,6 +115,10 @@ impl<'a, R: Files<File = File>> Folder for FileShelf<'a, R> {
 
     ghost faults = { λ shelf. shelf.failed };
 
+    fn has(&mut self, name: &str) -> Result<bool, Failed> {
+        self.counted(fs::exists(self.rt, name))
+    }
+
     fn take(&mut self, name: &str) -> Result<FileDisk, Failed> {
         Shelf::open(self, name)
     }
@@ -126,10 +139,6 @@ impl<'a, R: Files<File = File>> Folder for FileShelf<'a, R> {
         let renamed = rename_for_good(self.rt, new, old);
         drop(disk);
         drop(gone);
-        if renamed.is_err() {
-            self.failed = self.failed.saturating_add(1);
-            return Err(Failed);
-        }
-        Ok(())
+        self.counted(renamed)
     }
 }

@@ -65,7 +65,9 @@ fn read_alone(rt: HostRuntime) -> Result<(), Fail> {
 #[test]
 fn one_takes_the_place_of_another(rt: HostRuntime) -> Result<(), Fail> {
     let mut folder = FileShelf::new(&rt);
+    assert!(rt; !folder.has("database")?);
     let mut old = folder.take("database")?;
+    assert!(rt; folder.has("database")?);
     old.write(0, b"old")?;
     let mut new = folder.take("database.new")?;
     new.write(0, b"new and longer")?;

@@ -1,5 +1,5 @@
 -- Disks by their names, and what becomes of them.
-use Rattle.std.specs.Prelude.{◌≡◌, ◌⊎◌, ℕ, Bool, List, [], ◌∷◌, bytes_eq, Option, Some, None, if◌then◌else◌}
+use Rattle.std.specs.Prelude.{◌≡◌, ◌⊎◌, ℕ, Bool, List, [], ◌∷◌, bytes_eq, Option, Some, None, is_some, if◌then◌else◌, ⊤}
 use Rattle.ifdb_disk.specs.Memory.{DiskState}
 use Rattle.ifdb_folder.specs.declared.named.Named.{Named}
 
@@ -12,6 +12,11 @@ module _ {D : Type 0} where
   abbrev pub disk_of : List ℕ → List (Named D) → Option D
   disk_of name [] = None
   disk_of name (n ∷ disks) = if is_named name n then n.disk else disk_of name disks
+
+  -- a disk has the name, or none has it, or it is taken. Where the folder doesn't tell it, nothing is said of it.
+  abbrev pub IsThere : List ℕ → Bool → Option (List (Named D)) → Type 0
+  IsThere name there None = ⊤
+  IsThere name there (Some disks) = there ≡ is_some (disk_of name disks)
 
   -- another disk has the name, or none
   abbrev pub with_disk : List ℕ → Option D → List (Named D) → List (Named D)
@@ -47,7 +52,7 @@ pub record FolderState : Type 0 where
   pub disks : List (Named DiskState)
   -- the numbers, from 0, of the calls that fail
   pub fails : List ℕ
-  -- how many calls of `take` and `replace` there were, up to 2^64 - 1
+  -- how many calls of `has`, `take` and `replace` there were, up to 2^64 - 1
   pub calls : ℕ
   -- how many of them failed, up to 2^64 - 1
   pub faults : ℕ

@@ -1,7 +1,7 @@
 // What disks are had from by their names, and what lets one take the place of another.
 ghost use Rattle.std.specs.Prelude.{◌≡◌, ◌≢◌, ◌≤◌, ℕ, IfOk, List, OnErr, OnOk, Option, length};
 ghost use Rattle.ifdb_io.specs.Causes.{HasCause};
-ghost use Rattle.ifdb_folder.specs.Folders.{Gives, MayReplace, Replaces, Takes};
+ghost use Rattle.ifdb_folder.specs.Folders.{Gives, IsThere, MayReplace, Replaces, Takes};
 ghost use Rattle.ifdb_folder.specs.declared.named.Named.{Named as AnyNamed};
 
 use ifdb_disk::Disk;
@@ -17,6 +17,13 @@ pub trait Folder {
 
     /// How often a call has failed, up to 2^64 - 1.
     ghost faults: { Self → ℕ };
+
+    /// Whether something has a name of 1 to 255 bytes.
+    fn has(&mut self, name: &str) -> Result<bool, Failed>
+        requires { (1 ≤ length name.now) × (length name.now ≤ 255) }
+        ensures told { IfOk result (λ there. IsThere name.now there (tells self.old)) }
+        ensures same { tells self.new ≡ tells self.old }
+        ensures cause { HasCause (faults self.old) (faults self.new) result };
 
     /// Takes the disk of a name of 1 to 255 bytes. Where nothing has the name, it may make an empty one.
     fn take(&mut self, name: &str) -> Result<Self::Disk, Failed>

@@ -1,5 +1,5 @@
 // A folder in memory.
-ghost use Rattle.std.specs.Prelude.{◌≡◌, ◌≤◌, ◌∷◌, [], None, Some};
+ghost use Rattle.std.specs.Prelude.{◌≡◌, ◌≤◌, ◌∷◌, [], None, Some, is_some};
 ghost use Rattle.ifdb_io.specs.Causes.{Rose};
 ghost use Rattle.ifdb_io.specs.Memory.{counted};
 ghost use Rattle.ifdb_folder.specs.Folders.{disk_of, with_disk};
@@ -9,8 +9,8 @@ use ifdb_disk::MemoryDisk;
 use ifdb_io::Failed;
 use std::marker::Model;
 
-/// A folder in memory with two disks. A call of `take` or `replace` that was told to fail, or for a name that has no disk then,
-/// fails and changes nothing.
+/// A folder in memory with two disks. A call of `has`, `take` or `replace` that was told to fail, or of `take` for a name that has
+/// no disk then, fails and changes nothing.
 #[derive(Drop)]
 pub struct MemoryFolder {
     first: Named<MemoryDisk>,
@@ -35,7 +35,7 @@ impl Model for MemoryFolder {
 }
 
 impl MemoryFolder {
-    /// These two disks. The calls of `take` and `replace`, numbered together from 0, fail that are in `fails`.
+    /// These two disks. The calls of `has`, `take` and `replace`, numbered together from 0, fail that are in `fails`.
     pub fn new(first: Named<MemoryDisk>, second: Named<MemoryDisk>, fails: Vec<u64>) -> MemoryFolder
         ensures { result ≡ record {
           disks = first ∷ second ∷ [];
@@ -71,6 +71,16 @@ impl MemoryFolder {
     {
         self.faults = self.faults.saturating_add(1);
         Failed
+    }
+
+    // Whether a disk has a name.
+    fn has_named(&self, name: &str) -> bool
+        ensures { result ≡ is_some (disk_of name.now self.now.disks) }
+    {
+        if self.first.name.is(name) {
+            return self.first.disk.is_some();
+        }
+        self.second.name.is(name) && self.second.disk.is_some()
     }
 
     // Takes the disk of a name, if one has it.
@@ -113,6 +123,13 @@ impl Folder for MemoryFolder {
     ghost tells = { λ f. Some f.disks };
 
     ghost faults = { λ f. f.faults };
+
+    fn has(&mut self, name: &str) -> Result<bool, Failed> {
+        if self.fails() {
+            return Err(self.failed());
+        }
+        Ok(self.has_named(name))
+    }
 
     fn take(&mut self, name: &str) -> Result<MemoryDisk, Failed> {
         if self.fails() {

@@ -15,7 +15,8 @@ use Rattle.ifdb_words.specs.Options.{Use, is_used, value_of, values_of}
 use Rattle.ifdb_words.specs.Numbers.{needed_to}
 use Rattle.ifdb_words.specs.Limit.{limit_of}
 use Rattle.ifdb_words.specs.Serve.{links_of, service_of, service_with, workers_of}
-use Rattle.ifdb_words.specs.Host.{file_in, host_in, host_of, host_with}
+use Rattle.ifdb_words.specs.FileName.{file_in}
+use Rattle.ifdb_words.specs.Host.{host_in, host_of, host_with}
 use Rattle.ifdb_words.proofs.Held.{shape}
 use Rattle.ifdb_words.proofs.Values.{host_same}
 use Rattle.ifdb_words.proofs.Reader.{lacks}

@@ -9,9 +9,9 @@ use Rattle.ifdb_words.specs.declared.host.Hosting.{Hosting}
 use Rattle.ifdb_words.specs.declared.keep.Keep.{Keep}
 use Rattle.ifdb_words.specs.declared.project.Project.{Project}
 use Rattle.ifdb_words.specs.declared.service.Service.{Service}
-use Rattle.ifdb_words.specs.FileName.{file_name_of}
+use Rattle.ifdb_words.specs.FileName.{file_in}
 use Rattle.ifdb_words.specs.Generate.{counts_for, generation_in, is_flag, script_for, size_of}
-use Rattle.ifdb_words.specs.Host.{file_in, host_in, host_names, host_of, host_with}
+use Rattle.ifdb_words.specs.Host.{host_in, host_names, host_of, host_with}
 use Rattle.ifdb_words.specs.Keep.{keep_in, keep_names, keep_of, keep_with}
 use Rattle.ifdb_words.specs.Level.{level_of}
 use Rattle.ifdb_words.specs.Limit.{limit_in, limit_names, limit_of}
@@ -102,7 +102,7 @@ abbrev KeepsWithin : Keep → Type 0
 KeepsWithin k = IsLimit k.limit
 
 keep_values : (values : List ℕ → Option (List ℕ)) → IfSome (keep_of values) KeepsWithin
-keep_values values = go (option_and_then file_name_of (values (codes "file"))) (limit_of values) (limit_values values)
+keep_values values = go (file_in (values (codes "file"))) (limit_of values) (limit_values values)
   where
     go : (file : Option (List ℕ)) (limit : Option ℕ) → IfSome limit IsLimit → IfSome (keep_with file limit) KeepsWithin
     go None limit within = tt

@@ -1,6 +1,6 @@
 -- What clap makes of the options of `keep`.
 use Rattle.std.proofs.Common.{◌≡◌, ◌∙◌, Bool, true, false, true≢false, refl, ap, is_some, List, [], ◌∷◌, Option, Some, None, codes}
-use Rattle.std.specs.Prelude.{option_and_then, Result, Ok, Err, IfOk}
+use Rattle.std.specs.Prelude.{Result, Ok, Err, IfOk}
 use Rattle.clap.specs.Words.{App, Text, built, is_simple, found_of, first_value, is_simple_and_free}
 use Rattle.clap.specs.Walk.{nothing_held, rows_after}
 use Rattle.clap.specs.Faults.{level_fault}
@@ -11,7 +11,7 @@ use Rattle.clap.proofs.FaultLemmas.{leaf_fault}
 use Rattle.ifdb_words.specs.declared.keep.Keep.{Keep}
 use Rattle.ifdb_words.specs.Clap.{IsTaken, keep_app}
 use Rattle.ifdb_words.specs.Options.{Use, value_of, values_of}
-use Rattle.ifdb_words.specs.FileName.{file_name_of}
+use Rattle.ifdb_words.specs.FileName.{file_in}
 use Rattle.ifdb_words.specs.Limit.{limit_of}
 use Rattle.ifdb_words.specs.Keep.{keep_in, keep_of, keep_with}
 use Rattle.ifdb_words.proofs.Held.{shape}
@@ -56,7 +56,7 @@ keep_taken a words m (Err e) same is result = tt
 without : (uses : List Use) → lacks options uses ≡ true → keep_of (values_of uses) ≡ None
 without uses lacking = go (value_of (codes "file") uses) (left_out (codes "file") uses lacking)
   where
-    go : (value : Option Text) → value ≡ None → keep_with (option_and_then file_name_of value) (limit_of (values_of uses)) ≡ None
+    go : (value : Option Text) → value ≡ None → keep_with (file_in value) (limit_of (values_of uses)) ≡ None
     go None none = refl
     go (Some text) none = absurd (true≢false (ap (λ (o : Option Text). is_some o) none))
 

@@ -1,6 +1,7 @@
 mod BadWord
 mod Basics
 mod ByOptions
+mod CompactOptions
 mod Digits
 mod Ends
 mod Faults

@@ -2,7 +2,7 @@
 -- The words behind `host`.
 use Rattle.std.specs.Prelude.{ℕ, List, ◌∷◌, Option, Some, None, codes, option_and_then}
 use Rattle.ifdb_words.specs.Options.{uses_of, values_of}
-use Rattle.ifdb_words.specs.FileName.{file_name_of}
+use Rattle.ifdb_words.specs.FileName.{file_in}
 use Rattle.ifdb_words.specs.Serve.{serve_names, service_of}
 use Rattle.ifdb_words.specs.declared.host.Hosting.{Hosting}
 use Rattle.ifdb_words.specs.declared.service.Service.{Service}
@@ -15,9 +15,6 @@ host_with None key_file service = None
 host_with (Some file) None service = None
 host_with (Some file) (Some key_file) None = None
 host_with (Some file) (Some key_file) (Some service) = Some (record { file = file; key_file = key_file; service = service })
-
-abbrev pub file_in : Option (List ℕ) → Option (List ℕ)
-file_in value = option_and_then file_name_of value
 
 -- by the values of the options
 abbrev pub host_of : (List ℕ → Option (List ℕ)) → Option Hosting

@@ -1,4 +1,5 @@
 pub mod Clap
+pub mod Compact
 pub mod FileName
 pub mod First
 pub mod Generate

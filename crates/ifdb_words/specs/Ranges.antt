@@ -1,4 +1,3 @@
--- decides: the command line
 -- The ranges of the numbers that a command has.
 use Rattle.std.specs.Prelude.{ℕ, ◌≤◌, ◌^◌, Option, Some, None}
 use Rattle.ifdb_words.specs.declared.command.Command.{Command}

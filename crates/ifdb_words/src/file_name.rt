@@ -1,7 +1,9 @@
 // Names of files in words.
 ghost use Rattle.std.specs.Prelude.{◌≡◌, ◌≤◌, IfOk, length};
-ghost use Rattle.ifdb_words.specs.FileName.{file_name_of};
+ghost use Rattle.clap.specs.Words.{found_of, first_value};
+ghost use Rattle.ifdb_words.specs.FileName.{file_in, file_name_of};
 
+use clap::ArgMatches;
 use std::alloc::{AllocError as OutOfMemory, Global};
 use std::marker::Model;
 
@@ -44,4 +46,19 @@ pub fn file_name_of(alloc: Global, word: &str) -> Result<Option<FileName>, OutOf
     }
     let text = String::from_str(alloc, word)?;
     Ok(Some(FileName { text }))
+}
+
+/// The file that an option names, if it is used and its value is the name of a file.
+pub fn named(
+    alloc: Global,
+    matches: &ArgMatches,
+    option: &str,
+) -> Result<Option<FileName>, OutOfMemory>
+    ensures { IfOk result (λ file. file
+        ≡ file_in (first_value (found_of matches.now) option.now)) }
+{
+    match matches.get_str(option) {
+        Some(word) => file_name_of(alloc, word),
+        None => Ok(None),
+    }
 }

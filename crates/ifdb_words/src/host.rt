@@ -1,12 +1,11 @@
 // The words behind `host`.
-ghost use Rattle.std.specs.Prelude.{◌≡◌, IfOk, IfSome, map, option_and_then, string_bytes};
+ghost use Rattle.std.specs.Prelude.{◌≡◌, IfOk, IfSome, map, string_bytes};
 ghost use Rattle.clap.specs.Words.{app_of, found_of, first_value};
 ghost use Rattle.ifdb_words.specs.Clap.{host_app};
-ghost use Rattle.ifdb_words.specs.FileName.{file_name_of};
 ghost use Rattle.ifdb_words.specs.Host.{host_in, host_of};
 ghost use Rattle.ifdb_words.specs.Ranges.{IsService};
 
-use crate::file_name::{FileName, file_name_of};
+use crate::file_name::{FileName, named};
 use crate::options::{bare_command, option, taken};
 use crate::serve::{service_of, with_service};
 use crate::service::Service;
@@ -55,17 +54,6 @@ fn host_of(alloc: Global, matches: &ArgMatches) -> Result<Option<Hosting>, OutOf
         key_file,
         service,
     }))
-}
-
-/// The file that an option names, if it is used and its value is the name of a file.
-fn named(alloc: Global, matches: &ArgMatches, option: &str) -> Result<Option<FileName>, OutOfMemory>
-    ensures { IfOk result (λ file. file
-        ≡ option_and_then file_name_of (first_value (found_of matches.now) option.now)) }
-{
-    match matches.get_str(option) {
-        Some(word) => file_name_of(alloc, word),
-        None => Ok(None),
-    }
 }
 
 /// The command as clap knows it.

@@ -5,7 +5,7 @@ ghost use Rattle.ifdb_words.specs.Clap.{keep_app};
 ghost use Rattle.ifdb_words.specs.Keep.{keep_in, keep_of};
 ghost use Rattle.ifdb_words.specs.Ranges.{IsLimit};
 
-use crate::file_name::{FileName, file_name_of};
+use crate::file_name::{FileName, named};
 use crate::limit::limit_of;
 use crate::options::{bare_command, option, taken};
 use clap::ArgMatches;
@@ -37,13 +37,10 @@ pub fn keep_in(alloc: Global, words: &[String]) -> Result<Option<Keep>, OutOfMem
 fn keep_of(alloc: Global, matches: &ArgMatches) -> Result<Option<Keep>, OutOfMemory>
     ensures { IfOk result (λ keep. keep ≡ keep_of (first_value (found_of matches.now))) }
 {
-    let Some(word) = matches.get_str("file") else {
-        return Ok(None);
-    };
     let Some(limit) = limit_of(matches) else {
         return Ok(None);
     };
-    match file_name_of(alloc, word)? {
+    match named(alloc, matches, "file")? {
         Some(file) => Ok(Some(Keep { file, limit })),
         None => Ok(None),
     }

@@ -2,6 +2,7 @@
 #![tactic(auto)]
 
 mod command;
+mod compact;
 mod file_name;
 mod generate;
 mod host;
@@ -16,6 +17,7 @@ mod serve;
 mod service;
 
 pub use command::{Command, Text, command_of};
+pub use compact::compact_in;
 pub use file_name::FileName;
 pub use host::{Hosting, host_in};
 pub use keep::{Keep, keep_in};

@@ -1,6 +1,7 @@
 //! Lines of words and what they ask for, by hand from the table of commands.
 use ifdb_words::{
-    Command, OutOfMemory, Service, Text, command_of, host_in, keep_in, limit_in, project_in,
+    Command, OutOfMemory, Service, Text, command_of, compact_in, host_in, keep_in, limit_in,
+    project_in,
 };
 use std::alloc::{AllocGlobal, Global};
 use std::test::Fail;
@@ -500,6 +501,29 @@ fn words_that_host_refuses(rt: HostRuntime) -> Result<(), Fail> {
     ] {
         let words = words_of(rt.alloc(), line)?;
         assert!(rt; host_in(rt.alloc(), &words)?.is_none(), "{line}");
+    }
+    Ok(())
+}
+
+#[test]
+fn words_behind_compact(rt: HostRuntime) -> Result<(), Fail> {
+    static TABLE: [(&str, Option<&str>); 11] = [
+        ("--file d", Some("d")),
+        ("--file=/var/lib/d", Some("/var/lib/d")),
+        ("--file=a=b", Some("a=b")),
+        ("", None),
+        ("d", None),
+        ("--file", None),
+        ("--file=", None),
+        ("--file -d", None),
+        ("--file d --file d", None),
+        ("--file d --limit 7", None),
+        ("--file d d", None),
+    ];
+    for (line, wanted) in &TABLE {
+        let words = words_of(rt.alloc(), line)?;
+        let found = compact_in(rt.alloc(), &words)?;
+        assert_eq!(rt; found.as_ref().map(|file| file.as_str()), *wanted, "{line}");
     }
     Ok(())
 }

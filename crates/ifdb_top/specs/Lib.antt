@@ -1,0 +1,14 @@
+pub mod Base
+pub mod Check
+pub mod Closures
+pub mod Compact
+pub mod Ends
+pub mod Host
+pub mod Keep
+pub mod Lending
+pub mod More
+pub mod Project
+pub mod Status
+pub mod Texts
+pub mod Usage
+pub mod Words
