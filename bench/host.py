@@ -12,7 +12,7 @@ the same run:
 - SELECTs of a row by its key, of `ifdb host` and of `ifdb serve`.
 
 Of R runs the middle one is told. Then, in /dev/shm, `ifdb host` starts over files of so many commits, each an INSERT; the time is that up to
-LISTENING. Wants gcc. The status is 69 where the program isn't there, or has no such command.
+LISTENING. That file is compacted, too. Wants gcc. The status is 69 where the program isn't there, or has no such command.
 """
 
 from __future__ import annotations
@@ -165,6 +165,10 @@ def measure_starts(bench: Bench, commits: int) -> None:
                 times.append(time.monotonic() - begun)
         told = f"{statistics.median(times):.2f} s, over {file.stat().st_size:,} bytes"
         print(f"ifdb host, a start over {commits:,} commits: {told}", flush=True)
+        begun = time.monotonic()
+        ran = program.run("compact", "--file", file)
+        told = f"{time.monotonic() - begun:.2f} s, to {file.stat().st_size:,} bytes"
+        print(f"ifdb compact of it: {told}" if ran.status == 0 else f"ifdb compact ended with {ran.status}", flush=True)
 
 
 def main() -> int:

@@ -1,3 +1,4 @@
 mod Keeping
 mod First
 mod Serving
+mod Compacting

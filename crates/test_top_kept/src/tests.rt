@@ -13,5 +13,6 @@ use std::sync::Wait;
 use std::test::Fail;
 use std::thread::Threads;
 use test_top::{
-    Calls, NOTES, all_of, both, ended_more, ends_more, failing, sink, source, words_of,
+    Calls, NOTES, all_of, both, ended, ended_more, ends_more, ends_with, failing, sink, source,
+    words_of,
 };

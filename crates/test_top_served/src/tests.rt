@@ -13,4 +13,4 @@ use std::process::Abort;
 use std::sync::Wait;
 use std::test::Fail;
 use std::thread::Threads;
-use test_top::{Calls, Ran, all_of, call, failing, run, served, sink, source, words_of};
+use test_top::{Calls, Ran, all_of, both, call, failing, run, served, sink, source, words_of};

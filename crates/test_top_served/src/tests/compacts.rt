@@ -16,7 +16,7 @@ const CHANGES: &str =
 const CHANGES_REPLIES: &str = "OK\nOK 1\nOK 1\nOK 1\nOK 1\nOK 1\nOK 1\n";
 
 const CHANGES_OUTPUT: &str =
-    "LISTENING 7070\nsessions 1\nentries 8\ncommits 6\nrefused 0\nrows 1\nfaults 0\n";
+    "LISTENING 7070\nsessions 1\nentries 9\ncommits 6\nrefused 0\nrows 1\nfaults 0\n";
 
 // A database that was changed by two clients.
 fn changed<R: Abort + AllocGlobal + Threads + Wait + Sync>(rt: &R) -> Result<MemoryDisk, Fail> {
