@@ -1,5 +1,6 @@
+use Rattle.std.proofs.lemmas.Result.{IfOk-weaker}
 use Rattle.ifdb_reopen.proofs.Unopened.{IsTitledFrom}
-use Rattle.ifdb_swap.proofs.Deciding.{if_one}
+use Rattle.ifdb_swap.specs.Swapped.{IsExtractIn}
 use Rattle.ifdb_swap.proofs.Files.{extract_before, kept_before, kept_titled, none_before}
 use Rattle.ifdb_swap.proofs.reading.read_log.Goals as goal
 
@@ -8,7 +9,7 @@ returns-in-Ok-clause-extract g c =
     let t = g.D.Disk.tells c.args.disk in
     let u = g.D.Disk.tells c.entitle.new.disk in
     let k : IsTitledFrom t u = record { present = g.D.Disk.present c.args.disk; titled = c.in-Ok.ensures.titled; entitles = c.in-Ok.ensures.kept; moments = c.entitle.ensures.moments } in
-    if_one c.read_titled.result.extract c.read_titled.ensures.extract (λ x is. extract_before t u x k is)
+    IfOk-weaker c.read_titled.result.extract (IsExtractIn u) (IsExtractIn t) (λ x is. extract_before t u x k is) c.read_titled.ensures.extract
 
 pub returns-in-Ok-clause-kept : goal.returns-in-Ok-clause-kept
 returns-in-Ok-clause-kept g c =
