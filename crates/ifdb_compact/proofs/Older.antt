@@ -1,6 +1,6 @@
 -- Each foreign key refers to a table that was made before its own, so a row's parents stand before the row.
-use Rattle.std.proofs.Common.{◌≡◌, ℕ, zero, suc, ◌+◌, Bool, true, false, List, [], ◌∷◌, ◌++◌, ◌∙◌, length, refl, sym, ap, subst, arith, cond, Option, Some, None, Ok, Err, Result}
-use Rattle.std.specs.Prelude.{◌&&◌, ◌==◌, nat_lt, filter, slice_index_or}
+use Rattle.std.proofs.Common.{◌≡◌, ℕ, zero, suc, ◌+◌, Bool, true, List, [], ◌∷◌, ◌++◌, ◌∙◌, length, refl, ap, arith, Some, Ok, Err, Result}
+use Rattle.std.specs.Prelude.{◌&&◌, ◌==◌, nat_lt, slice_index_or}
 use Rattle.std.specs.List.{list_all}
 use Rattle.std.proofs.lemmas.Bool.{false≢true}
 use Rattle.std.proofs.lemmas.Bool.Decides.{nat_tests}

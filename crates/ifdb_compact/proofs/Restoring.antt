@@ -1,6 +1,5 @@
 -- What the compacted texts of a log restore.
-use Rattle.std.proofs.Common.{◌≡◌, ℕ, Bool, true, false, List, [], ◌∷◌, ◌++◌, ◌∙◌, length, map, refl, sym, ap, subst, arith, cond, append_assoc, append-nil, Option, Some, None}
-use Rattle.std.specs.List.{list_all}
+use Rattle.std.proofs.Common.{◌≡◌, ℕ, Bool, true, false, List, [], ◌∷◌, ◌++◌, ◌∙◌, refl, sym, ap, subst, cond, append_assoc, append-nil, Option, Some, None}
 use Rattle.ifdb_value.proofs.Lists.{all_wider}
 use Rattle.ifdb_redo.specs.declared.record.RedoRecord.{RedoRecord}
 use Rattle.ifdb_redo.specs.declared.record.RedoRecord.TheVariants as redo
@@ -13,15 +12,14 @@ use Rattle.ifdb_row.proofs.Rising.{rising_front}
 use Rattle.ifdb_bound.specs.declared.request.Change.{Change}
 use Rattle.ifdb_catalog.specs.Public.{Public}
 use Rattle.ifdb_model.specs.Log.{Entry, changes, commits, commits_of, content_of, public_from, public_of}
-use Rattle.ifdb_model.specs.Step.{Reader, ask}
-use Rattle.ifdb_model.specs.Run.{Step}
+use Rattle.ifdb_model.specs.Step.{ask}
 use Rattle.ifdb_model.proofs.LogLaws.{content_from-append, public_from-append}
 use Rattle.ifdb_laws.specs.RowLaws.{row_fits}
 use Rattle.ifdb_laws.proofs.Logs.{rising_content}
 use Rattle.ifdb_laws.proofs.two_worlds.Outcomes.{tag_count}
 use Rattle.ifdb_laws.proofs.two_worlds.Sound.{are_sound, sound_fits}
 use Rattle.ifdb_restore.specs.Passing.{commit_fits}
-use Rattle.ifdb_restore.specs.Redone.{change_of, entry_if, grown, idle, longer, redone}
+use Rattle.ifdb_restore.specs.Redone.{change_of, entry_if, idle, longer, redone}
 use Rattle.ifdb_restore.specs.Same.{SameLogsAnswerAlike}
 use Rattle.ifdb_restore.specs.Shorter.{changes_of, writing}
 use Rattle.ifdb_restore.proofs.Redone.{redone_lem}
@@ -31,7 +29,7 @@ use Rattle.ifdb_restart.specs.Laws.{AreTextsOf}
 use Rattle.ifdb_restart.specs.Restarted.{log_behind, log_of, with_record}
 use Rattle.ifdb_restart.proofs.FitLogs.{none_behind, restored_fit}
 use Rattle.ifdb_extract.specs.Texts.{change_texts, is_change, rows_behind, with_writes}
-use Rattle.ifdb_extract.specs.Extracts.{AreTextsOfRows, records_each, rows_of}
+use Rattle.ifdb_extract.specs.Extracts.{records_each, rows_of}
 use Rattle.ifdb_compact.specs.Compacted.{CompactedLogsAnswerAlike, CompactedTextsRestore, IsCompacted, commits_each}
 use Rattle.ifdb_compact.proofs.Older.{added_fits, are_older, is_behind_parents, row_behind_parents}
 use Rattle.ifdb_compact.proofs.Pieces.{AreInOrder, piece_passes}

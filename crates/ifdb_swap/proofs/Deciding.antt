@@ -1,11 +1,15 @@
 -- Whether a file is worth a compaction.
 use Rattle.std.proofs.Common.{◌≡◌, ℕ, ◌≤◌, Bool, false, ◌∙◌, inl, length, sym, ap, arith}
-use Rattle.std.specs.Prelude.{Option, Some, None, Result, Ok, Err, IfOk, IfSome}
+use Rattle.std.specs.Prelude.{Option, Some, None, Result, Ok, Err, IfOk, OnErr, OnOk}
 use Rattle.std.proofs.lemmas.Bool.Decides.{nat_tests}
 use Rattle.ifdb_disk.specs.Clock.{Clock, Now}
+use Rattle.ifdb_log.specs.Causes.{HasLogCause}
+use Rattle.ifdb_log.specs.declared.fault.LogFault.{LogFault}
+use Rattle.ifdb_log.specs.declared.fault.LogFault.TheVariants as fault
 use Rattle.ifdb_extract.specs.Texts.{Extracted}
 use Rattle.ifdb_extract.specs.Extracts.{IsSizeOf}
 use Rattle.ifdb_extract.specs.Worth.{is_worth}
+use Rattle.ifdb_reopen.specs.Causes.{IsCaused}
 use Rattle.ifdb_swap.specs.Swapped.{IsExtractIn, IsUnneeded, IsWorth}
 
 -- a file that isn't even worth it where nothing is left is short
@@ -22,12 +26,27 @@ worth_of answer (Some c) size n x is extract sized worth =
     let found = extract tt in
     (found.0, n, found.1, (x, found.2, sized), ap (λ k. is_worth k n) (sym is) ∙ worth)
 
--- of what was found a fact is known, and from it another
-pub if_one : {A E : Type 0} {P R : A → Type 0} (r : Result A E) → IfOk r P → ((x : A) → P x → R x) → IfOk r R
-if_one (Ok x) p so = so x p
-if_one (Err e) p so = tt
+-- of what was found two facts are known, and from them another
+pub if_both : {A E : Type 0} {P R : A → Type 0} {Q : Type 0} (r : Result A E) → IfOk r P → OnOk r Q → ((x : A) → P x → Q → R x) → IfOk r R
+if_both (Ok x) p q so = so x p q
+if_both (Err e) p q so = tt
 
-pub if_found : {A E : Type 0} {P R : A → Type 0} (r : Result (Option A) E) → IfOk r (λ found. IfSome found P) → ((x : A) → P x → R x) → IfOk r (λ found. IfSome found R)
-if_found (Ok None) p so = tt
-if_found (Ok (Some x)) p so = so x p
-if_found (Err e) p so = tt
+pub ok_any : {A E : Type 0} {Q : Type 0} (r : Result A E) → Q → OnOk r Q
+ok_any (Ok x) q = q
+ok_any (Err e) q = tt
+
+pub err_any : {A E : Type 0} {Q : Type 0} (r : Result A E) → Q → OnErr r Q
+err_any (Ok x) q = tt
+err_any (Err e) q = q
+
+-- want of memory is no damage
+pub not_damaged : {A : Type 0} (r : Result A LogFault) (at : ℕ) → OnErr r (r ≡ Err fault.OutOfMemory) → r ≡ Err (fault.Damaged at) → ⊥
+not_damaged (Ok x) at memory is = cc is
+not_damaged (Err f) at memory is = cc (memory, is)
+
+-- a fault of a log came so, whatever else there might have been
+pub caused_so : (A : Type 0) (m n : ℕ) (f : LogFault) → HasLogCause {T = A} m n (Err f) → IsCaused m n f
+caused_so A m n fault.Disk cause = cause
+caused_so A m n fault.NotALog cause = cause
+caused_so A m n (fault.Damaged at) cause = cause
+caused_so A m n fault.OutOfMemory cause = cause

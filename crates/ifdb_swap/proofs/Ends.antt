@@ -1,5 +1,5 @@
 -- How a compaction ended, from what was taken and given back.
-use Rattle.std.proofs.Common.{◌≡◌, ◌≢◌, ◌≤◌, inl, ℕ, true, false, List, Ok, Err}
+use Rattle.std.proofs.Common.{◌≡◌, ◌≢◌, ◌≤◌, inl, ℕ, true, false, List, Ok, Err, arith}
 use Rattle.std.specs.Prelude.{Option}
 use Rattle.ifdb_io.specs.Causes.{Rose}
 use Rattle.ifdb_disk.specs.Clock.{Clock, Now}
@@ -14,8 +14,7 @@ use Rattle.ifdb_reopen.specs.Causes.{IsCaused}
 use Rattle.ifdb_reopen.specs.Files.{IsTold, IsUnopened}
 use Rattle.ifdb_swap.specs.Causes.{IsSpareCaused}
 use Rattle.ifdb_swap.specs.Swapped.{HasNoLog, HoldsFileOf, IsExtractIn, IsKept, IsOtherOn, IsUnneeded, IsWorth}
-use Rattle.ifdb_swap.specs.Folders.{Compacts, IsCausedBy}
-use Rattle.ifdb_swap.specs.declared.fault.CompactFault.{CompactFault}
+use Rattle.ifdb_swap.specs.Folders.{Compacts}
 use Rattle.ifdb_swap.specs.declared.fault.CompactFault.TheVariants as fault
 use Rattle.ifdb_swap.specs.declared.fault.SpareFault.{SpareFault}
 use Rattle.ifdb_swap.specs.declared.fault.SpareFault.TheVariants as spare_fault
@@ -37,6 +36,7 @@ module _ {D : Type 0} (tells : D → Option Clock) (faults : D → ℕ) (wish : 
     taken = λ e. absurd (cc e);
     others = others_here tells spare t u same;
     cause = (later, rose);
+    later = later;
   }
 
   module _ (t u v : Option (List (Named D))) (m n : ℕ) (d d' : D) (first : Takes name d t u) (gives : Gives name d' u v) (kept : IsKept (tells d) (tells d')) where
@@ -51,6 +51,7 @@ module _ {D : Type 0} (tells : D → Option Clock) (faults : D → ℕ) (wish : 
       taken = λ e. absurd (cc e);
       others = others_aside tells name spare t u v d d' apart first gives;
       cause = calm;
+      later = omega (arith, calm);
     }
 
     pub unread_back : (f : LogFault) → n ≡ m → IsCaused (faults d) (faults d') f → ((at : ℕ) → f ≡ log_fault.Damaged at → HasNoLog (tells d)) → (f ≡ log_fault.NotALog → Now (tells d) (λ s. IsOther s.bytes))
@@ -65,6 +66,7 @@ module _ {D : Type 0} (tells : D → Option Clock) (faults : D → ℕ) (wish : 
       taken = λ e. absurd (cc e);
       others = others_aside tells name spare t u v d d' apart first gives;
       cause = (calm, caused_one faults name t u v d d' (λ a b. IsCaused a b f) first gives cause);
+      later = omega (arith, calm);
     }
 
     pub spare_not_taken : m ≤ n → Rose m n → Compacts tells faults wish name spare t v m n (Err fault.Folder)
@@ -78,6 +80,7 @@ module _ {D : Type 0} (tells : D → Option Clock) (faults : D → ℕ) (wish : 
       taken = λ e. absurd (cc e);
       others = others_aside tells name spare t u v d d' apart first gives;
       cause = (later, rose);
+      later = later;
     }
 
   -- ---- both disks were taken
@@ -95,6 +98,7 @@ module _ {D : Type 0} (tells : D → Option Clock) (faults : D → ℕ) (wish : 
       taken = λ i. of_other tells name spare t u v d e (λ o. Now o (λ s. IsOther s.bytes)) apart first second (taken (cc i));
       others = others_back tells name spare t u v w d e d' e' apart first second gives spared;
       cause = (calm, caused_spare faults name spare t u v w d e d' e' (λ a b. IsSpareCaused a b f) apart first second gives cause);
+      later = omega (arith, calm);
     }
 
     module _ (restores : CompactedTextsRestore) (x : Extracted) (extract : IsExtractIn (tells d) x) (written : IsTold (tells e) → HoldsFileOf (tells e') x) (own : IsOtherOn (tells e) → ⊥) where
@@ -109,6 +113,7 @@ module _ {D : Type 0} (tells : D → Option Clock) (faults : D → ℕ) (wish : 
         taken = λ i. absurd (cc i);
         others = others_none tells name spare t u v w d e apart first second own;
         cause = calm;
+        later = omega (arith, calm);
       }
 
       pub not_replaced : MayReplace spare e' name d' v w → m ≤ n → Rose m n → Compacts tells faults wish name spare t w m n (Err fault.Folder)
@@ -122,4 +127,5 @@ module _ {D : Type 0} (tells : D → Option Clock) (faults : D → ℕ) (wish : 
         taken = λ i. absurd (cc i);
         others = others_none tells name spare t u v w d e apart first second own;
         cause = (later, rose);
+        later = later;
       }

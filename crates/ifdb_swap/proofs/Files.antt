@@ -25,8 +25,8 @@ use Rattle.ifdb_reopen.specs.Files.{IsFileOf, IsFileOn, IsOldOrBare, IsOldOrBegu
 use Rattle.ifdb_reopen.proofs.Restarts.{all_settled, same_some}
 use Rattle.ifdb_reopen.proofs.Sizes.{head_same, sizes_same}
 use Rattle.ifdb_reopen.proofs.Titles.{IsTitle, title_of, title_then}
-use Rattle.ifdb_reopen.proofs.Unopened.{IsTitledFrom, bare_unopened, file_behind, log_not_new, new_behind, shown_on, titled_unopened, unopened_before}
-use Rattle.ifdb_swap.specs.Swapped.{HasLog, HasNoLog, HoldsCompacted, HoldsFileOf, IsExtractFor, IsKept, IsOtherOn}
+use Rattle.ifdb_reopen.proofs.Unopened.{IsTitledFrom, bare_unopened, file_behind, log_not_new, new_behind, shown_on, titled_unopened, told_behind, unopened_before}
+use Rattle.ifdb_swap.specs.Swapped.{HasLog, HasNoLog, HoldsCompacted, HoldsFileOf, IsExtractFor, IsExtractIn, IsKept, IsOtherOn}
 
 -- ---- files of no more than the title and a byte
 
@@ -100,11 +100,16 @@ log_before : (c d : Clock) (texts : List (List ℕ)) (log : List Entry) → Enti
 log_before c d texts log (inl made) file = inr (made.0, title_only texts log d.now.bytes made.1 file)
 log_before c d texts log (inr kept) file = inl (texts, subst (IsFileOf texts log) kept file)
 
-pub has_before : (t u : Option Clock) (log : List Entry) → IsTitledFrom t u → IsTold t → HasLog u log → HasLog t log
+has_before : (t u : Option Clock) (log : List Entry) → IsTitledFrom t u → IsTold t → HasLog u log → HasLog t log
 has_before None u log k told has = absurd told
 has_before (Some c) None log k told has = absurd k.moments
 has_before (Some c) (Some d) log k told (inl file) = log_before c d file.0 log k.entitles file.1
 has_before (Some c) (Some d) log k told (inr new) = absurd (log_not_new d.now.bytes k.titled.1 new.0)
+
+pub extract_before : (t u : Option Clock) (x : Extracted) → IsTitledFrom t u → IsExtractIn u x → IsExtractIn t x
+extract_before t u x k extract = λ told.
+    let found = extract (told_behind t u k told) in
+    (found.0, has_before t u found.0 k told found.1, found.2)
 
 pub none_before : (t u : Option Clock) → IsTitledFrom t u → HasNoLog u → HasNoLog t
 none_before t u k none log (inl file) = none log (inl (file.0, file_behind t u file.0 log k file.1))

@@ -84,3 +84,4 @@ module _ {D : Type 0} where
       pub taken : result ≡ Err (fault.Write spare_fault.NotALog) → OfName tells spare before (λ t. Now t (λ s. IsOther s.bytes))
       pub others : SparesOthers tells spare before after
       pub cause : HasSwapCause faults name spare before after count now result
+      pub later : count ≤ now

@@ -59,12 +59,16 @@ where
         }
     };
     let Written { result, disk: new } = write_log(alloc, &extract, new);
-    if let Err(fault) = result {
-        give_both(folder, name, old, spare, new);
-        return Err(CompactFault::Write(fault));
+    match result {
+        Ok(()) => {
+            folder.replace(spare, new, name, old)?;
+            Ok(true)
+        }
+        Err(fault) => {
+            give_both(folder, name, old, spare, new);
+            Err(CompactFault::Write(fault))
+        }
     }
-    folder.replace(spare, new, name, old)?;
-    Ok(true)
 }
 
 // Gives both disks back.

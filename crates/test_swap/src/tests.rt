@@ -1,11 +1,13 @@
 //! A database's file in a folder in memory, compacted in its place, and what is there when a call fails.
+ghost use Rattle.std.specs.Prelude.{◌≤◌, length};
+
 use ifdb_db::{ReadLine, Room};
 use ifdb_disk::MemoryDisk;
 use ifdb_folder::{Folder, MemoryFolder, Name, Named};
 use ifdb_journal::{Batch, RecordKind};
 use ifdb_log::{LogFault, Pieces};
 use ifdb_restart::{Restarted, restart};
-use ifdb_swap::{CompactFault, When, compact_in};
+use ifdb_swap::{CompactFault, SpareFault, When, compact_in};
 use ifdb_wire::Out;
 use std::alloc::Global;
 use std::test::Fail;
@@ -108,6 +110,16 @@ fn told_by(alloc: Global, bytes: &[u8]) -> Result<String, Fail> {
     ask_all(alloc, &mut again.room, &QUESTIONS, &mut batch)
 }
 
+/// A disk under a name.
+fn named(name: &str, disk: MemoryDisk) -> Named<MemoryDisk>
+    requires { length name.now ≤ 255 }
+{
+    Named {
+        name: Name::of(name),
+        disk: Some(disk),
+    }
+}
+
 /// A folder with a database of these bytes, and a new file of which some calls fail.
 fn folder_of(
     alloc: Global,
@@ -115,15 +127,9 @@ fn folder_of(
     disk_fails: Vec<u64>,
     fails: Vec<u64>,
 ) -> Result<MemoryFolder, Fail> {
-    let database = Named {
-        name: Name::of(DATABASE),
-        disk: Some(disk_of(alloc, bytes, Vec::new(alloc))?),
-    };
-    let spare = Named {
-        name: Name::of(SPARE),
-        disk: Some(disk_of(alloc, Vec::new(alloc), disk_fails)?),
-    };
-    Ok(MemoryFolder::new(database, spare, fails))
+    let database = disk_of(alloc, bytes, Vec::new(alloc))?;
+    let spare = disk_of(alloc, Vec::new(alloc), disk_fails)?;
+    Ok(MemoryFolder::new(named(DATABASE, database), named(SPARE, spare), fails))
 }
 
 #[test]
@@ -177,7 +183,7 @@ fn ended(
 #[test]
 fn each_call_of_the_new_disk_fails(rt: HostRuntime) -> Result<(), Fail> {
     let alloc = rt.alloc();
-    let fault = Err(CompactFault::Write(LogFault::Disk));
+    let fault = Err(CompactFault::Write(SpareFault::Disk));
     // Seven calls make the title, and nine write the log.
     for call in 0..16 {
         let end = ended(alloc, Vec::from_array(alloc, [call])?, Vec::new(alloc))?;
@@ -205,5 +211,47 @@ fn other_files_stay(rt: HostRuntime) -> Result<(), Fail> {
     assert_eq!(rt; end, Err(CompactFault::Read(LogFault::NotALog)));
     let disk = folder.take(DATABASE)?;
     assert_eq!(rt; disk.bytes(), b"just a file\n".as_slice());
+    Ok(())
+}
+
+/// A folder in which another file has the new one's name.
+fn folder_with_another(alloc: Global) -> Result<MemoryFolder, Fail> {
+    let database = disk_of(alloc, file(alloc)?, Vec::new(alloc))?;
+    let text = Vec::from_slice(alloc, b"just a file\n")?;
+    let spare = disk_of(alloc, text, Vec::new(alloc))?;
+    Ok(MemoryFolder::new(
+        named(DATABASE, database),
+        named(SPARE, spare),
+        Vec::new(alloc),
+    ))
+}
+
+#[test]
+fn another_file_of_the_new_name_stays(rt: HostRuntime) -> Result<(), Fail> {
+    let alloc = rt.alloc();
+    let mut folder = folder_with_another(alloc)?;
+    let end = compact_in(alloc, &mut folder, DATABASE, SPARE, When::Always);
+    assert_eq!(rt; end, Err(CompactFault::Write(SpareFault::NotALog)));
+    let spare = folder.take(SPARE)?;
+    assert_eq!(rt; spare.bytes(), b"just a file\n".as_slice());
+    let disk = folder.take(DATABASE)?;
+    let told = told_by(alloc, disk.bytes())?;
+    assert_eq!(rt; told.as_str(), ANSWERS);
+    Ok(())
+}
+
+#[test]
+fn a_damaged_file_stays(rt: HostRuntime) -> Result<(), Fail> {
+    let alloc = rt.alloc();
+    let mut bytes = file(alloc)?;
+    if let Some(byte) = bytes.get_mut(40) {
+        *byte ^= 1;
+    }
+    let size = bytes.len();
+    let mut folder = folder_of(alloc, bytes, Vec::new(alloc), Vec::new(alloc))?;
+    let end = compact_in(alloc, &mut folder, DATABASE, SPARE, When::Always);
+    assert!(rt; matches!(end, Err(CompactFault::Read(LogFault::Damaged(_)))));
+    let disk = folder.take(DATABASE)?;
+    assert_eq!(rt; disk.bytes().len(), size);
     Ok(())
 }
