@@ -20,7 +20,7 @@ from typing import NamedTuple, Optional
 TOP = Path(__file__).resolve().parent.parent
 CRATES = TOP / "crates"
 ROOTS = [
-    "ifdb_top/src/top_host.rt",
+    "ifdb_top/src/all.rt",
     "ifdb_top/src/more.rt",
     *(f"ifdb_io/src/{name}.rt" for name in ("outside", "doors")),
     *(f"ifdb_disk/src/{name}.rt" for name in ("disk", "shelf")),

@@ -2,7 +2,7 @@
 use Rattle.std.proofs.Common.{◌≡◌, ◌≢◌, refl}
 use Rattle.ifdb_keep.specs.declared.keep.KeepEnd.{KeepEnd}
 use Rattle.ifdb_keep.specs.declared.keep.KeepEnd.TheVariants as kept
-use Rattle.ifdb_top.specs.declared.top.Status.TheVariants as status
+use Rattle.ifdb_top.specs.declared.base.Status.TheVariants as status
 use Rattle.ifdb_top.specs.declared.more.MoreStatus.{MoreStatus}
 use Rattle.ifdb_top.specs.declared.more.MoreStatus.TheVariants.{Base, DiskFault, Damaged}
 use Rattle.ifdb_top.specs.Keep.{IsKeepEnd, IsKeptOrLacking, status_of}

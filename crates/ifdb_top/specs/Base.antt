@@ -11,8 +11,8 @@ use Rattle.ifdb_script.specs.Run.{RanWhole, RanFront, RanPast, RanCut, CutsDontM
 use Rattle.ifdb_service.specs.Site.{GivesNone, IsCut, IsDone, IsUnserved}
 use Rattle.ifdb_words.specs.Words.{command_of}
 use Rattle.ifdb_words.specs.declared.service.Service.{Service}
-use Rattle.ifdb_top.specs.declared.top.Status.{Status}
-use Rattle.ifdb_top.specs.declared.top.Status.TheVariants.{Done, Usage, ReadFault, WriteFault, OutOfMemory, TooLarge, SiteFault}
+use Rattle.ifdb_top.specs.declared.base.Status.{Status}
+use Rattle.ifdb_top.specs.declared.base.Status.TheVariants.{Done, Usage, ReadFault, WriteFault, OutOfMemory, TooLarge, SiteFault}
 use Rattle.ifdb_top.specs.Status.{EndsWell, IsServeEnd, IsUsage}
 use Rattle.ifdb_top.specs.Texts.{IsWritten, text_for}
 use Rattle.ifdb_top.specs.Words.{IsRefused, IsRun, IsServe, IsText, NeedsNoInput, NeedsNoSite}

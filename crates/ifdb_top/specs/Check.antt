@@ -8,7 +8,7 @@ use Rattle.ifdb_io.specs.declared.outside.Sink as sink
 use Rattle.ifdb_service.specs.Summary.{numbered_line}
 use Rattle.ifdb_trace.specs.Checked.{CheckedWhole, CheckedWrong, CheckedPast}
 use Rattle.ifdb_words.specs.Limit.{limit_in}
-use Rattle.ifdb_top.specs.declared.top.Status.TheVariants as status
+use Rattle.ifdb_top.specs.declared.base.Status.TheVariants as status
 use Rattle.ifdb_top.specs.declared.more.MoreStatus.{MoreStatus}
 use Rattle.ifdb_top.specs.declared.more.MoreStatus.TheVariants.{Base, TraceRefused}
 use Rattle.ifdb_top.specs.Usage.{TellsUsage}

@@ -6,7 +6,7 @@ use Rattle.ifdb_io.specs.declared.outside.Source as source
 use Rattle.ifdb_io.specs.declared.outside.Sink as sink
 use Rattle.ifdb_closure.specs.Ran.{RanWhole, RanFront, RanPast, RanCut, IsToldByBytes, IsFramedRun, KeepsLevels}
 use Rattle.ifdb_words.specs.Limit.{limit_in}
-use Rattle.ifdb_top.specs.declared.top.Status.TheVariants as status
+use Rattle.ifdb_top.specs.declared.base.Status.TheVariants as status
 use Rattle.ifdb_top.specs.declared.more.MoreStatus.{MoreStatus}
 use Rattle.ifdb_top.specs.declared.more.MoreStatus.TheVariants.{Base}
 use Rattle.ifdb_top.specs.Usage.{TellsUsage}

@@ -17,7 +17,7 @@ use Rattle.ifdb_swap.specs.declared.when.When.{When}
 use Rattle.ifdb_swap.specs.declared.when.When.TheVariants.{Always, IfWorth}
 use Rattle.ifdb_words.specs.Compact.{compact_in}
 use Rattle.ifdb_words.specs.First.{is_first}
-use Rattle.ifdb_top.specs.declared.top.Status.TheVariants as status
+use Rattle.ifdb_top.specs.declared.base.Status.TheVariants as status
 use Rattle.ifdb_top.specs.declared.more.MoreStatus.TheVariants.{Base, Damaged}
 use Rattle.ifdb_top.specs.declared.status.HostStatus.{HostStatus}
 use Rattle.ifdb_top.specs.declared.status.HostStatus.TheVariants.{More, DiskFault, NotADatabase, SpareTaken}

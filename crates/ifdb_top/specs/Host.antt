@@ -23,7 +23,7 @@ use Rattle.ifdb_keyed.specs.declared.site.KeyedSite.{KeyedSite}
 use Rattle.ifdb_words.specs.First.{behind_first, is_first}
 use Rattle.ifdb_words.specs.Host.{host_in}
 use Rattle.ifdb_words.specs.declared.host.Hosting.{Hosting}
-use Rattle.ifdb_top.specs.declared.top.Status.TheVariants as status
+use Rattle.ifdb_top.specs.declared.base.Status.TheVariants as status
 use Rattle.ifdb_top.specs.declared.more.MoreStatus.{MoreStatus}
 use Rattle.ifdb_top.specs.declared.more.MoreStatus.TheVariants.{Base, Damaged}
 use Rattle.ifdb_top.specs.declared.status.HostStatus.{HostStatus}

@@ -13,7 +13,7 @@ use Rattle.ifdb_keep.specs.declared.keep.KeepEnd.{KeepEnd}
 use Rattle.ifdb_keep.specs.declared.keep.KeepEnd.TheVariants as kept
 use Rattle.ifdb_words.specs.Keep.{keep_in}
 use Rattle.ifdb_words.specs.declared.keep.Keep.{Keep}
-use Rattle.ifdb_top.specs.declared.top.Status.TheVariants as status
+use Rattle.ifdb_top.specs.declared.base.Status.TheVariants as status
 use Rattle.ifdb_top.specs.declared.more.MoreStatus.{MoreStatus}
 use Rattle.ifdb_top.specs.declared.more.MoreStatus.TheVariants.{Base, DiskFault, Damaged}
 use Rattle.ifdb_top.specs.Lending.{Lends, Refuses}

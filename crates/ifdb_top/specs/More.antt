@@ -3,8 +3,8 @@
 use Rattle.std.specs.Prelude.{◌≡◌, ℕ, true, List, codes, String}
 use Rattle.std.specs.declared.alloc.Global.{Global}
 use Rattle.ifdb_words.specs.First.{is_first}
-use Rattle.ifdb_top.specs.declared.top.Status.{Status}
-use Rattle.ifdb_top.specs.declared.top.Status.TheVariants as status
+use Rattle.ifdb_top.specs.declared.base.Status.{Status}
+use Rattle.ifdb_top.specs.declared.base.Status.TheVariants as status
 use Rattle.ifdb_top.specs.declared.more.MoreStatus.{MoreStatus}
 use Rattle.ifdb_top.specs.declared.more.MoreStatus.TheVariants.{Base, DiskFault, Damaged, TraceRefused}
 

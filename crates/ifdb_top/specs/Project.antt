@@ -7,7 +7,7 @@ use Rattle.ifdb_io.specs.declared.outside.Sink as sink
 use Rattle.ifdb_trace.specs.Projected.{ProjectedWhole, ProjectedFront, ProjectedPast, ProjectedCut}
 use Rattle.ifdb_words.specs.Project.{project_in}
 use Rattle.ifdb_words.specs.declared.project.Project.{Project}
-use Rattle.ifdb_top.specs.declared.top.Status.TheVariants as status
+use Rattle.ifdb_top.specs.declared.base.Status.TheVariants as status
 use Rattle.ifdb_top.specs.declared.more.MoreStatus.{MoreStatus}
 use Rattle.ifdb_top.specs.declared.more.MoreStatus.TheVariants.{Base}
 use Rattle.ifdb_top.specs.Usage.{TellsUsage}

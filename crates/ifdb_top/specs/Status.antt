@@ -1,7 +1,7 @@
 -- decides: the program
 -- How the program may end.
-use Rattle.ifdb_top.specs.declared.top.Status.{Status}
-use Rattle.ifdb_top.specs.declared.top.Status.TheVariants.{Done, Usage, WriteFault, OutOfMemory, SiteFault}
+use Rattle.ifdb_top.specs.declared.base.Status.{Status}
+use Rattle.ifdb_top.specs.declared.base.Status.TheVariants.{Done, Usage, WriteFault, OutOfMemory, SiteFault}
 
 -- where nothing had a fault, and a script keeps to its limit, the program ends in one of these two ways
 abbrev pub EndsWell : Status → Type 0

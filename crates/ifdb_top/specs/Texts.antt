@@ -5,8 +5,8 @@ use Rattle.std.specs.Io.KnownBytes.{Appends}
 use Rattle.ifdb_generate.specs.Script.{script}
 use Rattle.ifdb_io.specs.Causes.{WritesShort}
 use Rattle.ifdb_script.specs.Rehearsal.{rehearsed, rehearsed_text}
-use Rattle.ifdb_top.specs.declared.top.Status.{Status}
-use Rattle.ifdb_top.specs.declared.top.Status.TheVariants as status
+use Rattle.ifdb_top.specs.declared.base.Status.{Status}
+use Rattle.ifdb_top.specs.declared.base.Status.TheVariants as status
 use Rattle.ifdb_words.specs.declared.command.Command.{Command}
 use Rattle.ifdb_words.specs.declared.command.Command.TheVariants.{Run, Serve, Write}
 use Rattle.ifdb_words.specs.declared.command.Text.{Text}

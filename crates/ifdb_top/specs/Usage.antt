@@ -3,7 +3,7 @@
 use Rattle.std.specs.Prelude.{◌≡◌, ℕ, List}
 use Rattle.ifdb_io.specs.Causes.{Rose}
 use Rattle.ifdb_io.specs.declared.outside.Sink as sink
-use Rattle.ifdb_top.specs.declared.top.Status.TheVariants as status
+use Rattle.ifdb_top.specs.declared.base.Status.TheVariants as status
 use Rattle.ifdb_top.specs.declared.more.MoreStatus.{MoreStatus}
 use Rattle.ifdb_top.specs.declared.more.MoreStatus.TheVariants.{Base}
 use Rattle.ifdb_top.specs.More.{OnBase}

@@ -2,8 +2,8 @@
 ghost use Rattle.std.specs.Prelude.{◌≡◌, ◌≢◌, ◌^◌, ◌≤◌, map, string_bytes};
 ghost use Rattle.ifdb_top.specs.Check.{ChecksTrace, DoesCheck};
 
+use crate::base::{Status, write_usage};
 use crate::more::MoreStatus;
-use crate::top::{Status, write_usage};
 use ifdb_io::{Failed, Sink, Source, write_all};
 use ifdb_service::write_numbered;
 use ifdb_trace::{TraceEnd, check_trace};

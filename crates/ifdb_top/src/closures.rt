@@ -2,8 +2,8 @@
 ghost use Rattle.std.specs.Prelude.{◌≡◌, ◌^◌, ◌≤◌, map, string_bytes};
 ghost use Rattle.ifdb_top.specs.Closures.{DoesClosures, RunsClosures};
 
+use crate::base::{Status, write_usage};
 use crate::more::MoreStatus;
-use crate::top::{Status, write_usage};
 use ifdb_closure::{ClosureEnd, closure_script};
 use ifdb_io::{Sink, Source};
 use ifdb_words::limit_in;

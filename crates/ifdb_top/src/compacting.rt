@@ -2,9 +2,9 @@
 ghost use Rattle.std.specs.Prelude.{◌≡◌, ◌≤◌, length, map, string_bytes};
 ghost use Rattle.ifdb_top.specs.Compact.{CompactsFile, CompactsThere, DoesCompact, compact_status, read_status, write_status};
 
+use crate::base::{Status, write_usage};
 use crate::more::MoreStatus;
 use crate::status::HostStatus;
-use crate::top::{Status, write_usage};
 use ifdb_folder::Folder;
 use ifdb_io::Sink;
 use ifdb_log::LogFault;

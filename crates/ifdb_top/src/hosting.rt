@@ -4,9 +4,9 @@ ghost use Rattle.ifdb_words.specs.Ranges.{IsService};
 ghost use Rattle.ifdb_top.specs.Compact.{IsReadied};
 ghost use Rattle.ifdb_top.specs.Host.{DoesHost, FailsToRead, HostsByKey, HostsDatabase, HostsFile, ReadsKey, status_of};
 
+use crate::base::{Status, write_usage};
 use crate::more::MoreStatus;
 use crate::status::HostStatus;
-use crate::top::{Status, write_usage};
 use ifdb_disk::Shelf;
 use ifdb_folder::Folder;
 use ifdb_host::{HostEnd, Hosted, host as host_site};

@@ -2,8 +2,8 @@
 ghost use Rattle.std.specs.Prelude.{◌≡◌, ◌≢◌, ◌^◌, ◌≤◌, map, string_bytes};
 ghost use Rattle.ifdb_top.specs.Keep.{DoesKeep, KeepsScript, status_of};
 
+use crate::base::{Status, write_usage};
 use crate::more::MoreStatus;
-use crate::top::{Status, write_usage};
 use ifdb_disk::Shelf;
 use ifdb_io::{Sink, Source};
 use ifdb_keep::{KeepEnd, keep_script};

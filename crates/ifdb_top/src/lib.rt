@@ -1,6 +1,8 @@
 //! All that the program does, over any source, sink, site, folder and shelf: `top_host` does what the words of the command line say.
 #![tactic(auto)]
 
+mod all;
+mod base;
 mod check;
 mod closures;
 mod compacting;
@@ -9,10 +11,8 @@ mod keep;
 mod more;
 mod project;
 mod status;
-mod top;
-mod top_host;
 
+pub use all::top_host;
+pub use base::{Status, top};
 pub use more::{MoreStatus, top_more};
 pub use status::HostStatus;
-pub use top::{Status, top};
-pub use top_host::top_host;

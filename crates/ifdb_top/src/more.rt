@@ -11,11 +11,11 @@ ghost use Rattle.ifdb_top.specs.Keep.{DoesKeep};
 ghost use Rattle.ifdb_top.specs.More.{IsBase, IsCheck, IsClosures, IsKeep, IsProject, OnBase, exit_code};
 ghost use Rattle.ifdb_top.specs.Project.{DoesProject};
 
+use crate::base::{Status, top};
 use crate::check::check;
 use crate::closures::closures;
 use crate::keep::keep;
 use crate::project::project;
-use crate::top::{Status, top};
 use ifdb_closure::{call_bounds, script_calls_are_bound};
 use ifdb_disk::Shelf;
 use ifdb_io::{Sink, Site, Source};

@@ -3,7 +3,7 @@ use Rattle.ifdb_script.specs.Run.{RanWhole}
 use Rattle.ifdb_script.proofs.RunLaws.{cuts_dont_matter, is_framed_run, keeps_levels, told_by_bytes}
 use Rattle.ifdb_words.specs.declared.command.Command.{Command}
 use Rattle.ifdb_top.specs.Texts.{IsWritten, text_for}
-use Rattle.ifdb_top.proofs.top.top.Goals as goal
+use Rattle.ifdb_top.proofs.base.top.Goals as goal
 
 pub returns-in-Ok-Some-Run : goal.returns-in-Ok-Some-Run
 returns-in-Ok-Some-Run g c = record {
