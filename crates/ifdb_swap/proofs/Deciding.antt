@@ -1,6 +1,6 @@
 -- Whether a file is worth a compaction.
-use Rattle.std.proofs.Common.{◌≡◌, ℕ, ◌≤◌, Bool, false, ◌∙◌, inl, length, sym, ap, arith}
-use Rattle.std.specs.Prelude.{Option, Some, None, Result, Ok, Err, IfOk, OnErr, OnOk}
+use Rattle.std.proofs.Common.{◌≡◌, ℕ, ◌≤◌, Bool, true, false, ◌∙◌, inl, length, sym, ap, subst, arith}
+use Rattle.std.specs.Prelude.{Option, Some, None, Result, Ok, Err, IfOk, IfSome, OnErr, OnOk}
 use Rattle.std.proofs.lemmas.Bool.Decides.{nat_tests}
 use Rattle.ifdb_disk.specs.Clock.{Clock, Now}
 use Rattle.ifdb_log.specs.Causes.{HasLogCause}
@@ -25,6 +25,15 @@ worth_of answer None size n x is extract sized worth = tt
 worth_of answer (Some c) size n x is extract sized worth =
     let found = extract tt in
     (found.0, n, found.1, (x, found.2, sized), ap (λ k. is_worth k n) (sym is) ∙ worth)
+
+-- what was found is worth it, where it is wanted for that
+pub worth_found : (t u : Option Clock) (size : ℕ) (x : Extracted) (Wanted : Type 0) (read : Result Extracted LogFault) (r : Result (Option Extracted) LogFault) → u ≡ t → Now t (λ s. size ≡ length s.bytes) → read ≡ Ok x
+    → IfOk read (IsExtractIn u) → IfOk r (λ found. IfSome found (λ y. Wanted → (n : ℕ) × IsSizeOf n x × (is_worth size n ≡ true))) → IfOk r (λ found. IfSome found (λ y. Wanted → IsWorth true t))
+worth_found t u size x Wanted read (Ok None) same sized is extract needed = tt
+worth_found t u size x Wanted read (Ok (Some y)) same sized is extract needed = λ wanted.
+    let found = needed wanted in
+    worth_of true t size found.0 x sized (subst (λ o. IsExtractIn o x) same (subst (λ q. IfOk q (IsExtractIn u)) is extract)) found.1 found.2
+worth_found t u size x Wanted read (Err f) same sized is extract needed = tt
 
 -- of what was found two facts are known, and from them another
 pub if_both : {A E : Type 0} {P R : A → Type 0} {Q : Type 0} (r : Result A E) → IfOk r P → OnOk r Q → ((x : A) → P x → Q → R x) → IfOk r R

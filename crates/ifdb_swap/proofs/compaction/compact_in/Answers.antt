@@ -1,4 +1,4 @@
-use Rattle.std.proofs.Common.{◌≡◌, ◌∙◌, ◌≤◌, Ok, Err, ap, arith, sym, subst}
+use Rattle.std.proofs.Common.{◌≡◌, ◌∙◌, ◌≤◌, true, Ok, Err, ap, arith, sym, subst, rules}
 use Rattle.std.specs.Prelude.{None, Some, IfOk, IfSome, OnErr, OnOk, Option}
 use Rattle.ifdb_io.specs.Causes.{Rose}
 use Rattle.ifdb_log.specs.Causes.{HasLogCause}
