@@ -1,4 +1,4 @@
 mod Keeping
 mod First
 mod Serving
-mod Compacting
+mod Compactions

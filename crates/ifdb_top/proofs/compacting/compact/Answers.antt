@@ -1,5 +1,5 @@
 use Rattle.std.proofs.Common.{◌∙◌, sym}
-use Rattle.ifdb_top.proofs.Compacting.{does_compact}
+use Rattle.ifdb_top.proofs.Compactions.{does_compact}
 use Rattle.ifdb_top.proofs.compacting.compact.Goals as goal
 
 pub returns-in-Ok-Some-clause-done : goal.returns-in-Ok-Some-clause-done
