@@ -123,12 +123,15 @@ class Server:
         self.process = subprocess.Popen(command, preexec_fn=limit)
 
     def wait(self) -> None:
-        """Waits until it listens."""
+        """Waits until it listens, and has let go of the connection by which that was tried."""
         until = time.monotonic() + PATIENCE
         while time.monotonic() < until:
             check(self.process.poll() is None, "the server ended")
             with contextlib.suppress(OSError):
-                Client(self.port).close()
+                client = Client(self.port)
+                client.ask(b"BYE")
+                client.expect_end()
+                client.close()
                 return
             time.sleep(0.02)
         raise Wrong("the server doesn't listen")

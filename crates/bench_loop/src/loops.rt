@@ -2,7 +2,7 @@
 use ifdb_loop::{Loop, Terms, nobody, serve};
 use ifdb_ready::{Porter, TcpGate, TcpPort};
 use std::alloc::Global;
-use std::net::Net;
+use std::net::{Net, TcpListener, TcpStream};
 use std::rt::Clock;
 use std::sync::Wait;
 use std::thread::Threads;
@@ -47,13 +47,10 @@ fn work<R: Net + Wait + Clock>(rt: &R, alloc: Global, worker: &mut Worker<'_, R>
 }
 
 /// Serves this port by so many loops.
-pub fn serve_port<R: Net + Threads + Wait + Clock + Sync>(
-    rt: &R,
-    alloc: Global,
-    port: u16,
-    count: usize,
-    terms: Terms,
-) -> io::Result<()> {
+pub fn serve_port<R>(rt: &R, alloc: Global, port: u16, count: usize, terms: Terms) -> io::Result<()>
+where
+    R: Net<Listener = TcpListener, Stream = TcpStream> + Threads + Wait + Clock + Sync,
+{
     let mut hands = Vec::with_capacity(alloc, count)?;
     let mut workers = Vec::with_capacity(alloc, count)?;
     for _ in 0..count {
