@@ -5,7 +5,7 @@
     tools/counts.py --write       writes the table of docs/CONTRIBUTING.md anew, beside the commit that it names
 
 The files of a change are those whose code names the closest thing that is there: for a statement, `Revoke`; for one on rows, `Delete`; for
-an aggregate, `Max`; for an error, `NotGranted`; for a word of the command line, `keep` in `ifdb_words` and `ifdb_top`. Comments, tests,
+an aggregate, `Max`; for an error, `NotGranted`; for a word of the command line, `keep` in `ifdb_words` and `ifdb_top`, once `ifdb`. Comments, tests,
 benchmarks and worked scripts are left out. So they are too few: what two changes took by git was more than twice what this had told.
 
 What stands twice are pairs of files that share a run of six lines or more, letter for letter; empty lines, comments, imports and lines of
@@ -34,7 +34,7 @@ CHANGES = {
     "a statement on rows": (r"\bDelete\b", ("ifdb",)),
     "an aggregate": (r"\bMax\b", ("ifdb",)),
     "an error": (r"\bNotGranted\b", ("ifdb",)),
-    "a word of the command line": (r"(?i)keep", ("ifdb_words/", "ifdb_top/")),
+    "a word of the command line": (r"(?i)keep", ("ifdb_words/", "ifdb/", "ifdb_top/")),
 }
 
 
