@@ -70,18 +70,30 @@ fn ask_all(
 ) -> Result<String, Fail> {
     room.open_next()?;
     let number = room.sessions();
-    let mut out = Out::new(alloc)?;
     let mut told = String::new(alloc);
     for line in lines {
-        let mut note = room.note(Some(1000));
-        let reply = room.reply_noted(number, ReadLine::new(alloc, line.as_bytes()), &mut note)?;
-        out.speak_for(None);
-        out.put(&reply);
-        told.push_str(std::str::from_utf8(out.bytes())?)?;
-        if let Some(text) = note.into_text() {
-            add_text(batch, text.items())?;
-        }
+        told.push_str(&ask(alloc, room, number, line, batch)?)?;
     }
+    Ok(told)
+}
+
+/// A session's reply to a line. What the line adds to the log is put into a batch.
+fn ask(
+    alloc: Global,
+    room: &mut Room,
+    number: u64,
+    line: &str,
+    batch: &mut Batch,
+) -> Result<String, Fail> {
+    let mut out = Out::new(alloc)?;
+    let mut note = room.note(Some(10_000));
+    let reply = room.reply_noted(number, ReadLine::new(alloc, line.as_bytes()), &mut note)?;
+    out.speak_for(None);
+    out.put(&reply);
+    if let Some(text) = note.into_text() {
+        add_text(batch, text.items())?;
+    }
+    let told = String::from_str(alloc, std::str::from_utf8(out.bytes())?)?;
     Ok(told)
 }
 
@@ -190,6 +202,28 @@ fn each_call_fails(rt: HostRuntime) -> Result<(), Fail> {
     Ok(())
 }
 
+/// Writes each row again.
+const UPDATE: &str = "UPDATE note SET said = 'then' WHERE id >= 0";
+
+/// Asks how many rows were.
+static COUNT: [&str; 2] = [
+    "HELLO admin KEY 'admin'",
+    "SELECT COUNT(*) FROM note WHERE said = 'then'",
+];
+
+/// Inserts a row.
+fn insert_note(
+    alloc: Global,
+    room: &mut Room,
+    number: u64,
+    id: u32,
+    batch: &mut Batch,
+) -> Result<(), Fail> {
+    let line = format!(in alloc; "INSERT INTO note VALUES ({id}, 'first')")?;
+    ask(alloc, room, number, &line, batch)?;
+    Ok(())
+}
+
 /// A log of many rows, each of which was written twice, in pages that are split.
 fn many_rows(alloc: Global) -> Result<MemoryDisk, Fail> {
     let mut disk = empty_disk(alloc)?;
@@ -200,17 +234,11 @@ fn many_rows(alloc: Global) -> Result<MemoryDisk, Fail> {
         ..
     } = restart(alloc, &mut disk)?;
     ask_all(alloc, &mut room, &HISTORY[..4], &mut batch)?;
+    let number = room.sessions();
     for id in 0..200u32 {
-        let number = id * 7919 % 200;
-        let line = format!(in alloc; "INSERT INTO note VALUES ({number}, 'first')")?;
-        ask_all(alloc, &mut room, &[HISTORY[0], line.as_str()], &mut batch)?;
+        insert_note(alloc, &mut room, number, id * 7919 % 200, &mut batch)?;
     }
-    ask_all(
-        alloc,
-        &mut room,
-        &[HISTORY[0], "UPDATE note SET said = 'then' WHERE id >= 0"],
-        &mut batch,
-    )?;
+    ask(alloc, &mut room, number, UPDATE, &mut batch)?;
     journal.append_batch(&mut disk, &batch)?;
     Ok(disk)
 }
@@ -224,12 +252,7 @@ fn all_pages_are_there(rt: HostRuntime) -> Result<(), Fail> {
     let mut batch = Batch::new(alloc, 4096)?;
     let mut again = restart(alloc, &mut other)?;
     assert_eq!(rt; again.room.count_rows(), Some(200));
-    let told = ask_all(
-        alloc,
-        &mut again.room,
-        &[HISTORY[0], "SELECT COUNT(*) FROM note WHERE said = 'then'"],
-        &mut batch,
-    )?;
+    let told = ask_all(alloc, &mut again.room, &COUNT, &mut batch)?;
     assert_eq!(rt; told.as_str(), "OK\nROWS 1 1\n200\n");
     Ok(())
 }
