@@ -1,12 +1,6 @@
 // Scripts behind a beginning.
-use crate::run;
-use ifdb_top::Status;
-use std::alloc::{AllocGlobal, Global};
-use std::marker::Sync;
-use std::process::Abort;
-use std::sync::Wait;
+use std::alloc::Global;
 use std::test::Fail;
-use std::thread::Threads;
 
 /// What a script begins with, and what is written for that.
 #[derive(Clone, Copy)]
@@ -26,22 +20,6 @@ pub const VISITS: Begun = Begun(
     1 CREATE TABLE visit (v INT, note_id INT, PRIMARY KEY (v), FOREIGN KEY (note_id) REFERENCES note)\n",
     b"1 OPEN\n1 OK\n1 OK\n1 OK\n1 OK\n1 OK\n2 OPEN\n2 OK\n1 OK\n",
 );
-
-/// Runs each of some scripts behind a beginning, and compares what is written with its replies.
-pub fn answered<R: Abort + AllocGlobal + Threads + Wait + Sync>(
-    rt: &R,
-    begun: Begun,
-    scripts: &[(&[u8], &[u8])],
-) -> Result<(), Fail> {
-    for (script, replies) in scripts {
-        let script = both(rt.alloc(), begun.0, script)?;
-        let wanted = both(rt.alloc(), begun.1, replies)?;
-        let ran = run(rt, &script, 65_536)?;
-        assert_eq!(rt; ran.status, Status::Done);
-        assert_eq!(rt; ran.written.as_slice(), wanted.as_slice());
-    }
-    Ok(())
-}
 
 /// Two texts, one behind the other.
 pub fn both(alloc: Global, first: &[u8], second: &[u8]) -> Result<Vec<u8>, Fail> {

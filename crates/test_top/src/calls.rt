@@ -6,7 +6,6 @@ use ifdb_io::{MemoryLink, MemorySink, MemorySite, MemorySource};
 use ifdb_top::{MoreStatus, Status, top, top_more};
 use std::alloc::{AllocGlobal, Global};
 use std::marker::Sync;
-use std::process::Abort;
 use std::sync::Wait;
 use std::test::Fail;
 use std::thread::Threads;
@@ -136,40 +135,6 @@ pub fn ended<R: AllocGlobal + Threads + Wait + Sync>(
 {
     let mut site = MemorySite::new(rt.alloc(), Vec::new(rt.alloc()), Vec::new(rt.alloc()));
     call(rt, words, script, calls, &mut site)
-}
-
-/// Calls the program with these words over a script, and compares how it ended and what was written for it.
-pub fn ends_with<R: Abort + AllocGlobal + Threads + Wait + Sync>(
-    rt: &R,
-    words: &str,
-    script: &[u8],
-    calls: (Calls, Calls),
-    end: (Status, &[u8]),
-) -> Result<(), Fail>
-    requires { (0 < calls.0.piece) × (0 < calls.1.piece) }
-{
-    let (status, written) = end;
-    let ran = ended(rt, words, script, calls)?;
-    assert_eq!(rt; ran.status, status, "{words}");
-    assert_eq!(rt; ran.written.as_slice(), written, "{words}");
-    Ok(())
-}
-
-/// The same, by words that only `top_more` knows.
-pub fn ends_more<R: Abort + AllocGlobal + Threads + Wait + Sync>(
-    rt: &R,
-    words: &str,
-    bytes: &[u8],
-    calls: (Calls, Calls),
-    end: (MoreStatus, &[u8]),
-) -> Result<(), Fail>
-    requires { (0 < calls.0.piece) × (0 < calls.1.piece) }
-{
-    let (end, written) = end;
-    let ran = ended_more(rt, words, bytes, calls)?;
-    assert_eq!(rt; ran.end, end, "{words}");
-    assert_eq!(rt; ran.written.as_slice(), written, "{words}");
-    Ok(())
 }
 
 /// Runs a script that comes and is answered in pieces of this size.

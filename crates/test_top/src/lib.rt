@@ -6,8 +6,8 @@ mod calls;
 #[cfg(test)]
 mod tests;
 
-pub use begun::{Begun, NOTES, VISITS, answered, both};
+pub use begun::{Begun, NOTES, VISITS, both};
 pub use calls::{
-    Calls, EndedMore, Ran, all_of, call, ended, ended_more, ends_more, ends_with, failing, run,
-    served, sink, source, words_of,
+    Calls, EndedMore, Ran, all_of, call, ended, ended_more, failing, run, served, sink, source,
+    words_of,
 };

@@ -27,7 +27,8 @@ fn ceilings_have_their_replies(rt: HostRuntime) -> Result<(), Fail> {
         let script = both(rt.alloc(), NOTES.0, script)?;
         let wanted = both(rt.alloc(), NOTES.1, replies)?;
         let end = (MoreStatus::Base(Status::Done), wanted.as_slice());
-        ends_more(&rt, "run", &script, (all_of(65_536), all_of(65_536)), end)?;
+        let ran = ended_more(&rt, "run", &script, (all_of(65_536), all_of(65_536)))?;
+        assert_eq!(rt; (ran.end, ran.written.as_slice()), end);
     }
     Ok(())
 }

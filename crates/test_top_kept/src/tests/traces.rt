@@ -214,7 +214,8 @@ fn the_recorded_run_is_one(rt: HostRuntime) -> Result<(), Fail> {
     let script = recorded_behind(rt.alloc(), "> ")?;
     let replies = recorded_behind(rt.alloc(), "< ")?;
     let end = (Status::Done, replies.as_slice());
-    ends_with(&rt, "run", &script, (all_of(64), all_of(64)), end)?;
+    let ran = ended(&rt, "run", &script, (all_of(64), all_of(64)))?;
+    assert_eq!(rt; (ran.status, ran.written.as_slice()), end);
     let trace = changed_at(rt.alloc(), RECORDED.len(), Change::Dropped)?;
     let end = (DONE, b"ACCEPTED\n".as_slice());
     ends_more(&rt, "check", &trace, (all_of(64), all_of(64)), end)
