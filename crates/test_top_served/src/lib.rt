@@ -1,4 +1,4 @@
-//! Tests of the words of `serve`, `host` and `compact`, over sites and folders in memory.
+//! Tests of the words of `serve`, over sites in memory.
 #![tactic(auto)]
 
 #[cfg(test)]
