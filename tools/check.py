@@ -131,9 +131,7 @@ def wrong_deciding(text: str) -> list[str]:
     reached = {file for file, _ in deciding.deciding()}
     says_so = {file for file in CRATES.glob("*/specs/**/*.antt") if file.read_text().startswith("-- decides: ")}
     wrong = [(file, "decides, and isn't listed") for file in reached - listed]
-    unmarked = {CRATES / place for place in deciding.UNMARKED}
-    wrong += [(file, "decides, and its first line doesn't say so") for file in reached - says_so - unmarked]
-    wrong += [(file, "has its first line, and is still one of deciding.UNMARKED") for file in says_so & unmarked]
+    wrong += [(file, "decides, and its first line doesn't say so") for file in reached - says_so]
     wrong += [(file, "says that it decides, and doesn't") for file in says_so - reached]
     return [f"{file.relative_to(CRATES)} {why}" for file, why in sorted(wrong)]
 

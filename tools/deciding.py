@@ -28,17 +28,6 @@ ROOTS = [
     *(f"ifdb_keyed/src/{name}.rt" for name in ("link", "door", "site")),
     *(f"{crate}/src/laws.rt" for crate in ("ifdb_parse", "ifdb_keep", "ifdb_keyed")),
 ]
-# Files that decide and don't begin with the line that says so yet: a line there is a new proof of all crates above. Each gets it, and goes
-# from here, when its crate's text changes next.
-UNMARKED = {
-    "ifdb_compact/specs/Compacted.antt",
-    *(f"ifdb_extract/specs/{name}.antt" for name in ("Extracts", "Texts", "Worth")),
-    "ifdb_folder/specs/Folders.antt",
-    "ifdb_log/specs/Causes.antt",
-    "ifdb_reopen/specs/Causes.antt",
-    *(f"ifdb_restore/specs/{name}.antt" for name in ("Same", "Shorter")),
-    *(f"ifdb_swap/specs/{name}.antt" for name in ("Causes", "Folders", "Swapped")),
-}
 # The rules by which the parser's definition reads. The laws of ifdb_parse tie what they give to the written grammar.
 TIED = ["ifdb_parse/specs/rules", "ifdb_parse/specs/theory"]
 DECLARED = re.compile(r"(?:(?:abbrev|unfoldable|pub|record|data) +)+([^\s:(){}]+)")

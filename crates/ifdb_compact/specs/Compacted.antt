@@ -1,3 +1,4 @@
+-- decides: a compaction
 -- Compacted logs: all public changes in their order, and then all rows in the order of their slots, some at a time.
 use Rattle.std.specs.Prelude.{◌≡◌, ℕ, List, [], ◌++◌, map, Some}
 use Rattle.ifdb_row.specs.declared.row.Row.{Row}

@@ -1,3 +1,4 @@
+-- decides: a compaction
 -- What an extract is written as: the texts of its public changes, and then those of commits of all its rows, some rows at a time.
 use Rattle.std.specs.Prelude.{◌≡◌, ℕ, ◌-◌, ◌^◌, List, [], ◌∷◌, ◌++◌, map, min, Option, Some}
 use Rattle.std.specs.List.{flat_map}

@@ -1,3 +1,4 @@
+-- decides: a compaction
 -- What the texts of a log come to: the public changes among them, and the rows.
 use Rattle.std.specs.Prelude.{◌≡◌, ℕ, ◌+◌, Bool, true, false, List, [], ◌∷◌, ◌++◌, Option, Some, None, if◌then◌else◌}
 use Rattle.ifdb_disk.specs.Clock.{Clock}

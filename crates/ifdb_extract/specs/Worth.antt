@@ -1,3 +1,4 @@
+-- decides: a compaction
 -- When a compaction is worth it.
 use Rattle.std.specs.Prelude.{ℕ, ◌/◌, ◌*◌, Bool, ◌&&◌, nat_lt}
 

@@ -1,3 +1,4 @@
+-- decides: a compaction
 -- Disks by their names, and what becomes of them.
 use Rattle.std.specs.Prelude.{◌≡◌, ◌⊎◌, ℕ, Bool, List, [], ◌∷◌, bytes_eq, Option, Some, None, is_some, if◌then◌else◌, ⊤}
 use Rattle.ifdb_disk.specs.Memory.{DiskState}

@@ -1,3 +1,4 @@
+-- decides: a served database
 -- When a database may answer that its disk failed.
 use Rattle.std.specs.Prelude.{ℕ, Err}
 use Rattle.ifdb_log.specs.Causes.{HasLogCause}

@@ -1,3 +1,4 @@
+-- decides: a compaction
 -- When the writing of a new file may answer that its disk failed: only where the disk's own count of faults rose in this call.
 use Rattle.std.specs.Prelude.{◌≡◌, ℕ, ◌≤◌, Result, Ok, Err}
 use Rattle.ifdb_io.specs.Causes.{Rose}

@@ -1,3 +1,4 @@
+-- decides: a compaction
 -- A database of a folder that was compacted in its place.
 use Rattle.std.specs.Prelude.{◌≡◌, ◌⊎◌, ℕ, ◌≤◌, Bool, true, false, List, Option, Some, None, Result, Ok, Err, ⊤}
 use Rattle.ifdb_io.specs.Causes.{Rose}

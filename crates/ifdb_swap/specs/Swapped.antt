@@ -1,3 +1,4 @@
+-- decides: a compaction
 -- A database's file that was compacted to another.
 use Rattle.std.specs.Prelude.{◌≡◌, ◌⊎◌, ℕ, ◌≤◌, Bool, false, List, [], length, Option, Some, None}
 use Rattle.ifdb_disk.specs.Clock.{Clock, Leaves, Now}
