@@ -69,6 +69,23 @@ impl Extract {
         Ok(())
     }
 
+    /// How many public changes it has.
+    pub fn changes(&self) -> u64
+        ensures { result ≡ length self.now.changes }
+    {
+        self.changes.len() as u64
+    }
+
+    /// How many rows it has, up to 2^64 - 1. In time the number of their pages.
+    pub fn rows(&self) -> u64
+        ensures { result ≡ min (length self.now.rows) (2 ^ 64 - 1) }
+    {
+        match self.rows.count() {
+            Some(count) => count,
+            None => u64::MAX,
+        }
+    }
+
     /// How many bytes the records of a log of this take, which `write` writes: 2^64 - 1 where they take more. The title and the
     /// last gate come on top. Takes as long as the texts take to be made, and memory for the longest of them.
     pub fn size(&self, alloc: Global) -> Result<u64, OutOfMemory>

@@ -5,3 +5,4 @@ mod Deciding
 mod Names
 mod Swaps
 mod Ends
+mod Inspecting

@@ -1,3 +1,4 @@
 pub mod Swapped
 pub mod Causes
 pub mod Folders
+pub mod Inspections

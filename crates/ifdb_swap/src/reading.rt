@@ -91,7 +91,7 @@ fn wanted(
 }
 
 // Reads the file of a database, each entry of which is tested, and then gives what it comes to.
-fn read_log<D: Disk + Drop>(alloc: Global, disk: D) -> FileRead<D>
+pub(crate) fn read_log<D: Disk + Drop>(alloc: Global, disk: D) -> FileRead<D>
     ensures extract { IfOk result.extract (IsExtractIn (D.tells disk)) }
     ensures kept { IsKept (D.tells disk) (D.tells result.disk) }
     ensures damaged { (at : ℕ) → result.extract ≡ Err (LogFault.Damaged at)

@@ -2,3 +2,4 @@ mod Keeping
 mod First
 mod Serving
 mod Compactions
+mod Inspections

@@ -15,7 +15,7 @@ use Rattle.ifdb_swap.specs.declared.fault.SpareFault.{SpareFault}
 use Rattle.ifdb_swap.specs.declared.fault.SpareFault.TheVariants as spare
 use Rattle.ifdb_swap.specs.declared.when.When.{When}
 use Rattle.ifdb_swap.specs.declared.when.When.TheVariants.{Always, IfWorth}
-use Rattle.ifdb_words.specs.Compact.{compact_in}
+use Rattle.ifdb_words.specs.OneFile.{one_file_in}
 use Rattle.ifdb_words.specs.First.{is_first}
 use Rattle.ifdb_top.specs.declared.base.Status.TheVariants as status
 use Rattle.ifdb_top.specs.declared.more.MoreStatus.TheVariants.{Base, Damaged}
@@ -88,6 +88,6 @@ module _ {F D : Type 0} (folders : folder.Ghosts F D) (disks : disk.Ghosts D) wh
 
   -- the words behind `compact`, unless there was no memory to read them
   pub record DoesCompact {O : Type 0} (outputs : sink.Ghosts O) (output output' : O) (before after : F) (words : List (List ℕ)) (end : HostStatus) : Type 0 where
-    pub well_formed : (name : List ℕ) → compact_in words ≡ Some name
+    pub well_formed : (name : List ℕ) → one_file_in words ≡ Some name
         → (CompactsFile name before after end ⊎ ((end ≡ More (Base status.OutOfMemory)) × (after ≡ before))) × (output' ≡ output)
-    pub malformed : compact_in words ≡ None → OnMore end (WritesUsage outputs compact_usage output output') × (after ≡ before)
+    pub malformed : one_file_in words ≡ None → OnMore end (WritesUsage outputs compact_usage output output') × (after ≡ before)

@@ -4,6 +4,7 @@ pub mod Closures
 pub mod Compact
 pub mod Ends
 pub mod Host
+pub mod Inspect
 pub mod Keep
 pub mod Lending
 pub mod More

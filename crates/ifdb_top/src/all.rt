@@ -4,9 +4,11 @@ ghost use Rattle.ifdb_words.specs.First.{behind_first};
 ghost use Rattle.ifdb_top.specs.Compact.{DoesCompact, IsCompact};
 ghost use Rattle.ifdb_top.specs.Ends.{OnMore};
 ghost use Rattle.ifdb_top.specs.Host.{DoesHost, DoesMore, IsHost};
+ghost use Rattle.ifdb_top.specs.Inspect.{DoesInspect, IsInspect};
 
 use crate::compacting::compact;
 use crate::hosting::host;
+use crate::inspecting::inspect;
 use crate::more::top_more;
 use crate::status::HostStatus;
 use ifdb_disk::Shelf;
@@ -22,8 +24,9 @@ use std::thread::Threads;
 ///
 /// `host --file F --admin-key A --port P [--workers W] [--links K] [--limit N]` compacts the database in a file where that is worth it,
 /// then serves it, and writes no reply before the file has all that it was answered from; who says the key that the first line of A is
-/// is its `admin`, and nobody else is. `compact --file F` compacts it in any case, and serves nobody. Where one of these isn't well
-/// formed it gets its usage line. Other words are those of `top_more`.
+/// is its `admin`, and nobody else is. `compact --file F` compacts it in any case, and serves nobody; `inspect --file F` reads it, and
+/// writes how many public changes and rows it has. Where one of these isn't well formed it gets its usage line. Other words are those
+/// of `top_more`.
 pub fn top_host<
     T: AllocGlobal + Threads + Wait + Sync,
     R: Source,
@@ -52,7 +55,10 @@ where
         (behind_first words.now) result }
     ensures compact { IsCompact words.now → DoesCompact F.Folder F.Disk.Disk W.Sink
         output.old output.new folder.old folder.new (behind_first words.now) result }
-    ensures more { (IsHost words.now → ⊥) → (IsCompact words.now → ⊥) → OnMore result
+    ensures inspect { IsInspect words.now → DoesInspect F.Folder F.Disk.Disk W.Sink
+        output.old output.new folder.old folder.new (behind_first words.now) result }
+    ensures more { (IsHost words.now → ⊥) → (IsCompact words.now → ⊥)
+        → (IsInspect words.now → ⊥) → OnMore result
         (DoesMore R.Source W.Sink H.Shelf H.Disk.Disk
         S.Site S.Door.Door S.Door.Link.Source S.Door.Link.Sink words.now
         input.old input.new output.old output.new site.old.site site.new.site shelf.old shelf.new) }
@@ -60,8 +66,10 @@ where
     ensures other_secrets { (IsHost words.now → ⊥) → secrets.new ≡ secrets.old }
     ensures other_shelf { IsHost words.now → shelf.new ≡ shelf.old }
     ensures other_folder { (IsHost words.now → ⊥) → (IsCompact words.now → ⊥)
-        → folder.new ≡ folder.old }
+        → (IsInspect words.now → ⊥) → folder.new ≡ folder.old }
     ensures compact_alone { IsCompact words.now
+        → (input.new ≡ input.old) × (site.new ≡ site.old) × (shelf.new ≡ shelf.old) }
+    ensures inspect_alone { IsInspect words.now
         → (input.new ≡ input.old) × (site.new ≡ site.old) × (shelf.new ≡ shelf.old) }
     ensures input_later { R.faults input.old ≤ R.faults input.new }
     ensures output_later { W.faults output.old ≤ W.faults output.new }
@@ -76,6 +84,9 @@ where
         }
         [word, rest @ ..] if word.as_str() == "compact" => {
             compact(rt.alloc(), rest, output, folder)
+        }
+        [word, rest @ ..] if word.as_str() == "inspect" => {
+            inspect(rt.alloc(), rest, output, folder)
         }
         _ => HostStatus::More(top_more(rt, words, input, output, &mut site.site, shelf)),
     }

@@ -8,8 +8,8 @@ use crate::status::HostStatus;
 use ifdb_folder::Folder;
 use ifdb_io::Sink;
 use ifdb_log::LogFault;
-use ifdb_swap::{CompactFault, SpareFault, When, compact_in as compact_file_in, spare_name};
-use ifdb_words::{FileName, compact_in};
+use ifdb_swap::{CompactFault, SpareFault, When, compact_in, spare_name};
+use ifdb_words::{FileName, one_file_in};
 use std::alloc::Global;
 
 const USAGE: &str = "usage: ifdb compact --file F\n";
@@ -29,7 +29,7 @@ where
     ensures output_later { W.faults output.old ≤ W.faults output.new }
     ensures folder_later { F.faults folder.old ≤ F.faults folder.new }
 {
-    match compact_in(alloc, words) {
+    match one_file_in(alloc, words) {
         Ok(Some(file)) => compact_file(alloc, folder, &file),
         Ok(None) => HostStatus::More(MoreStatus::Base(write_usage(output, USAGE))),
         Err(_) => HostStatus::More(MoreStatus::Base(Status::OutOfMemory)),
@@ -59,7 +59,7 @@ where
     ensures folder_later { F.faults folder.old ≤ F.faults folder.new }
 {
     match spare_name(alloc, name) {
-        Ok(Some(spare)) => compact_status(compact_file_in(
+        Ok(Some(spare)) => compact_status(compact_in(
             alloc,
             folder,
             name,
@@ -84,7 +84,7 @@ fn compact_status(ended: Result<bool, CompactFault>) -> HostStatus
 }
 
 /// The status where the database wasn't read.
-fn read_status(fault: LogFault) -> HostStatus
+pub(crate) fn read_status(fault: LogFault) -> HostStatus
     ensures { result ≡ read_status fault }
 {
     match fault {

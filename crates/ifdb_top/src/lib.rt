@@ -7,6 +7,7 @@ mod check;
 mod closures;
 mod compacting;
 mod hosting;
+mod inspecting;
 mod keep;
 mod more;
 mod project;

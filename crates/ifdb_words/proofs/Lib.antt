@@ -1,7 +1,7 @@
 mod BadWord
 mod Basics
 mod ByOptions
-mod CompactOptions
+mod OneFileOptions
 mod Digits
 mod Ends
 mod Faults

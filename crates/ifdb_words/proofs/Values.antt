@@ -1,6 +1,6 @@
 -- Commands go by the values of their options alone.
 use Rattle.std.proofs.Common.{◌≡◌, refl, ℕ, List, Option, codes}
-use Rattle.ifdb_words.specs.Compact.{compact_of}
+use Rattle.ifdb_words.specs.OneFile.{one_file_of}
 use Rattle.ifdb_words.specs.Host.{host_of}
 use Rattle.ifdb_words.specs.Keep.{keep_of}
 use Rattle.ifdb_words.specs.Limit.{limit_of}
@@ -13,8 +13,8 @@ Values = List ℕ → Option (List ℕ)
 pub limit_same : (v w : Values) → ((name : List ℕ) → v name ≡ w name) → limit_of v ≡ limit_of w
 limit_same v w same = rw (same (codes "limit")) refl
 
-pub compact_same : (v w : Values) → ((name : List ℕ) → v name ≡ w name) → compact_of v ≡ compact_of w
-compact_same v w same = rw (same (codes "file")) refl
+pub one_file_same : (v w : Values) → ((name : List ℕ) → v name ≡ w name) → one_file_of v ≡ one_file_of w
+one_file_same v w same = rw (same (codes "file")) refl
 
 pub keep_same : (v w : Values) → ((name : List ℕ) → v name ≡ w name) → keep_of v ≡ keep_of w
 keep_same v w same = rw (same (codes "file"), same (codes "limit")) refl

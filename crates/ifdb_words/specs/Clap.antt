@@ -34,8 +34,8 @@ host_app = with_service (with_rule (with_rule (bare_app (codes "host")) (option_
 abbrev pub project_app : App
 project_app = with_rule (with_rule (bare_app (codes "project")) (option_of (codes "tags") true)) (option_of (codes "limit") false)
 
-abbrev pub compact_app : App
-compact_app = with_rule (bare_app (codes "compact")) (option_of (codes "file") true)
+abbrev pub one_file_app : App
+one_file_app = with_rule (bare_app (codes "file")) (option_of (codes "file") true)
 
 abbrev pub keep_app : App
 keep_app = with_rule (with_rule (bare_app (codes "keep")) (option_of (codes "file") true)) (option_of (codes "limit") false)

@@ -1,5 +1,4 @@
 pub mod Clap
-pub mod Compact
 pub mod FileName
 pub mod First
 pub mod Generate
@@ -8,6 +7,7 @@ pub mod Keep
 pub mod Level
 pub mod Limit
 pub mod Numbers
+pub mod OneFile
 pub mod Options
 pub mod Project
 pub mod Ranges

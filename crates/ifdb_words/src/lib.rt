@@ -2,7 +2,6 @@
 #![tactic(auto)]
 
 mod command;
-mod compact;
 mod file_name;
 mod generate;
 mod host;
@@ -10,6 +9,7 @@ mod keep;
 mod level;
 mod limit;
 mod numbers;
+mod one_file;
 mod options;
 mod project;
 mod run;
@@ -17,12 +17,12 @@ mod serve;
 mod service;
 
 pub use command::{Command, Text, command_of};
-pub use compact::compact_in;
 pub use file_name::FileName;
 pub use host::{Hosting, host_in};
 pub use keep::{Keep, keep_in};
 pub use level::Level;
 pub use limit::limit_in;
+pub use one_file::one_file_in;
 pub use project::{Project, project_in};
 pub use service::Service;
 pub use std::alloc::AllocError as OutOfMemory;

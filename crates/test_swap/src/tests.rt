@@ -1,4 +1,4 @@
-//! A database's file in a folder in memory, compacted in its place, and what is there when a call fails.
+//! A database's file in a folder in memory, compacted in its place or looked through, and what is there when a call fails.
 ghost use Rattle.std.specs.Prelude.{◌≤◌, length};
 
 use ifdb_db::{ReadLine, Room};
@@ -7,7 +7,7 @@ use ifdb_folder::{Folder, MemoryFolder, Name, Named};
 use ifdb_journal::{Batch, RecordKind};
 use ifdb_log::{LogFault, Pieces};
 use ifdb_restart::{Restarted, restart};
-use ifdb_swap::{CompactFault, SpareFault, When, compact_in};
+use ifdb_swap::{CompactFault, InspectFault, Inspection, SpareFault, When, compact_in, inspect_in};
 use ifdb_wire::Out;
 use std::alloc::Global;
 use std::test::Fail;
@@ -253,5 +253,34 @@ fn a_damaged_file_stays(rt: HostRuntime) -> Result<(), Fail> {
     assert!(rt; matches!(end, Err(CompactFault::Read(LogFault::Damaged(_)))));
     let disk = folder.take(DATABASE)?;
     assert_eq!(rt; disk.bytes().len(), size);
+    Ok(())
+}
+
+#[test]
+fn a_database_is_looked_through(rt: HostRuntime) -> Result<(), Fail> {
+    let alloc = rt.alloc();
+    let bytes = file(alloc)?;
+    let size = bytes.len();
+    let mut folder = folder_of(alloc, bytes, Vec::new(alloc), Vec::new(alloc))?;
+    // A tag and a table were made.
+    let found = Inspection {
+        changes: 2,
+        rows: 2,
+    };
+    assert_eq!(rt; inspect_in(alloc, &mut folder, DATABASE), Ok(found));
+    assert_eq!(rt;
+        inspect_in(alloc, &mut folder, SPARE),
+        Ok(Inspection {
+            changes: 0,
+            rows: 0
+        })
+    );
+    let disk = folder.take(DATABASE)?;
+    assert_eq!(rt; disk.bytes().len(), size);
+    // Nobody else can have it meanwhile.
+    assert_eq!(rt;
+        inspect_in(alloc, &mut folder, DATABASE),
+        Err(InspectFault::Folder)
+    );
     Ok(())
 }

@@ -1,6 +1,6 @@
 //! Lines of words and what they ask for, by hand from the table of commands.
 use ifdb_words::{
-    Command, OutOfMemory, Service, Text, command_of, compact_in, host_in, keep_in, limit_in,
+    Command, OutOfMemory, Service, Text, command_of, host_in, keep_in, limit_in, one_file_in,
     project_in,
 };
 use std::alloc::{AllocGlobal, Global};
@@ -522,7 +522,7 @@ fn words_behind_compact(rt: HostRuntime) -> Result<(), Fail> {
     ];
     for (line, wanted) in &TABLE {
         let words = words_of(rt.alloc(), line)?;
-        let found = compact_in(rt.alloc(), &words)?;
+        let found = one_file_in(rt.alloc(), &words)?;
         assert_eq!(rt; found.as_ref().map(|file| file.as_str()), *wanted, "{line}");
     }
     Ok(())
