@@ -130,6 +130,23 @@ def other_files_are_refused(folder: pathlib.Path) -> None:
     expect("a database with an open gate at its end", refused(hosted), (DAMAGED, f"ifdb: the journal is damaged at byte {len(before) - 1}\n"))
 
 
+def what_is_looked_through_stays(folder: pathlib.Path) -> None:
+    file, text = folder / "looked", folder / "text of notes"
+    made(file, "CREATE TAG secret", "INSERT INTO note VALUES (1, 'one'), (2, 'two')", "DELETE FROM note WHERE id = 1")
+    before = file.read_bytes()
+    looked = program.run("inspect", "--file", file)
+    expect("what a database comes to", (looked.status, looked.written, looked.said), (0, b"changes 2\nrows 1\n", b""))
+    with host(file):
+        expect("a look at a served file", program.run("inspect", "--file", file).status, DISK_FAULT)
+    file.write_bytes(before[:-1] + b"\1")
+    expect("a damaged file", program.run("inspect", "--file", file).status, DAMAGED)
+    expect("the file", file.read_bytes(), before[:-1] + b"\1")
+    text.write_text("notes\n" * 9)
+    expect("a file of something else", program.run("inspect", "--file", text).status, DAMAGED)
+    expect("no file", program.run("inspect", "--file", folder / "none").status, DISK_FAULT)
+    expect("that one is made", (folder / "none").exists(), False)
+
+
 def without_a_key_nobody_is_served(folder: pathlib.Path) -> None:
     file, key = folder / "keyless", folder / "key"
     words = ("host", "--file", file, "--admin-key", key, f"--port={program.free_port()}")
@@ -211,6 +228,7 @@ TESTS: List[Callable[[pathlib.Path], None]] = [
     nothing_is_kept_of_what_only_looks,
     one_program_has_a_file,
     other_files_are_refused,
+    what_is_looked_through_stays,
     without_a_key_nobody_is_served,
     what_stands_before_damage_goes_on,
     a_full_disk_loses_nothing,

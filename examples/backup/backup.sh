@@ -19,29 +19,17 @@ file=$1 folder=$2
 umask 077
 mkdir -p -- "$folder"
 copy=$folder/ifdb-$(date -u +%Y%m%dT%H%M%SZ) part=$(mktemp -- "$folder/part.XXXXXX")
-trap 'rm -f -- "$part" "$part.key"' EXIT
+trap 'rm -f -- "$part"' EXIT
 
 # The file is read in one go from its begin to whatever is its end then, so a record that was seen to begin is read whole. What takes the
 # file's length first and reads behind that, as tar and rsync do, may stop within a record.
 cat -- "$file" >"$part" || fail "$file can't be copied"
 
-# The program over the copy, whose key of admin nobody is told, with a connection that says BYE; it counts what is there at its end.
-head -c 24 /dev/urandom | base64 >"$part.key"
-for _ in {1..20}; do
-  port=$((20000 + RANDOM)) status=0
-  exec {told}< <(exec "$program" host --file "$part" --admin-key "$part.key" --port "$port" --workers 1 --links 1)
-  if IFS= read -r _ <&"$told"; then
-    exec {link}<>"/dev/tcp/127.0.0.1/$port"
-    printf 'BYE\n' >&"$link"
-    cat <&"$link" >/dev/null
-    exec {link}>&-
-  fi
-  wait "$!" || status=$?
-  rows=$(sed -n 's/^rows //p' <&"$told")
-  exec {told}<&-
-  ((status == 6)) || break # (somebody else has the port)
-done
+# The program reads the copy whole, and counts.
+status=0
+told=$("$program" inspect --file "$part") || status=$?
 ((status == 0)) || fail "the copy of $file is no database: ifdb ended with status $status"
+rows=$(sed -n 's/^rows //p' <<<"$told")
 sync -- "$part"
 mv -- "$part" "$copy"
 sync -- "$folder"
