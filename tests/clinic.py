@@ -48,7 +48,7 @@ class Text(html.parser.HTMLParser):
 
     def handle_starttag(self, tag: str, attributes: Sequence[Tuple[str, object]]) -> None:
         self._tag = tag
-        if tag in ("h1", "h2", "p", "tr"):
+        if tag in ("h1", "h2", "p", "tr", "text"):
             self.lines.append("")
 
     def handle_data(self, data: str) -> None:

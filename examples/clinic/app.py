@@ -23,8 +23,9 @@ import urllib.parse
 from http import HTTPStatus
 from typing import Callable, Dict, FrozenSet, Iterable, List, NamedTuple, Optional, Sequence, Tuple
 
-sys.path.insert(0, str(pathlib.Path(__file__).resolve().parents[2] / "clients/python"))
+sys.path[:0] = [str(pathlib.Path(__file__).resolve().parents[2] / "clients/python"), str(pathlib.Path(__file__).resolve().parent)]
 import ifdb  # noqa: E402
+import picture  # noqa: E402
 
 PATIENCE = 10.0
 """Seconds that the database has for an answer."""
@@ -111,8 +112,18 @@ def remind(connection: ifdb.Connection, request: Request) -> str:
     return "<p>You will be reminded, if there is such a visit.</p>"
 
 
+def overview(connection: ifdb.Connection, request: Request) -> str:
+    """Who can see what, as a picture: what the reader's label reaches, and that there is more."""
+    cursor = connection.cursor()
+    patients = [str(name) for (name,) in cursor.execute("SELECT name FROM person WHERE role = 'patient'").fetchall()]
+    visits = picture.by_label(cursor.execute("SELECT LABEL OF visit, id, reason FROM visit").fetchall())
+    bills = [f"bill of visit {number}: {pence} pence" for number, pence in cursor.execute("SELECT id, pence FROM bill").fetchall()]
+    tags = [picture.Tag(it, bool(request.label & {it, "patients"}), visits.get(it, [])) for it in patients]
+    return picture.picture(connection.user, tags, bills)
+
+
 Page = Callable[[ifdb.Connection, Request], str]
-PAGES: Dict[str, Page] = {"/": home, "/visit": visit, "/remind": remind}
+PAGES: Dict[str, Page] = {"/": home, "/visit": visit, "/remind": remind, "/picture": overview}
 
 
 def send_mail(cursor: ifdb.Cursor, body: str) -> None:

@@ -1,4 +1,4 @@
-//! Tests of `command_of`, `limit_in`, `project_in` and `keep_in`: lines of words and what they ask for.
+//! Tests of the words of the command line: lines of words and what they ask for.
 #![tactic(auto)]
 
 #[cfg(test)]
