@@ -5,6 +5,7 @@ pub mod Serving
 pub mod Hosting
 pub mod Counting
 pub mod Working
+pub mod Apart
 pub mod MayAdd
 pub mod Said
 pub mod Turned

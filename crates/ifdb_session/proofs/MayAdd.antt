@@ -19,11 +19,8 @@ use Rattle.ifdb_history.specs.declared.entry.Kind.TheVariants as kind
 use Rattle.ifdb_history.specs.declared.entry.Note.{Note}
 use Rattle.ifdb_history.specs.History.{work_steps, steps_of, after, IsAt, IsRight, root_in, opening_entry, entry_of}
 use Rattle.ifdb_history.specs.Counts.{commits_in}
-use Rattle.ifdb_history.specs.Lines.{work_lines}
 use Rattle.ifdb_history.proofs.Flat.{after-append}
-use Rattle.ifdb_history.proofs.Others.{kept_among_others}
 use Rattle.ifdb_history.proofs.Own.{own_is_right}
-use Rattle.ifdb_history.proofs.Logs.{log_on}
 use Rattle.ifdb_session.specs.Counts.{commits_at, refuses_at}
 use Rattle.ifdb_session.specs.Seats.{work_of, lines_in, IsToldIn, asked_entry, left_entry, IsSeated}
 use Rattle.ifdb_session.specs.declared.seat.Seat.{Seat}
@@ -34,7 +31,8 @@ use Rattle.ifdb_session.specs.Standing.{StandsForHistory}
 use Rattle.ifdb_session.specs.Turns.{with_lent, MayBeBack, HasCounted, CountsTurn, RecordsStep}
 use Rattle.ifdb_session.proofs.Counting.{stands_more, commits_more, line_commits, leaving_commits}
 use Rattle.ifdb_session.proofs.Recording.{records-append, quiet, records_more, records_still}
-use Rattle.ifdb_session.proofs.Working.{if_later, if_told, if_work, if_log, if_records, if_stands, if_back}
+use Rattle.ifdb_session.proofs.Apart.{seat_later}
+use Rattle.ifdb_session.proofs.Working.{if_work, if_log, if_records, if_stands, if_back}
 use Rattle.ifdb_session.specs.Starts.{start_of}
 
 module _ (older : List LogEntry) where
@@ -58,23 +56,17 @@ module _ (older : List LogEntry) where
 
   pub seat_found : (h log : List Entry) (own : List ℕ) (s : Seat) → IsSeated older h own s → IsPrefix h log → AllRight (IsRight (start_of older)) log
       → NoRootsFrom (λ (e : Entry). e.root) log (length h) own → IsSeated older log own s × (lines_in log s ≡ lines_in h s) × ((text : List ℕ) → IsToldIn older h s text → IsToldIn older log s text)
-  seat_found h log own s seated front right away =
-      let kept = kept_among_others (start_of older) h log own s.number seated.holds front right away in
-      let more = log_on (start_of older) h log front in (
-        record { holds = kept.0; works = if_later older h log s.number (work_of s) kept.3 more s.lent seated.works },
-        ap (λ l. l ++ work_lines (work_of s)) kept.1,
-        λ text t. (t.0, kept.2 t.0 t.1, t.2 ∙ ap (λ l. t.0 ++ l) (sym (if_told older h log s.number (work_of s) kept.3 more s.lent seated.works))),
-      )
+  seat_found h log own s seated front right away = let found = seat_later older h log front right own away s seated in (found.0, found.1.lines, found.1.texts)
 
   -- ---- what is recorded then
 
   -- a line of a seat records what its step does behind the session's work
   asked_more : (log : List Entry) (s : Seat) (line : List ℕ) → records read_line (after (start_of older) log) (work_steps s.number (work_of s)) ≡ []
-      → records_of older (log ++ asked_entry log s.number s.work.items line ∷ [])
+      → records_of older (log ++ asked_entry log s.number (work_of s) line ∷ [])
       ≡ records_of older log ++ records_at read_line (run read_line (after (start_of older) log) (work_steps s.number (work_of s))) (asks s.number line)
   asked_more log s line none =
       let last = records_at read_line (run read_line (after (start_of older) log) (work_steps s.number (work_of s))) (asks s.number line) in
-      records_more older log (asked_entry log s.number s.work.items line)
+      records_more older log (asked_entry log s.number (work_of s) line)
       ∙ ap (λ (rs : List RedoRecord). records_of older log ++ rs) (
       records-append read_line (after (start_of older) log) (work_steps s.number (work_of s)) (asks s.number line ∷ [])
       ∙ ap (λ (rs : List RedoRecord). rs ++ (last ++ [])) none
@@ -107,15 +99,15 @@ module _ {Q : Type 0} (recorders : recorder.Ghosts Q) (log : List Entry) (own : 
   pub may_ask : (line : List ℕ) → GoesBy (with_lent old.room s.number s.lent) new.room (asks s.number line)
       → CountsTurn (with_lent old.room s.number s.lent) (kind.Asked s.number [] line) old new
       → RecordsStep recorders (with_lent old.room s.number s.lent) (asks s.number line) old new
-      → StandsForHistory recorders new (log ++ asked_entry log s.number s.work.items line ∷ [])
-      × IsRight (start_of recorders.first) log (asked_entry log s.number s.work.items line) × (0 < times (root_in log s.number) own)
+      → StandsForHistory recorders new (log ++ asked_entry log s.number (work_of s) line ∷ [])
+      × IsRight (start_of recorders.first) log (asked_entry log s.number (work_of s) line) × (0 < times (root_in log s.number) own)
   may_ask line goes counts recording = (
     stands_more recorders old new log e (commits_at read_line worked (kind.Asked s.number [] line)) (refuses_at read_line worked (kind.Asked s.number [] line)) stands room commits refl (counts worked then) recorded,
     (mine.0, if_work recorders.first log s.number (work_of s) s.lent seated.works),
     mine.1,
   ) where
     e : Entry
-    e = asked_entry log s.number s.work.items line
+    e = asked_entry log s.number (work_of s) line
 
     recorded : recorders.has new.records (records_of recorders.first (log ++ e ∷ []))
     recorded = subst (recorders.has new.records) (sym (asked_more recorders.first log s line (if_records recorders.first log s.number (work_of s) s.lent seated.works))) (recording worked (records_of recorders.first log) then stands.recorded)
@@ -130,15 +122,15 @@ module _ {Q : Type 0} (recorders : recorder.Ghosts Q) (log : List Entry) (own : 
 
   pub may_leave : GoesBy (with_lent old.room s.number s.lent) new.room (leaves s.number)
       → CountsTurn (with_lent old.room s.number s.lent) (kind.Left s.number []) old new → new.records ≡ old.records
-      → StandsForHistory recorders new (log ++ left_entry log s.number s.work.items ∷ [])
-      × IsRight (start_of recorders.first) log (left_entry log s.number s.work.items) × (0 < times (root_in log s.number) own)
+      → StandsForHistory recorders new (log ++ left_entry log s.number (work_of s) ∷ [])
+      × IsRight (start_of recorders.first) log (left_entry log s.number (work_of s)) × (0 < times (root_in log s.number) own)
   may_leave goes counts same = (
     stands_more recorders old new log e false false stands room commits refl (counts worked then) (still_recorded recorders old new log e stands same none),
     (mine.0, if_work recorders.first log s.number (work_of s) s.lent seated.works),
     mine.1,
   ) where
     e : Entry
-    e = left_entry log s.number s.work.items
+    e = left_entry log s.number (work_of s)
 
     none : records read_line (after (start_of recorders.first) log) (steps_of e.kind) ≡ []
     none = records-append read_line (after (start_of recorders.first) log) (work_steps s.number (work_of s)) (leaves s.number ∷ []) ∙ append-nil _ ∙ if_records recorders.first log s.number (work_of s) s.lent seated.works

@@ -73,7 +73,7 @@ module _ (older : List LogEntry) (log : List Entry) (own : List ℕ) (s : Seat) 
       let opened : IsOpen (after (start_of older) (log ++ e ∷ [])) s.number = subst (λ l. IsOpen (after (start_of older) l) s.number) is o in
       subst (λ (z : List Entry × List ℕ). Holds (start_of older) z.0 z.1 s.number) (λ i. (sym is i, sym more i)) (holds_on (start_of older) log own s.number e (length log) seated.holds opened)
 
-  module _ (line : List ℕ) (later : List Entry) (is : later ≡ log ++ asked_entry log s.number s.work.items line ∷ []) (room next_room : Hall) (text : List ℕ) (is_open : Bool)
+  module _ (line : List ℕ) (later : List Entry) (is : later ≡ log ++ asked_entry log s.number (work_of s) line ∷ []) (room next_room : Hall) (text : List ℕ) (is_open : Bool)
       (stands : StandsFor room (after (start_of older) log)) (answered : IsAnswered s.number line (with_lent room s.number s.lent) next_room text is_open)
       (now : Option Client) (t : Seat) (number : t.number ≡ s.number) (lent : t.lent ≡ now) (none : work_of t ≡ []) where
     abbrev before : State
@@ -179,7 +179,7 @@ module _ (older : List LogEntry) (log : List Entry) (own : List ℕ) (s : Seat) 
       works = subst (λ (z : List Note × Option Client). WorksIf older later t.number z.0 z.1) (λ i. (sym (work ∙ nothing_noted) i, sym lent i)) refl;
     }
 
-  module _ (later : List Entry) (is : later ≡ log ++ left_entry log s.number s.work.items ∷ []) where
+  module _ (later : List Entry) (is : later ≡ log ++ left_entry log s.number (work_of s) ∷ []) where
     pub left_lines : lines_of s.number later ≡ lines_in log s
     left_lines = ap (lines_of s.number) is ∙ (left_adds (start_of older) log s.number (work_of s) _ refl).0
 

@@ -37,7 +37,7 @@ turn_later h k x t front = record {
   is = sym front.1 ∙ ap (λ l. l ++ front.0) t.is ∙ append_assoc t.before (record { root = t.root; kind = x } ∷ t.behind) front.0;
 }
 
-bye_later : (n : ℕ) (h k : List Entry) (lines more : List (List ℕ)) → EndsInBye n h lines → IsPrefix h k → more ≡ lines → EndsInBye n k more
+pub bye_later : (n : ℕ) (h k : List Entry) (lines more : List (List ℕ)) → EndsInBye n h lines → IsPrefix h k → more ≡ lines → EndsInBye n k more
 bye_later n h k lines more e front same = record {
   front = e.front;
   line = e.line;
@@ -45,7 +45,7 @@ bye_later n h k lines more e front same = record {
   bye = record { work = e.bye.work; turn = turn_later h k _ e.bye.turn front; is_bye = e.bye.is_bye };
 }
 
-left_later : (n : ℕ) (h k : List Entry) → HasLeft n h → IsPrefix h k → HasLeft n k
+pub left_later : (n : ℕ) (h k : List Entry) → HasLeft n h → IsPrefix h k → HasLeft n k
 left_later n h k l front = record { work = l.work; turn = turn_later h k _ l.turn front }
 
 closes_later : (ending : Ending) (n : ℕ) (h k : List Entry) → Closes ending n h → IsPrefix h k → lines_of n k ≡ lines_of n h → Closes ending n k

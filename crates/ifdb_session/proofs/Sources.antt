@@ -1,9 +1,11 @@
 -- What replies were answered from, in longer and longer histories.
-use Rattle.std.proofs.Common.{◌≡◌, ℕ, Bool, true, false, List, [], ◌∷◌, ◌++◌, ◌∙◌, refl, sym, ap, subst, arith, cond, All, Option, Some, None}
+use Rattle.std.proofs.Common.{◌≡◌, ℕ, Bool, true, false, List, [], ◌∷◌, ◌++◌, ◌∙◌, length, refl, sym, ap, subst, arith, cond, inl, inr, All, Option, Some, None}
 use Rattle.std.specs.Prelude.{◌==◌, IsSome}
-use Rattle.std.proofs.lemmas.List.{append_assoc, append-nil, append_cancel_left}
-use Rattle.std.proofs.lemmas.List.Elements.{All-append, All-cons}
+use Rattle.std.proofs.lemmas.Bool.{cases_lt, false≢true}
+use Rattle.std.proofs.lemmas.List.{append_assoc, append-nil, append_cancel_left, length-append}
+use Rattle.std.proofs.lemmas.List.Elements.{All-append, All-cons, All-head, All-tail}
 use mathlib.Core.List.{IsPrefix}
+use Rattle.ifdb_turn.proofs.HistoryLemmas.{prefix_two}
 use Rattle.ifdb_history.specs.declared.entry.Entry.{Entry}
 use Rattle.ifdb_history.specs.declared.entry.Kind.{Kind}
 use Rattle.ifdb_history.specs.declared.entry.Kind.TheVariants as kind
@@ -17,6 +19,10 @@ use Rattle.ifdb_model.specs.Log.{Entry as LogEntry}
 
 abbrev Texts : Type 0
 Texts = List (List ℕ)
+
+all_middle : (P : Texts → Type 0) (xs : List Texts) (y : Texts) (zs : List Texts) → All P ((xs ++ y ∷ []) ++ zs) → P y
+all_middle P [] y zs all = All-head P y zs all
+all_middle P (x ∷ xs) y zs all = all_middle P xs y zs (All-tail P x ((xs ++ y ∷ []) ++ zs) all)
 
 -- ---- turns that asked nothing of the session
 
@@ -38,6 +44,26 @@ unanswered n (kind.Asked m work line) none = unasked (m == n) (work_lines work) 
 unanswered n (kind.Looked m line) none = unasked (m == n) [] line none
 unanswered n (kind.Refused m line) none = unasked (m == n) [] line none
 unanswered n (kind.Left m work) none = refl
+
+-- Where the session asked no more, a turn that answers it stands in the shorter history.
+pub answered_before : (n : ℕ) (h k : List Entry) → IsPrefix h k → lines_of n k ≡ lines_of n h → (before : List Entry) (e : Entry) → IsPrefix (before ++ e ∷ []) k → answers n e.kind ≡ true → IsPrefix (before ++ e ∷ []) h
+answered_before n h k front same before e there so =
+    let count = length-append before (e ∷ []) in
+    elim (cases_lt (length before) (length h)) [
+      | inl lt ↦ prefix_two (before ++ e ∷ []) h k there front (omega (arith, count, lt))
+      | inr ge ↦ absurd (false≢true (sym (unanswered n e.kind (asked_none (prefix_two h before k front (e ∷ there.0, sym (append_assoc before (e ∷ []) there.0) ∙ there.1) ge))) ∙ so))
+    ]
+  where
+    asked_none : IsPrefix h before → lines_at n e.kind ≡ []
+    asked_none p =
+        let parts : lines_of n k ≡ lines_of n h ++ (lines_of n p.0 ++ (lines_at n e.kind ++ lines_of n there.0)) =
+        ap (lines_of n) (sym there.1) ∙ lines-append n (before ++ e ∷ []) there.0 ∙ ap (λ l. l ++ lines_of n there.0) (lines-append n before (e ∷ []))
+        ∙ ap (λ l. (lines_of n l ++ (lines_at n e.kind ++ [])) ++ lines_of n there.0) (sym p.1) ∙ ap (λ l. (l ++ (lines_at n e.kind ++ [])) ++ lines_of n there.0) (lines-append n h p.0)
+        ∙ ap (λ l. ((lines_of n h ++ lines_of n p.0) ++ l) ++ lines_of n there.0) (append-nil (lines_at n e.kind))
+        ∙ append_assoc (lines_of n h ++ lines_of n p.0) (lines_at n e.kind) (lines_of n there.0) ∙ append_assoc (lines_of n h) (lines_of n p.0) (lines_at n e.kind ++ lines_of n there.0) in
+        let none : lines_of n p.0 ++ (lines_at n e.kind ++ lines_of n there.0) ≡ [] =
+        append_cancel_left (lines_of n h) (lines_of n p.0 ++ (lines_at n e.kind ++ lines_of n there.0)) [] (sym parts ∙ same ∙ sym (append-nil (lines_of n h))) in
+        first_none (lines_at n e.kind) (lines_of n there.0) (rest_none (lines_of n p.0) (lines_at n e.kind ++ lines_of n there.0) none)
 
 module _ (older : List LogEntry) where
   -- ---- a history goes on
@@ -74,6 +100,12 @@ module _ (older : List LogEntry) where
       let none : lines_of n front.0 ≡ [] = append_cancel_left (lines_of n h) (lines_of n front.0) []
       (sym (lines-append n h front.0) ∙ ap (lines_of n) front.1 ∙ same ∙ sym (append-nil (lines_of n h))) in
       ap (sources_of older n) (sym front.1) ∙ sources-append n [] h front.0 ∙ ap (λ (l : List Texts). sources_of older n h ++ l) (none_of_none n h front.0 none) ∙ append-nil (sources_of older n h)
+
+  -- what is so of all that a session was answered from is so of what a turn that answers it has seen
+  pub source_among : (P : Texts → Type 0) (n : ℕ) (h before : List Entry) (e : Entry) → IsPrefix (before ++ e ∷ []) h → answers n e.kind ≡ true → All P (sources_of older n h) → P (texts_of older (before ++ e ∷ []))
+  source_among P n h before e front so all =
+      all_middle P (sources_of older n before) (texts_of older (before ++ e ∷ [])) (sources_from older n (before ++ e ∷ []) front.0)
+      (subst (All P) (ap (sources_of older n) (sym front.1) ∙ sources-append n [] (before ++ e ∷ []) front.0 ∙ ap (λ (l : List Texts). l ++ sources_from older n (before ++ e ∷ []) front.0) (sources_more n before e so)) all)
 
 -- ---- that is known to be kept
 

@@ -1,6 +1,7 @@
 -- A thread knows no less later: the laws of what waits for a disk.
-use Rattle.std.specs.Prelude.{ℕ, refl}
+use Rattle.std.specs.Prelude.{ℕ, ◌≤◌, refl}
 use Rattle.std.proofs.Common.{◌∙◌}
+use Rattle.std.proofs.Math.Nat.{le_trans}
 use Rattle.ifdb_durable.specs.declared.naming.Naming as naming
 use Rattle.ifdb_durable.proofs.Begins.{begins_all, begins_on}
 use Rattle.ifdb_session.specs.declared.durable.Durable.{Durable}
@@ -15,6 +16,9 @@ module _ {B D : Type 0} {named : naming.Ghosts B} where
 
   pub still_on_disk : (s t : Durable B D named) (n : ℕ) → GoesOn s t → KnowsOnDisk s n → KnowsOnDisk t n
   still_on_disk s t n goes kept = (kept.0, begins_on kept.0 s.member.receipt t.member.receipt kept.1 goes.1, kept.2)
+
+  pub fewer_on_disk : (s : Durable B D named) (m n : ℕ) → m ≤ n → KnowsOnDisk s n → KnowsOnDisk s m
+  fewer_on_disk s m n fewer kept = (kept.0, kept.1, le_trans fewer kept.2)
 
   pub still_failed : (s t : Durable B D named) → GoesOn s t → KnowsFailed s → KnowsFailed t
   still_failed s t goes failed = goes.1.1 failed

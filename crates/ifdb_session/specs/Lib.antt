@@ -12,6 +12,7 @@ pub mod Talk
 pub mod Endings
 pub mod Records
 pub mod Acknowledged
+pub mod Behind
 pub mod Keepers
 pub mod Durable
 pub mod Knowing

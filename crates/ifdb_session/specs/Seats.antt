@@ -1,12 +1,10 @@
 -- A session as its connection has it: in the room, or lent; then with the work of its transaction, which no turn has brought
 -- along yet.
-use Rattle.std.specs.Prelude.{◌≡◌, ◌⊎◌, ℕ, Bool, true, false, List, [], ◌∷◌, ◌++◌, map, Option, Some, None}
-use Rattle.ifdb_io.specs.Lines.{Reading}
+use Rattle.std.specs.Prelude.{◌≡◌, ◌⊎◌, ℕ, Bool, true, false, List, [], ◌∷◌, ◌++◌, Option, Some, None}
 use Rattle.ifdb_wire.specs.declared.reply.Reply.{Reply}
 use Rattle.ifdb_wire.specs.Text.{memory_text, reply_text}
 use Rattle.ifdb_model.specs.Run.{session_of}
 use Rattle.ifdb_history.specs.declared.entry.Entry.{Entry}
-use Rattle.ifdb_history.specs.declared.entry.Kind.{Kind}
 use Rattle.ifdb_history.specs.declared.entry.Kind.TheVariants as kind
 use Rattle.ifdb_history.specs.declared.entry.Note.{Note}
 use Rattle.ifdb_history.specs.History.{after, entry_of, Holds, IsShut}
@@ -19,16 +17,9 @@ use Rattle.ifdb_session.specs.declared.seat.Seat.{Seat}
 use Rattle.ifdb_model.specs.Log.{Entry as LogEntry}
 use Rattle.ifdb_session.specs.Starts.{start_of}
 
--- what a reader had read, and whether it was refused
-abbrev pub note_of : Reading × Bool → Note
-note_of x = record { line = x.0.text; is_refused = x.1 }
-
-abbrev pub notes : List (Reading × Bool) → List Note
-notes items = map note_of items
-
 -- the work of a seat
 abbrev pub work_of : Seat → List Note
-work_of s = notes s.work.items
+work_of s = s.work.notes
 
 -- the lines that its session asked, in a history and since then
 abbrev pub lines_in : List Entry → Seat → List (List ℕ)
@@ -40,21 +31,13 @@ IsToldIn first h s text = IsToldWith (start_of first) s.number h (work_of s) tex
 
 -- ---- the entries of a turn that brings work along
 
--- a line that a session asks, and what it did away from the room
-abbrev pub asked_kind : ℕ → List (Reading × Bool) → List ℕ → Kind
-asked_kind n items line = kind.Asked n (notes items) line
+-- a session asks a line
+abbrev pub asked_entry : List Entry → ℕ → List Note → List ℕ → Entry
+asked_entry h n work line = entry_of h n (kind.Asked n work line)
 
--- a session that leaves, and the same of it
-abbrev pub left_kind : ℕ → List (Reading × Bool) → Kind
-left_kind n items = kind.Left n (notes items)
-
--- a line is asked behind it
-abbrev pub asked_entry : List Entry → ℕ → List (Reading × Bool) → List ℕ → Entry
-asked_entry h n items line = entry_of h n (asked_kind n items line)
-
--- the session leaves behind it
-abbrev pub left_entry : List Entry → ℕ → List (Reading × Bool) → Entry
-left_entry h n items = entry_of h n (left_kind n items)
+-- it leaves
+abbrev pub left_entry : List Entry → ℕ → List Note → Entry
+left_entry h n work = entry_of h n (kind.Left n work)
 
 -- ---- what a lent session did
 

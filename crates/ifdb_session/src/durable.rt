@@ -62,7 +62,7 @@ pub struct Durable<'a, B: Naming, D: Disk> {
 
 impl<'a, B: Begins, D: Disk> Settles<Queue<B, D>> for Durable<'a, B, D> {
     ghost use Rattle.ifdb_session.specs.Durable.{GoesOn, HasShares, IsReady, KnowsFailed, KnowsOnDisk};
-    ghost use Rattle.ifdb_session.specs.Knowing.{knows_further, knows_itself, still_failed, still_on_disk};
+    ghost use Rattle.ifdb_session.specs.Knowing.{fewer_on_disk, knows_further, knows_itself, still_failed, still_on_disk};
 
     ghost ready = { IsReady };
 
@@ -101,6 +101,8 @@ impl<'a, B: Begins, D: Disk> Settles<Queue<B, D>> for Durable<'a, B, D> {
     ghost goes_further = { knows_further };
 
     ghost stays_kept = { still_on_disk };
+
+    ghost keeps_fewer = { fewer_on_disk };
 
     ghost stays_failed = { still_failed };
 }

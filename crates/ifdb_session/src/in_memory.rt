@@ -63,5 +63,7 @@ impl Settles<InMemory> for InMemory {
 
     ghost stays_kept = { λ _ _ _ _ _. tt };
 
+    ghost keeps_fewer = { λ _ _ _ _ _. tt };
+
     ghost stays_failed = { λ _ _ _ failed. failed };
 }

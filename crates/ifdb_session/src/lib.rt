@@ -13,6 +13,7 @@ mod seat;
 mod settles;
 mod shared;
 mod turns;
+mod work;
 
 pub use cleared::cleared_stay_inside;
 pub use counts::Counts;
@@ -22,6 +23,9 @@ pub use host::SessionHost;
 pub use in_memory::InMemory;
 pub use link::serve_link;
 pub use records::Records;
+pub use seat::Seat;
 pub use settles::Settles;
 pub use shared::SharedRoom;
 pub use std::alloc::AllocError as OutOfMemory;
+pub use turns::{Outcome, ask, leave, open};
+pub use work::Work;

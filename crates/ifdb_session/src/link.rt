@@ -6,16 +6,16 @@ ghost use Rattle.ifdb_turn.specs.Passes.{history, places, BelongsTo, IsOrderly, 
 ghost use Rattle.ifdb_wire.specs.Text.{reply_text};
 ghost use Rattle.ifdb_history.specs.History.{IsRight};
 ghost use Rattle.ifdb_session.specs.Starts.{start_of};
-ghost use Rattle.ifdb_session.specs.Passes.{Sees, Adds, Asks, TakesNoTurn};
+ghost use Rattle.ifdb_session.specs.Passes.{Sees, Adds, Asks};
 ghost use Rattle.ifdb_session.specs.Seats.{lines_in, IsSeated, IsToldIn};
 ghost use Rattle.ifdb_session.specs.Links.{Served};
-ghost use Rattle.ifdb_session.specs.Acknowledged.{AllButLastKept, AllKept, IsAcknowledged, IsKeptIf, IsSourced};
+ghost use Rattle.ifdb_session.specs.Acknowledged.{AllButLastKept, AllKept, IsAcknowledged, IsKeptIf};
 ghost use Rattle.ifdb_session.specs.Keepers.{StaysReady};
 ghost use Rattle.ifdb_session.specs.Standing.{root_of};
 ghost use Rattle.ifdb_session.specs.Talk.{IsTalked};
 
 use crate::seat::Seat;
-use crate::turns::{Outcome, ask_in_turn, leave, open};
+use crate::turns::{Outcome, ask, leave, open};
 use crate::{Ending, Records, Settles, SharedRoom};
 use ifdb_io::{Failed, Line, LineFault, LineReader, Link, write_all};
 use ifdb_turn::{Pass, Turnstile};
@@ -250,7 +250,7 @@ fn answer<R: Wait, K: Link, Q: Records, S: Settles<Q>>(
     ensures left { K.left link.new ≡ K.left link.old }
     ensures reads { K.Source.faults link.new ≡ K.Source.faults link.old }
 {
-    let Outcome { is_open, count } = ask(rt, hall, pass, seat, reader, out);
+    let Outcome { is_open, count } = ask(rt, hall, pass, seat, reader.text(), out);
     if let Err(Failed) = settle_if(rt, hall, pass, keeper, count) {
         return Answered {
             is_open,
@@ -289,33 +289,6 @@ fn settle_if<R: Wait, Q: Records, S: Settles<Q>>(
         None => Ok(()),
         Some(count) => keeper.settle(rt, hall, pass, count),
     }
-}
-
-// Asks the line that was read: of a lent session without a turn, where that can answer it, else in a turn of its own.
-fn ask<R: Wait, Q: Records>(
-    rt: &R,
-    hall: &Turnstile<SharedRoom<Q>>,
-    pass: &mut Pass<SharedRoom<Q>>,
-    seat: &mut Seat,
-    reader: &LineReader,
-    out: &mut Out,
-) -> Outcome
-    requires pass { BelongsTo hall.now pass.old }
-    requires orderly { IsOrderly (IsRight (start_of Q.first)) pass.old }
-    requires seated { IsSeated Q.first (history pass.old) (places pass.old) seat.old }
-    ensures asks { Asks Q.first hall.now reader.now.text out.new.text
-        pass.old pass.new seat.old seat.new result.is_open }
-    ensures sourced { IsSourced Q.first Q.count_of seat.old.number
-        (history pass.old) (history pass.new) result.count }
-    ensures alone { TakesNoTurn reader.now.text seat.old.lent pass.old pass.new }
-{
-    if seat.ask(reader, out) {
-        return Outcome {
-            is_open: true,
-            count: None,
-        };
-    }
-    ask_in_turn(rt, hall, pass, seat, reader, out)
 }
 
 // Tells a connection that its line is too long.

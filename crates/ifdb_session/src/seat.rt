@@ -4,54 +4,53 @@ ghost use Rattle.ifdb_wire.specs.Text.{IsUnbounded, memory_text, reply_text};
 ghost use Rattle.ifdb_db.specs.Lent.{IsLent};
 ghost use Rattle.ifdb_session.specs.Seats.{IsAskedAlone, IsAskedOf, IsLentIf, IsShownAs};
 
+use crate::work::Work;
 use ifdb_db::{Look, Session};
-use ifdb_history::GhostList;
-use ifdb_io::LineReader;
 use ifdb_wire::{Fault, Out, Reply};
 use std::alloc::Global;
 
 /// A session as its connection has it: in the room, or lent while its transaction goes on. Then lines take no turn, and contracts
 /// know what was asked since.
 #[derive(Drop)]
-pub(crate) struct Seat {
-    /// What lines are read with.
+pub struct Seat {
+    // What lines are read with.
     pub(crate) alloc: Global,
-    /// The session's number.
+    // The session's number.
     pub(crate) number: u64,
-    /// The session, if the room has lent it.
+    // The session, if the room has lent it.
     pub(crate) lent: Option<Session>,
-    /// The lines that it was asked since, each with the reader that had read it, and whether there was no memory for it.
-    pub(crate) work: GhostList<LineReader, bool>,
+    // The lines that it was asked since.
+    pub(crate) work: Work,
 }
 
 impl Seat {
     /// The seat of a session that is in the room, whose lines take their memory from `alloc`.
-    pub(crate) fn new(alloc: Global, number: u64) -> Seat
+    pub fn new(alloc: Global, number: u64) -> Seat
         ensures number { result.number ≡ number }
         ensures lent { result.lent ≡ None }
-        ensures work { result.work.items ≡ [] }
+        ensures work { result.work.notes ≡ [] }
     {
         Seat {
             alloc,
             number,
             lent: None,
-            work: GhostList::new(),
+            work: Work::new(),
         }
     }
 
     /// Asks a line of a lent session, without the room; the reply stands in `out`. False where the room is to be asked: the
     /// session isn't lent, or the line ends its transaction.
-    pub(crate) fn ask(&mut self, reader: &LineReader, out: &mut Out) -> bool
+    pub(crate) fn ask(&mut self, line: &[u8], out: &mut Out) -> bool
         requires lent { IsLentIf self.old.lent }
-        ensures { IsAskedAlone reader.now.text self.old self.new out.new.text result }
+        ensures { IsAskedAlone line.now self.old self.new out.new.text result }
     {
         let Some(session) = &mut self.lent else {
             return false;
         };
-        let Some(is_refused) = ask_lent(session, reader.text(), out) else {
+        let Some(is_refused) = ask_lent(session, line, out) else {
             return false;
         };
-        self.work = self.work.and(reader, &is_refused);
+        self.work = self.work.and(line, is_refused);
         true
     }
 }

@@ -1,5 +1,5 @@
 // What replies wait for.
-ghost use Rattle.std.specs.Prelude.{◌≡◌, ◌+◌, ℕ, OnErr, OnOk};
+ghost use Rattle.std.specs.Prelude.{◌≡◌, ◌≤◌, ◌+◌, ℕ, OnErr, OnOk};
 ghost use Rattle.ifdb_turn.specs.Passes.{places, BelongsTo, IsOrderly, NoForeignRoots};
 ghost use Rattle.ifdb_history.specs.History.{IsRight};
 ghost use Rattle.ifdb_session.specs.Starts.{start_of};
@@ -82,6 +82,9 @@ pub trait Settles<Q: Records> {
     /// What is kept stays known.
     ghost stays_kept: { (s t : Self) (n : ℕ) → goes_on s t → is_kept s n → is_kept t n };
 
-    /// So does that the disk has failed.
+    /// Where so many are kept, fewer are.
+    ghost keeps_fewer: { (s : Self) (m n : ℕ) → m ≤ n → is_kept s n → is_kept s m };
+
+    /// That the disk has failed stays known too.
     ghost stays_failed: { (s t : Self) → goes_on s t → has_failed s → has_failed t };
 }

@@ -1,32 +1,36 @@
-// One turn at the shared room each: a session is opened, asks a line, or leaves.
+// What a connection does with its session: it opens it, asks lines of it, and lets it leave, each in a turn at the shared room; a
+// lent session is asked most lines without one.
 ghost use Rattle.std.specs.Prelude.{◌≡◌, ℕ, List, true, IfOk, OnErr, Some};
-ghost use Rattle.ifdb_turn.specs.Passes.{history, places, BelongsTo};
+ghost use Rattle.ifdb_turn.specs.Passes.{history, places, BelongsTo, IsOrderly};
 ghost use Rattle.ifdb_turn.specs.Turns.{object_of, pass_of, IsTurn, Adds as AddsEntry};
 ghost use Rattle.ifdb_session.specs.Starts.{start_of};
 ghost use Rattle.ifdb_history.specs.History.{after, entry_of, opening_entry, IsRight, IsShut};
 ghost use Rattle.ifdb_history.specs.Lines.{lines_of, IsTold};
-ghost use Rattle.ifdb_history.specs.declared.entry.Kind.TheVariants.{Looked as LookedKind, Refused as RefusedKind};
+ghost use Rattle.ifdb_history.specs.declared.entry.Kind.TheVariants.{Asked as AskedKind, Left as LeftKind, Looked as LookedKind, Refused as RefusedKind};
 ghost use Rattle.ifdb_session.specs.Standing.{StandsForHistory, root_of};
 ghost use Rattle.ifdb_session.specs.Closings.{HasLeft};
 ghost use Rattle.ifdb_session.specs.Acknowledged.{IsSourced, sources_of};
+ghost use Rattle.ifdb_session.specs.Behind.{AnswersBehind};
 ghost use Rattle.ifdb_session.specs.Ends.{EndsBare, EndsOf, EndsWith};
-ghost use Rattle.ifdb_session.specs.Passes.{Sees, Adds, Asks, IsNew};
-ghost use Rattle.ifdb_session.specs.Seats.{asked_entry, asked_kind, left_entry, left_kind};
-ghost use Rattle.ifdb_session.specs.Seats.{lines_in, IsSeated, IsToldIn};
+ghost use Rattle.ifdb_session.specs.Passes.{Sees, Adds, Asks, IsNew, LeavesAll, LeavesOthers, TakesNoTurn};
+ghost use Rattle.ifdb_session.specs.Seats.{asked_entry, left_entry, lines_in, IsSeated, IsToldIn};
 
 use crate::seat::{Seat, show};
 use crate::shared::Asked;
+use crate::work::Work;
 use crate::{OutOfMemory, Records, SharedRoom};
 use ifdb_db::ReadLine;
-use ifdb_history::{Entry, GhostList};
-use ifdb_io::LineReader;
+use ifdb_history::Entry;
 use ifdb_turn::{NamedEntry, Object, Pass, Turn, Turnstile};
 use ifdb_wire::Out;
 use std::marker::Brand;
 use std::sync::Wait;
 
-/// Opens the next session, and says its number. `OutOfMemory` opens none.
-pub(crate) fn open<R: Wait, Q: Records>(
+/// Opens the next session, and says its number. Takes a turn.
+///
+/// # Errors
+/// `OutOfMemory` opens none.
+pub fn open<R: Wait, Q: Records>(
     rt: &R,
     hall: &Turnstile<SharedRoom<Q>>,
     pass: &mut Pass<SharedRoom<Q>>,
@@ -35,6 +39,7 @@ pub(crate) fn open<R: Wait, Q: Records>(
     ensures sees { Sees Q.first hall.now pass.old pass.new }
     ensures new { IfOk result (λ n. IsNew Q.first n pass.old pass.new) }
     ensures none { OnErr result (places pass.new ≡ places pass.old) }
+    ensures all { LeavesAll Q.first pass.old pass.new }
 {
     let mut turn = hall.enter(rt, pass);
     let Ok(n) = turn.object().open() else {
@@ -47,56 +52,57 @@ pub(crate) fn open<R: Wait, Q: Records>(
 
 /// What became of a line that was asked.
 #[derive(Clone, Copy, Debug, PartialEq, Eq)]
-pub(crate) struct Outcome {
+pub struct Outcome {
     /// Whether the session is open still.
-    pub(crate) is_open: bool,
+    pub is_open: bool,
     /// How many records of a journal were made up to the turn that answered the line, if one did.
-    pub(crate) count: Option<u64>,
+    pub count: Option<u64>,
 }
 
-/// Asks the line that a reader has taken, of a session that is open. The line is read before the turn, and a SELECT outside a
-/// transaction is answered after it. A lent session comes back, and its work with it. The reply stands in `out`: where there
-/// was no memory it is error 20.
-pub(crate) fn ask_in_turn<R: Wait, Q: Records>(
+// Asks a line of a session that is open, in a turn. The line is read before it, and a SELECT outside a transaction is answered
+// after it. A lent session comes back, and its work with it. The reply stands in `out`: where there was no memory it is error 20.
+fn ask_in_turn<R: Wait, Q: Records>(
     rt: &R,
     hall: &Turnstile<SharedRoom<Q>>,
     pass: &mut Pass<SharedRoom<Q>>,
     seat: &mut Seat,
-    reader: &LineReader,
+    line: &[u8],
     out: &mut Out,
 ) -> Outcome
     requires pass { BelongsTo hall.now pass.old }
     requires seated { IsSeated Q.first (history pass.old) (places pass.old) seat.old }
-    ensures asks { Asks Q.first hall.now reader.now.text out.new.text
+    ensures asks { Asks Q.first hall.now line.now out.new.text
         pass.old pass.new seat.old seat.new result.is_open }
+    ensures others { LeavesOthers Q.first seat.old.number pass.old pass.new }
     ensures sourced { IsSourced Q.first Q.count_of seat.old.number
         (history pass.old) (history pass.new) result.count }
+    ensures behind { AnswersBehind Q.first (history pass.old) (history pass.new) seat.old }
 {
     let n = seat.number;
-    let line = ReadLine::new(seat.alloc, reader.text());
+    let read = ReadLine::new(seat.alloc, line);
     let mut turn = hall.enter(rt, pass);
-    let line = match turn.object().look(n, &seat.lent, line) {
+    let read = match turn.object().look(n, &seat.lent, read) {
         Ok((look, count)) => {
-            done_looked::<Q, Brand>(turn, n, reader.text());
+            done_looked::<Q, Brand>(turn, n, line);
             show(look, out);
             return Outcome {
                 is_open: true,
                 count: Some(count),
             };
         }
-        Err(line) => line,
+        Err(read) => read,
     };
-    match turn.object().ask(n, &mut seat.lent, line, out) {
+    match turn.object().ask(n, &mut seat.lent, read, out) {
         Asked::Done { is_open, count } => {
-            done_asked::<Q, Brand>(turn, n, &seat.work, reader.text());
-            seat.work = GhostList::new();
+            done_asked::<Q, Brand>(turn, n, &seat.work, line);
+            seat.work = Work::new();
             Outcome {
                 is_open,
                 count: Some(count),
             }
         }
         Asked::Refused { count } => {
-            done_refused::<Q, Brand>(turn, n, reader.text());
+            done_refused::<Q, Brand>(turn, n, line);
             Outcome {
                 is_open: true,
                 count: Some(count),
@@ -104,7 +110,7 @@ pub(crate) fn ask_in_turn<R: Wait, Q: Records>(
         }
         Asked::Kept => {
             done_bare(turn);
-            seat.work = seat.work.and(reader, &true);
+            seat.work = seat.work.and(line, true);
             Outcome {
                 is_open: true,
                 count: None,
@@ -113,9 +119,39 @@ pub(crate) fn ask_in_turn<R: Wait, Q: Records>(
     }
 }
 
-/// The session of a seat leaves without BYE; a lent one comes back, and its transaction, if one is open, is over. Takes no
-/// memory.
-pub(crate) fn leave<R: Wait, Q: Records>(
+/// Asks a line of a session that is open: of a lent one without a turn, where that can answer it, else in a turn of its own. The
+/// reply stands in `out`: where there was no memory it is error 20.
+pub fn ask<R: Wait, Q: Records>(
+    rt: &R,
+    hall: &Turnstile<SharedRoom<Q>>,
+    pass: &mut Pass<SharedRoom<Q>>,
+    seat: &mut Seat,
+    line: &[u8],
+    out: &mut Out,
+) -> Outcome
+    requires pass { BelongsTo hall.now pass.old }
+    requires orderly { IsOrderly (IsRight (start_of Q.first)) pass.old }
+    requires seated { IsSeated Q.first (history pass.old) (places pass.old) seat.old }
+    ensures asks { Asks Q.first hall.now line.now out.new.text
+        pass.old pass.new seat.old seat.new result.is_open }
+    ensures others { LeavesOthers Q.first seat.old.number pass.old pass.new }
+    ensures sourced { IsSourced Q.first Q.count_of seat.old.number
+        (history pass.old) (history pass.new) result.count }
+    ensures behind { AnswersBehind Q.first (history pass.old) (history pass.new) seat.old }
+    ensures alone { TakesNoTurn line.now seat.old.lent pass.old pass.new }
+{
+    if seat.ask(line, out) {
+        return Outcome {
+            is_open: true,
+            count: None,
+        };
+    }
+    ask_in_turn(rt, hall, pass, seat, line, out)
+}
+
+/// The session of a seat, which is open, leaves without BYE; a lent one comes back, and its transaction, if one is open, is over.
+/// Takes a turn, and no memory.
+pub fn leave<R: Wait, Q: Records>(
     rt: &R,
     hall: &Turnstile<SharedRoom<Q>>,
     pass: &mut Pass<SharedRoom<Q>>,
@@ -125,10 +161,12 @@ pub(crate) fn leave<R: Wait, Q: Records>(
     requires seated { IsSeated Q.first (history pass.old) (places pass.old) seat }
     ensures sees { Sees Q.first hall.now pass.old pass.new }
     ensures adds { Adds seat.number pass.old pass.new }
+    ensures others { LeavesOthers Q.first seat.number pass.old pass.new }
     ensures over { IsShut (after (start_of Q.first) (history pass.new)) seat.number }
     ensures left { HasLeft seat.number (history pass.new) }
     ensures sourced { sources_of Q.first seat.number (history pass.new)
         ≡ sources_of Q.first seat.number (history pass.old) }
+    ensures behind { AnswersBehind Q.first (history pass.old) (history pass.new) seat }
     ensures lines { lines_of seat.number (history pass.new) ≡ lines_in (history pass.old) seat }
     ensures texts { (text : List ℕ) → IsToldIn Q.first (history pass.old) seat text
         → IsTold (start_of Q.first) seat.number (history pass.new) text }
@@ -167,13 +205,13 @@ fn done_opened<Q: Records, N: NamedEntry<Entry>>(turn: Turn<'_, SharedRoom<Q>>)
 fn done_asked<Q: Records, N: NamedEntry<Entry>>(
     turn: Turn<'_, SharedRoom<Q>>,
     n: u64,
-    work: &GhostList<LineReader, bool>,
+    work: &Work,
     line: &[u8],
 )
     requires turn { IsTurn turn }
-    requires entry { let e = asked_entry (history (pass_of turn)) n work.now.items line.now in
+    requires entry { let e = asked_entry (history (pass_of turn)) n work.now.notes line.now in
         (N.entry ≡ Some e) × AddsEntry (StandsForHistory Q.Records) (IsRight (start_of Q.first)) root_of turn e }
-    ensures { EndsOf Q.first turn.entry turn.exit.0.now n (asked_kind n work.now.items line.now) }
+    ensures { EndsOf Q.first turn.entry turn.exit.0.now n (AskedKind n work.now.notes line.now) }
 {
     turn.done::<N>();
 }
@@ -203,15 +241,11 @@ fn done_refused<Q: Records, N: NamedEntry<Entry>>(
 }
 
 // Ends a turn in which a session left, and brought its work along.
-fn done_left<Q: Records, N: NamedEntry<Entry>>(
-    turn: Turn<'_, SharedRoom<Q>>,
-    n: u64,
-    work: &GhostList<LineReader, bool>,
-)
+fn done_left<Q: Records, N: NamedEntry<Entry>>(turn: Turn<'_, SharedRoom<Q>>, n: u64, work: &Work)
     requires turn { IsTurn turn }
-    requires entry { let e = left_entry (history (pass_of turn)) n work.now.items in
+    requires entry { let e = left_entry (history (pass_of turn)) n work.now.notes in
         (N.entry ≡ Some e) × AddsEntry (StandsForHistory Q.Records) (IsRight (start_of Q.first)) root_of turn e }
-    ensures { EndsOf Q.first turn.entry turn.exit.0.now n (left_kind n work.now.items) }
+    ensures { EndsOf Q.first turn.entry turn.exit.0.now n (LeftKind n work.now.notes) }
 {
     turn.done::<N>();
 }

@@ -7,7 +7,7 @@ use Rattle.ifdb_session.specs.Seats.{asked_entry}
 use Rattle.ifdb_session.proofs.turns.ask_in_turn.Given as goal
 
 abbrev pub ghosts-done_asked : goal.ghosts-done_asked
-ghosts-done_asked g a = record { entry = Some (asked_entry (history (pass_of a.turn)) a.n a.work.now.items a.line.now) }
+ghosts-done_asked g a = record { entry = Some (asked_entry (history (pass_of a.turn)) a.n a.work.now.notes a.line.now) }
 
 abbrev pub ghosts-done_refused : goal.ghosts-done_refused
 ghosts-done_refused g a = record { entry = Some (entry_of (history (pass_of a.turn)) a.n (kind.Refused a.n a.line.now)) }

@@ -6,7 +6,7 @@ use Rattle.ifdb_history.specs.History.{root_in}
 use Rattle.ifdb_session.specs.declared.shared.SharedRoom.{SharedRoom}
 use Rattle.ifdb_session.specs.Standing.{StandsForHistory}
 use Rattle.ifdb_session.proofs.MayAdd.{seat_found, may_be_back, may_leave}
-use Rattle.ifdb_session.proofs.Turned.{ended_sees, ended_left_adds, ended_left_sourced, ended_left_lines, ended_left_texts, ended_left_over, ended_left_leaves}
+use Rattle.ifdb_session.proofs.Turned.{ended_alone, ended_sees, ended_left_adds, ended_left_sourced, ended_left_lines, ended_left_texts, ended_left_over, ended_left_leaves, left_behind}
 use Rattle.ifdb_session.proofs.turns.leave.Goals as goal
 
 pub leave-requires : goal.leave-requires
@@ -60,3 +60,13 @@ pub returns-clause-sourced : goal.returns-clause-sourced
 returns-clause-sourced g c =
     let e = c.enter-turn.ensures in
     let x = ended_left_sourced g.Q.Records.first c.args.hall.now c.args.pass.now _ _ _ c.done_left.ensures e.turnstile e.begins e.places e.shares c.args.seat c.requires.seated e.orderly.0 e.own refl in search rules
+
+pub returns-clause-others : goal.returns-clause-others
+returns-clause-others g c = λ m other holds.
+    let e = c.enter-turn.ensures in
+    let x = ended_alone g.Q.Records.first c.args.hall.now c.args.pass.now _ _ _ c.done_left.ensures e.turnstile e.begins e.places e.shares e.orderly.0 e.own m (λ same. other (sym same)) holds in search rules
+
+pub returns-clause-behind : goal.returns-clause-behind
+returns-clause-behind g c =
+    let e = c.enter-turn.ensures in
+    let x = left_behind g.Q.Records.first c.args.hall.now c.args.pass.now _ _ _ c.done_left.ensures e.turnstile e.begins e.places e.shares c.args.seat c.requires.seated e.orderly.0 e.own refl in search rules
