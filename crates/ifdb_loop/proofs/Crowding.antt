@@ -1,9 +1,10 @@
 -- One connection of a loop changes, and the others are served still.
 use Rattle.std.proofs.Common.{◌≡◌, ◌≢◌, ℕ, map, sym, ap, subst, ◌∙◌, arith, Bool, true, false, refl}
-use Rattle.std.specs.Prelude.{◌==◌, ◌⊎◌, List, [], ◌∷◌, length, IfSome, IsPermutation}
+use Rattle.std.specs.Prelude.{◌==◌, ◌⊎◌, ◌+◌, ◌<◌, ◌≤◌, List, [], ◌∷◌, length, nat_lt, IfSome, IsPermutation}
 use Rattle.std.specs.declared.option.Option.{Option}
 use Rattle.std.specs.declared.option.Option.TheVariants.{None, Some}
 use Rattle.std.proofs.lemmas.Bool.Decides.{nat_tests}
+use Rattle.std.proofs.lemmas.List.{get_or_past}
 use Rattle.slab.specs.Slab.{Slab, get, slab_len, Updates}
 use Rattle.slab.proofs.DrainLemmas.{length-values}
 use Rattle.ifdb_loop.specs.declared.port.Port as port
@@ -47,6 +48,26 @@ still_by old new k j (Other o) out none = out.others j o ∙ none
 -- what was empty is empty still, where something was taken out
 pub empty_still : {P T : Type 0} → (old new : Slab (Client P T)) (k j : ℕ) → Updates old new k None → get old j ≡ None → get new j ≡ None
 empty_still old new k j out none = still_by old new k j (same j k) out none
+
+gone_by : {P T : Type 0} → (old new : Slab (Client P T)) (k j : ℕ) → Same j k → get new k ≡ None → ((i : ℕ) → get old i ≡ None → get new i ≡ None)
+    → ((i : ℕ) → i < k → get old i ≡ None) → j < k + 1 → get new j ≡ None
+gone_by old new k j (Is e) here kept gone below = ap (get new) e ∙ here
+gone_by old new k j (Other o) here kept gone below = kept j (gone j (omega (arith, below, o)))
+
+-- one key more has nothing
+pub gone_on : {P T : Type 0} → (old new : Slab (Client P T)) (k : ℕ) → get new k ≡ None → ((i : ℕ) → get old i ≡ None → get new i ≡ None)
+    → ((i : ℕ) → i < k → get old i ≡ None) → (j : ℕ) → j < k + 1 → get new j ≡ None
+gone_on old new k here kept gone j below = gone_by old new k j (same j k) here kept gone below
+
+past_by : {P T : Type 0} → (clients : Slab (Client P T)) (n j : ℕ) (b : Bool) → nat_lt j n ≡ b → length clients.slots ≤ n
+    → ((i : ℕ) → i < n → get clients i ≡ None) → get clients j ≡ None
+past_by clients n j true lt size gone = gone j (grind (arith, nat_tests, lt))
+past_by clients n j false lt size gone = get_or_past clients.slots j None (grind (arith, nat_tests, lt, size))
+
+-- no key has anything, since none has below a number that no slot reaches
+pub all_gone : {P T : Type 0} → (clients : Slab (Client P T)) (n : ℕ) → length clients.slots ≤ n
+    → ((i : ℕ) → i < n → get clients i ≡ None) → (j : ℕ) → get clients j ≡ None
+all_gone clients n size gone j = past_by clients n j (nat_lt j n) refl size gone
 
 -- ---- the numbers of their sessions
 

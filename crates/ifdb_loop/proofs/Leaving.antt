@@ -56,10 +56,10 @@ module _ {S T P : Type 0} (services : service.Ghosts S T) (ports : port.Ghosts P
       })
 
   -- what a service knows to be over stays so, and so does that no more can be kept, or that the gate has failed
-  pub record Remembers (s t : S) (faults later : ℕ) : Type 0 where
+  pub record Remembers (s t : S) (before now : ℕ) : Type 0 where
     pub over : (n : ℕ) (d : Dialogue) → services.is_over s n d → services.is_over t n d
     pub failed : services.has_failed s → services.has_failed t
-    pub faults : 0 < faults → 0 < later
+    pub faults : 0 < before → 0 < now
 
   pub halted_later : (s t : S) (faults later : ℕ) (halt : Halt) → Remembers s t faults later → HasHalted services ports s faults halt → HasHalted services ports t later halt
   halted_later s t faults later halts.Gate m x = m.faults x

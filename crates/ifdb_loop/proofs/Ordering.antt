@@ -1,5 +1,5 @@
 -- What a connection that comes in or is given back does to the order of a loop.
-use Rattle.std.proofs.Common.{◌≡◌, ℕ, ◌+◌, ◌≤◌, List, [], ◌∷◌, ◌++◌, map, Bool, true, false, refl, sym, ap, subst, ◌∙◌, arith}
+use Rattle.std.proofs.Common.{◌≡◌, ℕ, ◌+◌, ◌≤◌, List, [], ◌∷◌, ◌++◌, map, cond, Bool, true, false, refl, sym, ap, subst, ◌∙◌, arith}
 use Rattle.std.specs.Prelude.{All, IfSome, option_map, count_by, nat_eq, IsPermutation}
 use Rattle.std.specs.declared.option.Option.{Option}
 use Rattle.std.specs.declared.option.Option.TheVariants.{None, Some}
@@ -31,14 +31,14 @@ opened_over : (gone ns ms all : List ℕ) (n : ℕ) → IsPermutation (gone ++ n
 opened_over gone ns ms all n before fewer =
     subst (λ l. IsPermutation l all) (sym (append_assoc gone (n ∷ []) ms)) (IsPermutation-trans _ _ _ (IsPermutation-append_right gone _ _ fewer) before)
 
-once_by : (m n count : ℕ) (b : Bool) → nat_eq m n ≡ b → count ≤ 1 → (m ≡ n → count ≡ 0) → count + (if b then 1 else 0) ≤ 1
+once_by : (m n count : ℕ) (b : Bool) → nat_eq m n ≡ b → count ≤ 1 → (m ≡ n → count ≡ 0) → count + cond b 1 0 ≤ 1
 once_by m n count true is most none = let zero = none (eqb-true m n is) in omega (arith, zero)
 once_by m n count false is most none = omega (arith, most)
 
 -- a number that wasn't there comes to others that were there once
 once_more : (all : List ℕ) (n : ℕ) → ((m : ℕ) → count_by (nat_eq m) all ≤ 1) → count_by (nat_eq n) all ≡ 0 → (m : ℕ) → count_by (nat_eq m) (all ++ n ∷ []) ≤ 1
 once_more all n once fresh m =
-    rw (sum_by_push (λ x. if nat_eq m x then 1 else 0) all n) (once_by m n (count_by (nat_eq m) all) (nat_eq m n) refl (once m) (λ e. rw e fresh))
+    rw (sum_by_push (λ x. cond (nat_eq m x) 1 0) all n) (once_by m n (count_by (nat_eq m) all) (nat_eq m n) refl (once m) (λ e. rw e fresh))
 
 -- ---- what was given back
 
