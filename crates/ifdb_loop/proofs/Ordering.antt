@@ -1,6 +1,6 @@
 -- What a connection that comes in or is given back does to the order of a loop.
 use Rattle.std.proofs.Common.{◌≡◌, ℕ, ◌+◌, ◌≤◌, List, [], ◌∷◌, ◌++◌, map, cond, Bool, true, false, refl, sym, ap, subst, ◌∙◌, arith}
-use Rattle.std.specs.Prelude.{All, IfSome, option_map, count_by, nat_eq, IsPermutation}
+use Rattle.std.specs.Prelude.{IfSome, option_map, count_by, nat_eq, IsPermutation}
 use Rattle.std.specs.declared.option.Option.{Option}
 use Rattle.std.specs.declared.option.Option.TheVariants.{None, Some}
 use Rattle.std.proofs.lemmas.Bool.{eqb-true}
@@ -11,7 +11,6 @@ use Rattle.std.proofs.lemmas.List.Sorted.{IsPermutation-sym, IsPermutation-trans
 use Rattle.ifdb_loop.specs.declared.gate.Gate as gate
 use Rattle.ifdb_loop.specs.declared.port.Port as port
 use Rattle.ifdb_loop.specs.declared.service.Service as service
-use Rattle.ifdb_loop.specs.declared.over.Over.{Over}
 use Rattle.ifdb_loop.specs.Visits.{Visit}
 use Rattle.ifdb_loop.specs.Standing.{WasServed}
 use Rattle.ifdb_loop.specs.Rounds.{IsInOrder}

@@ -1,5 +1,5 @@
 -- What a gate says and keeps.
-use Rattle.std.specs.Prelude.{◌≡◌, Bool, true, false}
+use Rattle.std.specs.Prelude.{Bool, true, false}
 use Rattle.ifdb_loop.specs.declared.gate.Arrivals.{Arrivals}
 use Rattle.ifdb_loop.specs.declared.gate.Arrivals.TheVariants as arrivals
 

@@ -1,4 +1,4 @@
-use Rattle.std.proofs.Common.{◌≡◌, ◌∷◌, ap, subst, sym}
+use Rattle.std.proofs.Common.{◌∷◌, ap, subst}
 use Rattle.std.specs.Prelude.{IsPermutation}
 use Rattle.slab.specs.Slab.{get}
 use Rattle.ifdb_loop.specs.Crowd.{numbers_in}

@@ -1,4 +1,4 @@
-use Rattle.std.proofs.Common.{◌≡◌, ◌≤◌, ◌<◌, ◌∙◌, length, refl, sym, subst, arith}
+use Rattle.std.proofs.Common.{◌≤◌, ◌∙◌, length, refl, arith}
 use Rattle.ifdb_loop.proofs.Crowding.{all_gone, gone_on, numbers_none}
 use Rattle.ifdb_loop.proofs.Leaving.{Remembers, halted_later}
 use Rattle.ifdb_loop.proofs.rounds.close.Goals as goal
@@ -44,5 +44,5 @@ loop-key-preserved g c =
 pub returns-clause-none : goal.returns-clause-none
 returns-clause-none g c =
     let i = c.loop-key.invariant in
-    let size : length c.loop-key.clients.slots ≤ c.loop-key.key = omega (arith, i.slots, c.capacity.ensures.slots, c.loop-key-test.false) in
+    let size : length c.loop-key.clients.slots ≤ c.loop-key.key = omega (arith, i.slots, c.capacity-key-end.ensures.slots, c.loop-key-test.false) in
     numbers_none g.S.Service c.loop-key.clients (all_gone c.loop-key.clients c.loop-key.key size i.gone)

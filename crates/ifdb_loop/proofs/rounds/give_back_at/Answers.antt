@@ -1,8 +1,7 @@
-use Rattle.std.proofs.Common.{◌≡◌, ◌∙◌, ◌∷◌, ◌<◌, None, length, refl, rules, arith}
+use Rattle.std.proofs.Common.{◌≡◌, ◌∷◌, None, length, refl, rules, arith}
 use Rattle.std.proofs.lemmas.List.Sorted.{length_permutation}
-use Rattle.ifdb_loop.specs.Crowd.{TakesOut, numbers_in}
-use Rattle.ifdb_loop.specs.Standing.{HasHalted}
-use Rattle.ifdb_loop.proofs.Leaving.{Remembers, halted_later}
+use Rattle.ifdb_loop.specs.Crowd.{numbers_in}
+use Rattle.ifdb_loop.proofs.Leaving.{Remembers}
 use Rattle.ifdb_loop.proofs.Ordering.{order_on, order_over}
 use Rattle.ifdb_loop.proofs.rounds.give_back_at.Goals as goal
 

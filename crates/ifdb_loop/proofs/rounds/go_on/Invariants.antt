@@ -4,8 +4,8 @@ use Rattle.ifdb_loop.specs.Rounds.{IsInOrder}
 use Rattle.ifdb_loop.proofs.rounds.go_on.Given as goal
 
 -- each connection is served, and each that was given back was
-abbrev pub invariant-loop : goal.invariant-loop
-invariant-loop g l = record {
+abbrev pub invariant-loop-arrivals : goal.invariant-loop-arrivals
+invariant-loop-arrivals g l = record {
   ready : g.S.Service.ready l.service;
   goes_on : g.S.Service.goes_on l.fn.service l.service;
   served : AreServed g.S.Service g.G.Port.Port l.service l.clients;
@@ -15,5 +15,5 @@ invariant-loop g l = record {
 }
 
 -- each wait leaves fewer
-abbrev pub decreases-loop : goal.decreases-loop
-decreases-loop g l = g.G.Gate.most l.gate
+abbrev pub decreases-loop-arrivals : goal.decreases-loop-arrivals
+decreases-loop-arrivals g l = g.G.Gate.most l.gate

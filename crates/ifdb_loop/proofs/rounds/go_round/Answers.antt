@@ -1,4 +1,4 @@
-use Rattle.std.proofs.Common.{◌≡◌, ◌∙◌, ◌<◌, refl, ap, length, arith}
+use Rattle.std.proofs.Common.{◌∙◌, refl, arith}
 use Rattle.ifdb_loop.proofs.Leaving.{Remembers}
 use Rattle.ifdb_loop.proofs.Ordering.{order_on}
 use Rattle.ifdb_loop.proofs.rounds.go_round.Goals as goal

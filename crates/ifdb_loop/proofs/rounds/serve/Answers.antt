@@ -1,10 +1,10 @@
-use Rattle.std.proofs.Common.{◌≡◌, ◌∙◌, Err, refl, sym, subst, arith}
+use Rattle.std.proofs.Common.{◌≡◌, ◌∙◌, Result, Err, sym, subst, arith}
 use Rattle.ifdb_loop.specs.declared.ending.Halt.{Halt}
 use Rattle.ifdb_loop.specs.declared.ending.Halt.TheVariants as halts
 use Rattle.ifdb_loop.specs.Standing.{HasHalted}
 use Rattle.ifdb_loop.proofs.rounds.serve.Goals as goal
 
-err_is : {A : Type 0} (halt other : Halt) → Err {T = A} halt ≡ Err other → halt ≡ other
+err_is : {A : Type 0} (halt other : Halt) → ◌≡◌ {A = Result A Halt} (Err halt) (Err other) → halt ≡ other
 err_is halt other e = grind (arith, e)
 
 pub go_on-requires-clause-served : goal.go_on-requires-clause-served
