@@ -6,3 +6,4 @@ mod Values
 mod Crowding
 mod Leaving
 mod Ordering
+pub mod Beginning

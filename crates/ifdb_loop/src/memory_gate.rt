@@ -61,6 +61,14 @@ impl MemoryGate {
         })
     }
 
+    // Whether no connection has come through it.
+    pub(crate) fn is_new(&self) -> bool
+        ensures out { result ≡ true → self.now.out ≡ 0 }
+        ensures back { result ≡ true → self.now.back.items ≡ [] }
+    {
+        self.out == 0 && self.back.is_empty()
+    }
+
     /// The connections that were given back, in order.
     pub fn back(&self) -> &[Over<MemoryPort>]
         ensures { result.now ≡ self.now.back.items }
