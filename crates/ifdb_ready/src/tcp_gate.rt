@@ -24,7 +24,7 @@ const ARRIVAL: usize = usize::MAX - 1;
 // How many events are taken at a time.
 const MANY: usize = 1024;
 
-/// A gate over the readiness that the system tells, through which the connections come that the first gate of its port puts into
+/// A gate over the readiness that the system tells, through which the connections come that the last gate of its port puts into
 /// its hand. It waits for a
 /// second at most, never comes to its end, and fails where the system's wait does, or after 2^64 - 1 waits. A connection that is
 /// given back ends so that its client gets what was written.
@@ -34,7 +34,7 @@ pub struct TcpGate<'a, R> {
     poll: Poll,
     events: Events,
     hand: Arc<Hand>,
-    // Who hands out the connections of the port, in the first of its gates.
+    // Who hands out the connections of the port, in the last of its gates.
     porter: Option<Porter>,
     lingering: Lingering,
     // Keys of connections whose client sends no more: once its last bytes are read, no event tells of the end.
@@ -42,7 +42,7 @@ pub struct TcpGate<'a, R> {
     // Whether the hand may hold more.
     has_new: bool,
     begun: Instant,
-    now: u64,
+    second: u64,
     // How many waits may still succeed.
     waits: u64,
     out: u64,
@@ -67,7 +67,7 @@ impl<'a, R: Net + Clock> TcpGate<'a, R> {
             closing: Vec::with_capacity(alloc, MANY)?,
             has_new: false,
             begun: Instant::now(rt)?,
-            now: 0,
+            second: 0,
             waits: u64::MAX,
             out: 0,
             failed: 0,
@@ -91,9 +91,9 @@ impl<'a, R: Net + Clock> TcpGate<'a, R> {
         ensures out { self.new.out ≡ self.old.out }
     {
         if let Ok(passed) = self.begun.elapsed(self.rt) {
-            self.now = passed.as_secs();
+            self.second = passed.as_secs();
         }
-        self.lingering.sweep(self.now);
+        self.lingering.sweep(self.second);
     }
 }
 
@@ -261,11 +261,12 @@ impl<'a, R: Net + Wait + Clock> Gate for TcpGate<'a, R> {
             return;
         }
         if let Some(stream) = over.port.sound_stream() {
-            self.lingering.add(self.poll.registry(), stream, self.now);
+            self.lingering
+                .add(self.poll.registry(), stream, self.second);
         }
     }
 
     fn seconds(&self) -> u64 {
-        self.now
+        self.second
     }
 }

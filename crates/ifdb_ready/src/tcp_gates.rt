@@ -13,7 +13,7 @@ use std::rt::Clock;
 use std::sync::Wait;
 
 /// A site whose gates stand at a port of this machine alone: it listens on 127.0.0.1, which no other machine reaches. The gates of one
-/// call share a listener, whose connections the first of them hands out, one gate after another, and which is closed with that
+/// call share a listener, whose connections the last of them hands out, one gate after another, and which is closed with that
 /// one. At port 0 the system picks a port that is free.
 ///
 /// `open` fails, and the count of the site's faults rises, where the port is taken or may not be listened at, or the system has no
@@ -41,7 +41,7 @@ impl<'a, R> TcpGates<'a, R> {
     }
 }
 
-impl<'a, R: Net + Wait + Clock> GateSite for TcpGates<'a, R> {
+impl<'a, R: Net + Wait + Clock + Sync> GateSite for TcpGates<'a, R> {
     ghost use Rattle.std.specs.Prelude.{None};
 
     type Gate = TcpGate<'a, R>;
@@ -68,14 +68,14 @@ impl<'a, R: Net + Wait + Clock> GateSite for TcpGates<'a, R> {
     fn close(&mut self, gates: Vec<TcpGate<'a, R>>)
         ensures asked { self.new.asked ≡ self.old.asked }
         ensures waiting { Stays {A = TcpGate R} None None }
-        ensures back { Becomes {A = TcpGate R} None None gates.items }
+        ensures back { Becomes {A = TcpGate R} None None gates.entry.items }
         ensures faults { self.new.failed ≡ self.old.failed }
     {
         let _ = gates;
     }
 }
 
-// So many gates, the first of which hands out the connections of a port.
+// So many gates, the last of which hands out the connections of a port.
 fn gates_at<'a, R: Net + Clock>(
     rt: &'a R,
     alloc: Global,
@@ -87,13 +87,17 @@ fn gates_at<'a, R: Net + Clock>(
 {
     let mut gates = Vec::with_capacity(alloc, loops)?;
     let mut hands = Vec::with_capacity(alloc, loops)?;
-    for _ in 0..loops {
+    if loops == 0 {
+        return Ok(gates);
+    }
+    for _ in 1..loops {
         let gate = TcpGate::new(rt, alloc)?;
         hands.push(gate.hand()?)?;
         gates.push(gate)?;
     }
-    if let Some(first) = gates.first_mut() {
-        first.listen(port, hands)?;
-    }
+    let mut last = TcpGate::new(rt, alloc)?;
+    hands.push(last.hand()?)?;
+    last.listen(port, hands)?;
+    gates.push(last)?;
     Ok(gates)
 }
