@@ -1,77 +1,57 @@
-// Loops in threads of their own, and the porter who hands them connections.
-use ifdb_loop::{Loop, Terms, nobody, serve};
-use ifdb_ready::{Porter, TcpGate, TcpPort};
+// Loops in threads of their own, over gates of one port.
+use ifdb_loop::{GateSite, Loop, Terms, serve};
+use ifdb_ready::{TcpGate, TcpGates};
 use std::alloc::Global;
 use std::net::{Net, TcpListener, TcpStream};
 use std::rt::Clock;
 use std::sync::Wait;
+use std::thread;
 use std::thread::Threads;
-use std::{io, thread};
 use test_loop::Echo;
 
-// It serves the connections that are handed to it.
+// A loop, and the gate through which its connections come.
 #[derive(Drop)]
 struct Served<'a, R> {
-    echo: Echo,
     gate: TcpGate<'a, R>,
     looping: Loop,
 }
 
-// What one thread does.
-#[derive(Drop)]
-enum Worker<'a, R> {
-    Porter(Porter),
-    Loop(Served<'a, R>),
-}
-
-// The rounds of a loop.
+// The rounds of a loop, if no connection is out yet.
 fn go_round<R: Net + Wait + Clock>(alloc: Global, one: &mut Served<'_, R>) {
-    let mut clients = nobody::<TcpPort, Echo>(alloc);
-    let _ = serve(
-        &mut one.gate,
-        &mut one.echo,
-        &mut one.looping,
-        &mut clients,
-        u64::MAX,
-    );
-}
-
-// A worker's work.
-fn work<R: Net + Wait + Clock>(rt: &R, alloc: Global, worker: &mut Worker<'_, R>) {
-    match worker {
-        Worker::Porter(porter) => {
-            let _ = porter.serve(rt, u64::MAX);
-        }
-        Worker::Loop(one) => go_round(alloc, one),
+    let mut echo = Echo::new(alloc, 0);
+    if one.gate.out() == 0 {
+        let _ = serve(&mut one.gate, &mut echo, &mut one.looping);
     }
 }
 
 /// Serves this port by so many loops.
-pub fn serve_port<R>(rt: &R, alloc: Global, port: u16, count: usize, terms: Terms) -> io::Result<()>
+pub fn serve_port<R>(
+    rt: &R,
+    alloc: Global,
+    port: u16,
+    count: usize,
+    terms: Terms,
+) -> anyhow::Result<()>
 where
     R: Net<Listener = TcpListener, Stream = TcpStream> + Threads + Wait + Clock + Sync,
 {
-    let mut hands = Vec::with_capacity(alloc, count)?;
-    let mut workers = Vec::with_capacity(alloc, count)?;
-    for _ in 0..count {
-        let gate = TcpGate::new(rt, alloc)?;
-        hands.push(gate.hand()?)?;
-        workers.push(Worker::Loop(Served {
-            echo: Echo::new(alloc, 0),
+    let mut site = TcpGates::new(rt, alloc);
+    let mut loops = Vec::with_capacity(alloc, count)?;
+    for gate in site.open(port, count)? {
+        loops.push(Served {
             gate,
             looping: Loop::new(alloc, terms)?,
-        }))?;
+        })?;
     }
-    workers.push(Worker::Porter(Porter::new(rt, alloc, port, hands)?))?;
-    let count = workers.len();
+    let count = loops.len();
     if count == 0 {
         return Ok(());
     }
     thread::for_each_mut(
         rt,
-        &mut workers,
+        &mut loops,
         count,
-        &|_, worker: &mut Worker<'_, R>| work(rt, alloc, worker),
+        &|_, one: &mut Served<'_, R>| { go_round(alloc, one) },
     );
     Ok(())
 }

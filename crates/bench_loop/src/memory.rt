@@ -1,5 +1,5 @@
 // A few connections in memory.
-use ifdb_loop::{Coming, Loop, MemoryGate, MemoryPort, Step, Terms, nobody, serve};
+use ifdb_loop::{Coming, Loop, MemoryGate, Step, Terms, serve};
 use std::alloc::{AllocError, Global};
 use test_loop::Echo;
 
@@ -35,24 +35,23 @@ fn coming(alloc: Global, text: &str, read: usize, write: usize) -> Result<Coming
     Ok(one)
 }
 
-// The gate after some rounds.
+// The gate once all of them are over.
 fn served(alloc: Global) -> Result<MemoryGate, AllocError> {
     let mut all = Vec::new(alloc);
     for (text, read, write) in COMING {
         all.push(coming(alloc, text, read, write)?)?;
     }
-    let mut gate = MemoryGate::new(alloc, all);
+    let mut gate = MemoryGate::new(alloc, all, 100)?;
     let mut echo = Echo::new(alloc, 0);
     let mut looping = Loop::new(alloc, TERMS)?;
-    let mut clients = nobody::<MemoryPort, Echo>(alloc);
-    let _ = serve(&mut gate, &mut echo, &mut looping, &mut clients, 100);
+    let _ = serve(&mut gate, &mut echo, &mut looping);
     Ok(gate)
 }
 
 /// Serves them, and prints how each ended and how many bytes it was told.
 pub fn show<R: Print>(rt: &R, alloc: Global) -> anyhow::Result<()> {
     let gate = served(alloc)?;
-    for over in &gate.back {
+    for over in gate.back() {
         let told = over.port.written().len();
         println!(rt; "{}: {told} bytes", over.ending)?;
     }

@@ -2,5 +2,8 @@ mod Ranges
 mod Sending
 mod Talking
 mod Endings
+mod Values
 mod Crowding
 mod Leaving
+mod Ordering
+pub mod Beginning

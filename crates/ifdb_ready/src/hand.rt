@@ -6,9 +6,9 @@ use std::alloc::Global;
 use std::io;
 use std::sync::Wait;
 
-/// Where the connections of one loop are put, by another thread.
+// Where the connections of one loop are put, by another thread.
 #[derive(Drop)]
-pub struct Hand {
+pub(crate) struct Hand {
     queue: SegQueue<TcpStream>,
     waker: Waker,
 }
@@ -22,8 +22,8 @@ impl Hand {
         })
     }
 
-    /// Puts a connection in, and wakes the loop. Without memory for that the connection is closed.
-    pub fn give<R: Wait>(&self, rt: &R, stream: TcpStream) {
+    // Puts a connection in, and wakes the loop. Without memory for that the connection is closed.
+    pub(crate) fn give<R: Wait>(&self, rt: &R, stream: TcpStream) {
         if self.queue.push(rt, stream).is_ok() {
             let _ = self.waker.wake();
         }

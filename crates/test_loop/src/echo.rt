@@ -1,5 +1,6 @@
 // A service that says each line back.
-ghost use Rattle.std.specs.Prelude.{◌≡◌};
+ghost use Rattle.std.specs.Prelude.{◌≡◌, []};
+ghost use Rattle.test_loop.specs.Numbers.{numbers_below};
 
 use ifdb_io::{Failed, OutOfMemory};
 use ifdb_loop::Service;
@@ -26,7 +27,9 @@ pub struct Echo {
 
 impl Echo {
     /// No session was opened yet. The settling of this number fails, from 1 on; at 0 none does.
-    pub fn new(alloc: Global, fails_at: u64) -> Echo {
+    pub fn new(alloc: Global, fails_at: u64) -> Echo
+        ensures { numbers_below result.opened ≡ [] }
+    {
         Echo {
             opened: 0,
             settled: 0,
@@ -58,6 +61,7 @@ fn asked_for(line: &[u8]) -> Option<usize> {
 
 impl Service for Echo {
     ghost use Rattle.std.specs.Prelude.{◌<◌, ◌∷◌, [], if◌then◌else◌};
+    ghost use Rattle.test_loop.specs.Numbers.{numbers_below};
 
     type Seat = u64;
 
@@ -70,6 +74,8 @@ impl Service for Echo {
     ghost says = { λ echo seat d. seat < echo.opened };
 
     ghost is_over = { λ _ _ _. Unit {0} };
+
+    ghost opened = { λ echo. numbers_below echo.opened };
 
     ghost is_kept = { λ _. Unit {0} };
 
@@ -87,19 +93,15 @@ impl Service for Echo {
         Ok(self.opened - 1)
     }
 
-    fn ask(&mut self, _seat: &mut u64, line: &[u8]) -> bool {
+    fn ask(&mut self, _seat: &mut u64, line: &[u8]) -> Result<bool, OutOfMemory> {
         self.is_long = false;
         self.out.clear();
         match asked_for(line) {
-            Some(count) => {
-                let _ = self.out.resize(count, b'x');
-            }
-            None => {
-                let _ = self.out.extend_from_slice(line);
-            }
+            Some(count) => self.out.resize(count, b'x')?,
+            None => self.out.extend_from_slice(line)?,
         }
-        let _ = self.out.push(b'\n');
-        line != b"BYE".as_slice()
+        self.out.push(b'\n')?;
+        Ok(line != b"BYE".as_slice())
     }
 
     fn refuse_long(&mut self) {

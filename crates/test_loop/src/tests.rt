@@ -1,6 +1,6 @@
 // What no clause says: that a loop gets on, whatever the pieces, the waits and the faults.
 use crate::Echo;
-use ifdb_loop::{Coming, Ending, Loop, MemoryGate, MemoryPort, Step, Terms, close, nobody, serve};
+use ifdb_loop::{Coming, Ending, Halt, Loop, MemoryGate, Step, Terms, serve};
 use std::alloc::Global;
 use std::test::Fail;
 
@@ -12,22 +12,31 @@ const TERMS: Terms = Terms {
     stall: 100,
 };
 
-// A gate after so many rounds, and how many sessions have left. The settling of this number fails.
+// A loop that was run: its gate, how many sessions have left, and how it ended.
+#[derive(Drop)]
+struct Ran {
+    gate: MemoryGate,
+    left: u64,
+    end: Result<(), Halt>,
+}
+
+// A loop whose gate fails after so many waits, and where the settling of this number fails.
 fn run(
     alloc: Global,
     terms: Terms,
     coming: Vec<Coming>,
-    rounds: u64,
+    waits: u64,
     fails_at: u64,
-) -> Result<(MemoryGate, u64), Fail> {
-    let mut gate = MemoryGate::new(alloc, coming);
+) -> Result<Ran, Fail> {
+    let mut gate = MemoryGate::new(alloc, coming, waits)?;
     let mut echo = Echo::new(alloc, fails_at);
     let mut looping = Loop::new(alloc, terms)?;
-    let mut clients = nobody::<MemoryPort, Echo>(alloc);
-    if serve(&mut gate, &mut echo, &mut looping, &mut clients, rounds).is_err() {
-        close(&mut gate, &mut echo, &mut clients);
-    }
-    Ok((gate, echo.left))
+    let end = serve(&mut gate, &mut echo, &mut looping);
+    Ok(Ran {
+        gate,
+        left: echo.left,
+        end,
+    })
 }
 
 // A connection that gives this, whose first calls go by these steps.
@@ -45,7 +54,7 @@ fn coming(alloc: Global, text: &[u8], reads: &[Step], writes: &[Step]) -> Result
 
 // What the connection of this number was told that was given back, and how it ended.
 fn told(gate: &MemoryGate, number: usize) -> Option<(&[u8], Ending)> {
-    let over = gate.back.get(number)?;
+    let over = gate.back().get(number)?;
     Some((over.port.written(), over.ending))
 }
 
@@ -59,8 +68,7 @@ fn alone(
 ) -> Result<MemoryGate, Fail> {
     let mut all = Vec::new(alloc);
     all.push(coming(alloc, text, reads, writes)?)?;
-    let (gate, _) = run(alloc, terms, all, 60, 0)?;
-    Ok(gate)
+    Ok(run(alloc, terms, all, 100, 0)?.gate)
 }
 
 #[test]
@@ -99,11 +107,12 @@ fn each_gets_its_own(rt: HostRuntime) -> Result<(), Fail> {
     all.push(coming(alloc, b"third\n", &[Step::Wait, Step::Wait], &[])?)?;
     all.push(coming(alloc, b"second\nhalf", &[Step::Wait], &[])?)?;
     all.push(coming(alloc, b"first\nBYE\n", &[], &[])?)?;
-    let (gate, left) = run(alloc, TERMS, all, 10, 0)?;
-    assert!(rt; told(&gate, 0) == Some((b"first\nBYE\n".as_slice(), Ending::Bye)));
-    assert!(rt; told(&gate, 1) == Some((b"second\n".as_slice(), Ending::End)));
-    assert!(rt; told(&gate, 2) == Some((b"third\n".as_slice(), Ending::End)));
-    assert_eq!(rt; left, 3);
+    let ran = run(alloc, TERMS, all, 10, 0)?;
+    assert!(rt; told(&ran.gate, 0) == Some((b"first\nBYE\n".as_slice(), Ending::Bye)));
+    assert!(rt; told(&ran.gate, 1) == Some((b"second\n".as_slice(), Ending::End)));
+    assert!(rt; told(&ran.gate, 2) == Some((b"third\n".as_slice(), Ending::End)));
+    assert_eq!(rt; ran.left, 3);
+    assert!(rt; ran.end == Ok(()));
     Ok(())
 }
 
@@ -117,7 +126,7 @@ fn a_fault_ends_its_connection_alone(rt: HostRuntime) -> Result<(), Fail> {
     all.push(coming(alloc, b"asked\nlost\n", &reads, &writes)?)?;
     let reads = [Step::Piece(5), Step::Fail];
     all.push(coming(alloc, b"read\nlost\n", &reads, &[])?)?;
-    let (gate, _) = run(alloc, TERMS, all, 10, 0)?;
+    let gate = run(alloc, TERMS, all, 10, 0)?.gate;
     assert!(rt; told(&gate, 0) == Some((b"ask".as_slice(), Ending::LinkWrite)));
     assert!(rt; told(&gate, 1) == Some((b"read\n".as_slice(), Ending::LinkRead)));
     assert!(rt; told(&gate, 2) == Some((b"kept\nBYE\n".as_slice(), Ending::Bye)));
@@ -145,10 +154,12 @@ fn nothing_is_written_that_is_not_kept(rt: HostRuntime) -> Result<(), Fail> {
     let mut all = Vec::new(alloc);
     all.push(coming(alloc, b"a\nBYE\n", &[], &[])?)?;
     all.push(coming(alloc, b"b\n", &[Step::Piece(2), Step::Wait], &[])?)?;
-    let (gate, left) = run(alloc, TERMS, all, 10, 2)?;
-    assert!(rt; told(&gate, 0) == Some((b"".as_slice(), Ending::Unkept)));
-    assert!(rt; told(&gate, 1) == Some((b"".as_slice(), Ending::Bye)));
-    assert_eq!(rt; left, 2);
+    let ran = run(alloc, TERMS, all, 10, 2)?;
+    let unkept = Ending::Halted(Halt::Unkept);
+    assert!(rt; told(&ran.gate, 0) == Some((b"".as_slice(), unkept)));
+    assert!(rt; told(&ran.gate, 1) == Some((b"".as_slice(), Ending::Bye)));
+    assert_eq!(rt; ran.left, 2);
+    assert!(rt; ran.end == Err(Halt::Unkept));
     Ok(())
 }
 
@@ -184,9 +195,11 @@ fn many_lines_of_one_wait_for_one_of_another(rt: HostRuntime) -> Result<(), Fail
     let mut all = Vec::new(alloc);
     all.push(coming(alloc, b"BYE\n", &[], &[])?)?;
     all.push(coming(alloc, &many, &[], &[])?)?;
-    let (gate, _) = run(alloc, TERMS, all, 3, 0)?;
-    assert!(rt; told(&gate, 0) == Some((b"BYE\n".as_slice(), Ending::Bye)));
-    assert_eq!(rt; gate.back.len(), 1);
+    let ran = run(alloc, TERMS, all, 3, 0)?;
+    let halted = Ending::Halted(Halt::Gate);
+    assert!(rt; told(&ran.gate, 0) == Some((b"BYE\n".as_slice(), Ending::Bye)));
+    assert!(rt; told(&ran.gate, 1) == Some((&many[..256], halted)));
+    assert!(rt; ran.end == Err(Halt::Gate));
     Ok(())
 }
 
@@ -218,8 +231,8 @@ fn those_past_the_most_are_refused(rt: HostRuntime) -> Result<(), Fail> {
         connections: 2,
         ..TERMS
     };
-    let (gate, _) = run(alloc, terms, all, 5, 0)?;
-    assert_eq!(rt; gate.back.len(), 2);
+    let gate = run(alloc, terms, all, 5, 0)?.gate;
+    assert_eq!(rt; gate.back().len(), 2);
     assert_eq!(rt; gate.refused, 1);
     Ok(())
 }

@@ -1,6 +1,5 @@
-use Rattle.std.proofs.Common.{◌<◌, List, length, arith, subst}
+use Rattle.ifdb_loop.proofs.Beginning.{order_first}
 use Rattle.test_loop.proofs.tests.run.Goals as goal
 
-pub serve-requires-clause-back : goal.serve-requires-clause-back
-serve-requires-clause-back c = λ o back.
-    let few = subst (λ (overs : List _). back.0 < length overs) c.new-gate.ensures back.1 in absurd (omega (arith, few))
+pub serve-requires-clause-order : goal.serve-requires-clause-order
+serve-requires-clause-order c = order_first _ _ _ _ _ c.new-echo.ensures c.in_ok-gate.ensures.back
