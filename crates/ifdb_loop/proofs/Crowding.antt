@@ -1,18 +1,21 @@
 -- One connection of a loop changes, and the others are served still.
-use Rattle.std.proofs.Common.{◌≡◌, ◌≢◌, ℕ, sym, ap, subst, ◌∙◌, arith, Bool, true, false, refl}
-use Rattle.std.specs.Prelude.{◌==◌, ◌⊎◌, [], IfSome}
+use Rattle.std.proofs.Common.{◌≡◌, ◌≢◌, ℕ, map, sym, ap, subst, ◌∙◌, arith, Bool, true, false, refl}
+use Rattle.std.specs.Prelude.{◌==◌, ◌⊎◌, ◌+◌, ◌<◌, ◌≤◌, List, [], ◌∷◌, length, nat_lt, IfSome, IsPermutation}
 use Rattle.std.specs.declared.option.Option.{Option}
 use Rattle.std.specs.declared.option.Option.TheVariants.{None, Some}
 use Rattle.std.proofs.lemmas.Bool.Decides.{nat_tests}
-use Rattle.slab.specs.Slab.{Slab, get, Updates}
+use Rattle.std.proofs.lemmas.List.{get_or_past}
+use Rattle.slab.specs.Slab.{Slab, get, slab_len, Updates}
+use Rattle.slab.proofs.DrainLemmas.{length-values}
 use Rattle.ifdb_loop.specs.declared.port.Port as port
 use Rattle.ifdb_loop.specs.declared.service.Service as service
 use Rattle.ifdb_loop.specs.declared.client.Client.{Client}
 use Rattle.ifdb_loop.specs.declared.ending.Ending.{Ending}
 use Rattle.ifdb_loop.specs.Dialogues.{Dialogue}
 use Rattle.ifdb_loop.specs.Standing.{IsServed, KeepsOthers}
-use Rattle.ifdb_loop.specs.Crowd.{AreServed, HasEndedAt}
+use Rattle.ifdb_loop.specs.Crowd.{AreServed, HasEndedAt, numbers_in}
 use Rattle.ifdb_loop.proofs.Endings.{none_some, some_is}
+use Rattle.ifdb_loop.proofs.Values.{seen, values_more, values_none, values_same}
 
 -- the same key, or another
 data Same (j k : ℕ) : Type 0 where
@@ -38,6 +41,77 @@ pub ended_is : {P T : Type 0} → (clients : Slab (Client P T)) (k : ℕ) (c : C
 ended_is {P} {T} clients k c ending was x =
     subst (λ (d : Client P T). (d.ending ≡ Some ending) × ((d.wires.owed ≡ []) ⊎ (d.is_lost ≡ true))) (some_is x.0 c (sym x.1 ∙ was)) (x.2, x.3)
 
+still_by : {P T : Type 0} → (old new : Slab (Client P T)) (k j : ℕ) → Same j k → Updates old new k None → get old j ≡ None → get new j ≡ None
+still_by old new k j (Is e) out none = ap (get new) e ∙ out.changed
+still_by old new k j (Other o) out none = out.others j o ∙ none
+
+-- what was empty is empty still, where something was taken out
+pub empty_still : {P T : Type 0} → (old new : Slab (Client P T)) (k j : ℕ) → Updates old new k None → get old j ≡ None → get new j ≡ None
+empty_still old new k j out none = still_by old new k j (same j k) out none
+
+gone_by : {P T : Type 0} → (old new : Slab (Client P T)) (k j : ℕ) → Same j k → get new k ≡ None → ((i : ℕ) → get old i ≡ None → get new i ≡ None)
+    → ((i : ℕ) → i < k → get old i ≡ None) → j < k + 1 → get new j ≡ None
+gone_by old new k j (Is e) here kept gone below = ap (get new) e ∙ here
+gone_by old new k j (Other o) here kept gone below = kept j (gone j (omega (arith, below, o)))
+
+-- one key more has nothing
+pub gone_on : {P T : Type 0} → (old new : Slab (Client P T)) (k : ℕ) → get new k ≡ None → ((i : ℕ) → get old i ≡ None → get new i ≡ None)
+    → ((i : ℕ) → i < k → get old i ≡ None) → (j : ℕ) → j < k + 1 → get new j ≡ None
+gone_on old new k here kept gone j below = gone_by old new k j (same j k) here kept gone below
+
+past_by : {P T : Type 0} → (clients : Slab (Client P T)) (n j : ℕ) (b : Bool) → nat_lt j n ≡ b → length clients.slots ≤ n
+    → ((i : ℕ) → i < n → get clients i ≡ None) → get clients j ≡ None
+past_by clients n j true lt size gone = gone j (grind (arith, nat_tests, lt))
+past_by clients n j false lt size gone = get_or_past clients.slots j None (grind (arith, nat_tests, lt, size))
+
+-- no key has anything, since none has below a number that no slot reaches
+pub all_gone : {P T : Type 0} → (clients : Slab (Client P T)) (n : ℕ) → length clients.slots ≤ n
+    → ((i : ℕ) → i < n → get clients i ≡ None) → (j : ℕ) → get clients j ≡ None
+all_gone clients n size gone j = past_by clients n j (nat_lt j n) refl size gone
+
+-- ---- the numbers of their sessions
+
+module _ {S T P : Type 0} (services : service.Ghosts S T) where
+  abbrev number_of : Client P T → ℕ
+  number_of c = services.number c.seat
+
+  -- one more came in
+  pub numbers_more : (old new : Slab (Client P T)) (k : ℕ) (d : Client P T) → get old k ≡ None → Updates old new k (Some d)
+      → IsPermutation (services.number d.seat ∷ numbers_in services old) (numbers_in services new)
+  numbers_more old new k d none came = values_more number_of k d old.slots new.slots none came.changed came.others
+
+  -- one was taken out
+  pub numbers_fewer : (old new : Slab (Client P T)) (k : ℕ) (c : Client P T) → get old k ≡ Some c → Updates old new k None
+      → IsPermutation (services.number c.seat ∷ numbers_in services new) (numbers_in services old)
+  numbers_fewer old new k c was out = values_more number_of k c new.slots old.slots out.changed was (λ j o. sym (out.others j o))
+
+  -- each slot has what it had
+  pub numbers_same : (old new : Slab (Client P T)) → ((j : ℕ) → get new j ≡ get old j) → numbers_in services new ≡ numbers_in services old
+  numbers_same old new kept = values_same number_of old.slots new.slots (λ j. ap (seen number_of) (kept j))
+
+  changed_by : (old mid new : Slab (Client P T)) (k : ℕ) (c d : Client P T) → get old k ≡ Some c → Updates old mid k None → Updates mid new k (Some d)
+      → services.number d.seat ≡ services.number c.seat → (j : ℕ) → Same j k → seen number_of (get new j) ≡ seen number_of (get old j)
+  changed_by old mid new k c d was out back number j (Is e) =
+      ap (λ i. seen number_of (get new i)) e ∙ (ap (seen number_of) back.changed ∙ (ap Some number ∙ (sym (ap (seen number_of) was) ∙ ap (λ i. seen number_of (get old i)) (sym e))))
+  changed_by old mid new k c d was out back number j (Other o) = ap (seen number_of) (back.others j o ∙ out.others j o)
+
+  -- one was taken out and came back, with the same session
+  pub numbers_changed : (old mid new : Slab (Client P T)) (k : ℕ) (c d : Client P T) → get old k ≡ Some c → Updates old mid k None → Updates mid new k (Some d)
+      → services.number d.seat ≡ services.number c.seat → numbers_in services new ≡ numbers_in services old
+  numbers_changed old mid new k c d was out back number =
+      values_same number_of old.slots new.slots (λ j. changed_by old mid new k c d was out back number j (same j k))
+
+  -- there is none
+  pub numbers_none : (clients : Slab (Client P T)) → ((j : ℕ) → get clients j ≡ None) → numbers_in services clients ≡ []
+  numbers_none clients none = ap (map number_of) (values_none clients.slots none)
+
+  nil_by : (xs : List (Client P T)) → length xs ≡ 0 → map number_of xs ≡ []
+  nil_by [] none = refl
+  nil_by (x ∷ xs) none = absurd (omega (arith, none))
+
+  pub numbers_empty : (clients : Slab (Client P T)) → slab_len clients ≡ 0 → numbers_in services clients ≡ []
+  numbers_empty clients none = nil_by _ (sym (length-values clients.slots) ∙ none)
+
 module _ {S T P : Type 0} (services : service.Ghosts S T) (ports : port.Ghosts P) where
   -- one connection of a loop was taken out and came back, and sessions of other numbers are as they were
   record Changes (s t : S) (old new : Slab (Client P T)) (k : ℕ) (c d : Client P T) : Type 0 where
@@ -58,7 +132,7 @@ module _ {S T P : Type 0} (services : service.Ghosts S T) (ports : port.Ghosts P
 
   -- what the service says of a connection's session it says still
   says_on : (s t : S) (c : Client P T) → ((d : Dialogue) → services.says s c.seat d → services.says t c.seat d) → IsServed services ports s c → IsServed services ports t c
-  says_on s t c says x = ((x.0.0, says x.0.0 x.0.1, x.0.2), x.1)
+  says_on s t c says x = ((x.0.0, says x.0.0 x.0.1, x.0.2), x.1, x.2)
 
   each_by : (s t : S) (old new : Slab (Client P T)) (k : ℕ) (c d : Client P T) → Changes s t old new k c d
       → (j : ℕ) (x : Client P T) → Same j k → get new j ≡ Some x → IsServed services ports t x

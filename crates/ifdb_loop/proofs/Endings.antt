@@ -7,13 +7,14 @@ use Rattle.std.proofs.lemmas.List.{append-nil, length-append}
 use Rattle.std.specs.Io.KnownBytes.{append_known, IsAtEnd}
 use Rattle.ifdb_io.specs.Lines.{IsLine}
 use Rattle.ifdb_io.specs.Reader.{BreaksAt}
+use Rattle.ifdb_loop.specs.declared.ending.Halt.{Halt}
 use Rattle.ifdb_loop.specs.declared.ending.Ending.{Ending}
 use Rattle.ifdb_loop.specs.declared.ending.Ending.TheVariants as ends
 use Rattle.ifdb_loop.specs.Moves.{Sends}
 use Rattle.ifdb_loop.specs.Traffic.{Traffic}
 use Rattle.ifdb_loop.specs.Dialogues.{Dialogue, settled, silence, with_answer}
 use Rattle.ifdb_loop.specs.Exchange.{IsExchanged, IsTooLong}
-use Rattle.ifdb_loop.specs.Closings.{Carries, Exchanges, HasReadCause, HasWriteCause, KeepsLimit, WroteKept}
+use Rattle.ifdb_loop.specs.Closings.{Carries, EndsItself, Exchanges, HasReadCause, HasWriteCause, KeepsLimit, WroteKept}
 use Rattle.ifdb_loop.proofs.Talking.{exchanged_asked, exchanged_owes, exchanged_sent, exchanged_came, room_left, past_limit, within_limit, exchanged_new, exchanged_same, room_new}
 
 -- ---- no more was written than what is kept
@@ -202,7 +203,7 @@ carries_sent long (Some ends.Bye) t u held old new d g l s x = (x.0, exchanged_s
 carries_sent long (Some ends.End) t u held old new d g l s x = (x.0, exchanged_sent t u x.0 old new d.lines d.texts g s x.1, x.2, subst IsAtEnd (sym l) x.3)
 carries_sent long (Some ends.LinkRead) t u held old new d g l s x = (x.0, exchanged_sent t u x.0 old new d.lines d.texts g s x.1, x.2)
 carries_sent long (Some ends.LinkWrite) t u held old new d g l s x = (x.0, exchanged_sent t u x.0 old new d.lines d.texts g s x.1)
-carries_sent long (Some ends.Unkept) t u held old new d g l s x = (x.0, exchanged_sent t u x.0 old new d.lines d.texts g s x.1)
+carries_sent long (Some (ends.Halted halt)) t u held old new d g l s x = (x.0, exchanged_sent t u x.0 old new d.lines d.texts g s x.1)
 carries_sent long (Some ends.TooMuch) t u held old new d g l s x = (x.0, x.1, exchanged_sent t u (x.0 ++ x.1 ∷ []) old new d.lines d.texts g s x.2, x.3)
 carries_sent long (Some ends.TooLong) t u held old new d g l s x = (x.0, exchanged_sent t u x.0 old new d.lines (d.texts ++ long) g s x.1, x.2)
 carries_sent long (Some ends.OutOfMemory) t u held old new d g l s x = record {
@@ -219,7 +220,7 @@ write_cause_later (Some ends.LinkWrite) old new same later x = omega (arith, lat
 write_cause_later (Some ends.Bye) old new same later x = tt
 write_cause_later (Some ends.End) old new same later x = tt
 write_cause_later (Some ends.LinkRead) old new same later x = tt
-write_cause_later (Some ends.Unkept) old new same later x = tt
+write_cause_later (Some (ends.Halted halt)) old new same later x = tt
 write_cause_later (Some ends.TooMuch) old new same later x = tt
 write_cause_later (Some ends.TooLong) old new same later x = tt
 write_cause_later (Some ends.OutOfMemory) old new same later x = tt
@@ -258,18 +259,10 @@ lost long (Some ending) t u limit room held old new d given left unread sent lat
 
 -- ---- the end
 
--- no more can be kept
-pub unkept : (long : List ℕ) (ending : Option Ending) (t : Traffic) (limit room : ℕ) (held owed : List ℕ) (d : Dialogue)
-    → Exchanges long ending t limit room held owed d → Exchanges long (Some (unwrap_or ending ends.Unkept)) t limit 0 [] owed d
-unkept long None t limit room held owed d x = record {
-  carries = (held, x.carries);
-  within = within_limit t.given limit room x.within;
-  may_be_open = x.may_be_open;
-  read_cause = x.read_cause;
-  write_cause = tt;
-  kept = x.kept;
-}
-unkept long (Some ending) t limit room held owed d x = record {
+-- it has ended, and it doesn't matter any more which bytes are held and how many may come
+pub settled_so : (long : List ℕ) (ending : Ending) (t : Traffic) (limit room : ℕ) (held owed : List ℕ) (d : Dialogue)
+    → Exchanges long (Some ending) t limit room held owed d → Exchanges long (Some ending) t limit 0 [] owed d
+settled_so long ending t limit room held owed d x = record {
   carries = x.carries;
   within = x.within;
   may_be_open = x.may_be_open;
@@ -277,6 +270,19 @@ unkept long (Some ending) t limit room held owed d x = record {
   write_cause = x.write_cause;
   kept = x.kept;
 }
+
+-- its loop has halted
+pub halted : (long : List ℕ) (halt : Halt) (ending : Option Ending) (t : Traffic) (limit room : ℕ) (held owed : List ℕ) (d : Dialogue)
+    → Exchanges long ending t limit room held owed d → Exchanges long (Some (unwrap_or ending (ends.Halted halt))) t limit 0 [] owed d
+halted long halt None t limit room held owed d x = record {
+  carries = (held, x.carries);
+  within = within_limit t.given limit room x.within;
+  may_be_open = x.may_be_open;
+  read_cause = x.read_cause;
+  write_cause = tt;
+  kept = x.kept;
+}
+halted long halt (Some ending) t limit room held owed d x = settled_so long ending t limit room held owed d x
 
 pub none_some : {A : Type 0} (x : A) → None ≡ Some x → ⊥
 none_some x e = grind (arith, e)
@@ -289,7 +295,7 @@ pub closed : (long : List ℕ) (was : Option Ending) (ending : Ending) (t : Traf
     → was ≡ Some ending → Exchanges long was t limit room held owed d → Exchanges long (Some ending) t limit 0 [] owed d
 closed long None ending t limit room held owed d is x = absurd (none_some ending is)
 closed long (Some other) ending t limit room held owed d is x =
-    subst (λ e. Exchanges long (Some e) t limit 0 [] owed d) (some_is other ending is) (unkept long (Some other) t limit room held owed d x)
+    subst (λ e. Exchanges long (Some e) t limit 0 [] owed d) (some_is other ending is) (settled_so long other t limit room held owed d x)
 
 -- of one that has ended it doesn't matter which bytes are held
 pub ended_with : (long : List ℕ) (ending : Ending) (t : Traffic) (limit room : ℕ) (held other owed : List ℕ) (d : Dialogue)
@@ -318,3 +324,22 @@ fresh long t limit held owed h o given written unread unwritten = record {
   write_cause = unwritten;
   kept = inl refl;
 }
+
+-- ---- by itself
+
+-- the end of one that ended by itself, or whose writing fails now, is its own
+pub own_lost : (ending : Option Ending) → EndsItself ending → EndsItself (Some (unwrap_or ending ends.LinkWrite))
+own_lost None own = tt
+own_lost (Some ending) own = own
+
+-- one that ended by itself wasn't halted
+pub own_not_halted : (ending : Ending) (halt : Halt) → EndsItself (Some ending) → ending ≡ ends.Halted halt → ⊥
+own_not_halted ending halt own is = subst (λ e. EndsItself (Some e)) is own
+
+halt_is : (halt other : Halt) → ends.Halted halt ≡ ends.Halted other → halt ≡ other
+halt_is halt other e = grind (arith, e)
+
+-- if one that may have ended by itself ends as halted now, it is for this cause
+pub halted_for : (ending : Option Ending) (halt other : Halt) → EndsItself ending → unwrap_or ending (ends.Halted halt) ≡ ends.Halted other → halt ≡ other
+halted_for None halt other own is = halt_is halt other is
+halted_for (Some ending) halt other own is = absurd (own_not_halted ending other own is)

@@ -26,7 +26,7 @@ Closes long ends.Bye t owed d = (tail : List ℕ) × HasTail t tail owed d
 Closes long ends.End t owed d = (tail : List ℕ) × HasTail t tail owed d × IsLine tail × IsAtEnd t.left
 Closes long ends.LinkRead t owed d = (tail : List ℕ) × HasTail t tail owed d × IsLine tail
 Closes long ends.LinkWrite t owed d = (tail : List ℕ) × HasTail t tail owed d
-Closes long ends.Unkept t owed d = (tail : List ℕ) × HasTail t tail owed d
+Closes long (ends.Halted halt) t owed d = (tail : List ℕ) × HasTail t tail owed d
 Closes long ends.TooMuch t owed d = (tail : List ℕ) × (last : ℕ) × HasTail t (tail ++ last ∷ []) owed d × IsLine tail
 Closes long ends.TooLong t owed d = (tail : List ℕ) × IsExchanged t tail owed d.lines (d.texts ++ long) × IsTooLong tail
 Closes long ends.OutOfMemory t owed d = LacksLast t owed d
@@ -43,7 +43,7 @@ FitsLimit ends.Bye limit count = count ≤ limit
 FitsLimit ends.End limit count = count ≤ limit
 FitsLimit ends.LinkRead limit count = count ≤ limit
 FitsLimit ends.LinkWrite limit count = count ≤ limit
-FitsLimit ends.Unkept limit count = count ≤ limit
+FitsLimit (ends.Halted halt) limit count = count ≤ limit
 FitsLimit ends.TooLong limit count = count ≤ limit
 FitsLimit ends.OutOfMemory limit count = count ≤ limit
 
@@ -59,7 +59,7 @@ MayBeOpen (Some ends.Bye) is_open = is_open ≡ false
 MayBeOpen (Some ends.End) is_open = is_open ≡ true
 MayBeOpen (Some ends.LinkRead) is_open = is_open ≡ true
 MayBeOpen (Some ends.LinkWrite) is_open = is_open ≡ true
-MayBeOpen (Some ends.Unkept) is_open = is_open ≡ true
+MayBeOpen (Some (ends.Halted halt)) is_open = is_open ≡ true
 MayBeOpen (Some ends.TooMuch) is_open = is_open ≡ true
 MayBeOpen (Some ends.TooLong) is_open = is_open ≡ true
 MayBeOpen (Some ends.OutOfMemory) is_open = Unit {0}
@@ -71,7 +71,7 @@ HasReadCause (Some ends.LinkRead) unread = 0 < unread
 HasReadCause (Some ends.Bye) unread = unread ≡ 0
 HasReadCause (Some ends.End) unread = unread ≡ 0
 HasReadCause (Some ends.LinkWrite) unread = unread ≡ 0
-HasReadCause (Some ends.Unkept) unread = unread ≡ 0
+HasReadCause (Some (ends.Halted halt)) unread = unread ≡ 0
 HasReadCause (Some ends.TooMuch) unread = unread ≡ 0
 HasReadCause (Some ends.TooLong) unread = unread ≡ 0
 HasReadCause (Some ends.OutOfMemory) unread = unread ≡ 0
@@ -83,7 +83,7 @@ HasWriteCause (Some ends.LinkWrite) unwritten = 0 < unwritten
 HasWriteCause (Some ends.Bye) unwritten = Unit {0}
 HasWriteCause (Some ends.End) unwritten = Unit {0}
 HasWriteCause (Some ends.LinkRead) unwritten = Unit {0}
-HasWriteCause (Some ends.Unkept) unwritten = Unit {0}
+HasWriteCause (Some (ends.Halted halt)) unwritten = Unit {0}
 HasWriteCause (Some ends.TooMuch) unwritten = Unit {0}
 HasWriteCause (Some ends.TooLong) unwritten = Unit {0}
 HasWriteCause (Some ends.OutOfMemory) unwritten = Unit {0}
@@ -106,3 +106,15 @@ pub record Exchanges (long : List ℕ) (ending : Option Ending) (t : Traffic) (l
 abbrev pub ending_of : {T : Type 0} → Result T Ending → Option Ending
 ending_of (Ok x) = None
 ending_of (Err ending) = Some ending
+
+-- a connection has ended by itself, if it has, and not since its loop has halted
+abbrev pub EndsItself : Option Ending → Type 0
+EndsItself None = Unit {0}
+EndsItself (Some ends.Bye) = Unit {0}
+EndsItself (Some ends.End) = Unit {0}
+EndsItself (Some ends.LinkRead) = Unit {0}
+EndsItself (Some ends.LinkWrite) = Unit {0}
+EndsItself (Some ends.TooMuch) = Unit {0}
+EndsItself (Some ends.TooLong) = Unit {0}
+EndsItself (Some ends.OutOfMemory) = Unit {0}
+EndsItself (Some (ends.Halted halt)) = ⊥

@@ -5,5 +5,8 @@ pub mod Dialogues
 pub mod Exchange
 pub mod Fronts
 pub mod Closings
+pub mod Visits
 pub mod Standing
 pub mod Crowd
+pub mod Gates
+pub mod Rounds

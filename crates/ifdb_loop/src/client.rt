@@ -58,6 +58,12 @@ impl Pace {
         }
     }
 
+    /// Notes that a line was asked.
+    pub(crate) fn greet(&mut self, now: u64) {
+        self.is_greeted = true;
+        self.since = now;
+    }
+
     /// Notes whether something moved.
     pub(crate) fn note(&mut self, has_moved: bool, now: u64) {
         if has_moved && self.is_greeted {

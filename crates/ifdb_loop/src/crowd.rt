@@ -1,29 +1,30 @@
 // A round of a loop over its connections.
-ghost use Rattle.std.specs.Prelude.{◌≡◌, [], OnOk, OnErr, IfSome, IfErr};
-ghost use Rattle.ifdb_loop.specs.Crowd.{AreServed, HasEndedAt};
+ghost use Rattle.std.specs.Prelude.{◌≡◌, ◌≤◌, ℕ, [], length, None, Some, OnOk, OnErr, IfSome, IfNone, IfErr};
+ghost use Rattle.slab.specs.Slab.{get, values};
+ghost use Rattle.ifdb_loop.specs.Crowd.{Admits, AreServed, HasEndedAt, TakesOut, numbers_in};
 ghost use Rattle.ifdb_loop.specs.Dialogues.{Dialogue};
-ghost use Rattle.ifdb_loop.specs.Standing.{IsServed, KeepsOthers, WasServed};
+ghost use Rattle.ifdb_loop.specs.Standing.{HasHalted, IsServed, KeepsOthers};
 
 use crate::turn::turn;
-use crate::{Chunk, Client, Ending, Loop, Over, Pace, Port, Service, Timing, Wires};
+use crate::{Chunk, Client, Ending, Halt, Loop, Over, Pace, Port, Service, Timing, Wires};
 use ifdb_io::Failed;
 use slab::Slab;
 use std::alloc::Global;
 
-/// The connections of a loop before the first has come.
-pub fn nobody<P: Port, S: Service>(alloc: Global) -> Slab<Client<P, S::Seat>>
-    ensures { (s : S) → AreServed S.Service P.Port s result }
+// The connections of a loop before the first has come.
+pub(crate) fn nobody<P: Port, S: Service>(alloc: Global) -> Slab<Client<P, S::Seat>>
+    ensures served { (s : S) → AreServed S.Service P.Port s result }
+    ensures numbers { numbers_in S.Service result ≡ [] }
 {
     Slab::new(alloc)
 }
 
-/// Opens a session for a connection that has given nothing yet and was told nothing. Its key is the slab's next one. All memory
-/// for its turns is taken here, but that for its bytes.
-///
-/// # Errors
-/// Where there are as many connections as the terms allow, or there is no memory for it, the connection comes back, and no
-/// session was opened.
-pub fn admit<P: Port + Drop, S: Service>(
+// Opens a session for a connection that has given nothing yet and was told nothing. Its key is the slab's next one. All memory
+// for its turns is taken here, but that for its bytes.
+//
+// Where there are as many connections as the terms allow, or there is no memory for it, the connection comes back, and no
+// session was opened.
+pub(crate) fn admit<P: Port + Drop, S: Service>(
     service: &mut S,
     looping: &mut Loop,
     clients: &mut Slab<Client<P, S::Seat>>,
@@ -40,7 +41,10 @@ pub fn admit<P: Port + Drop, S: Service>(
     ensures goes_on { S.goes_on service.old service.new }
     ensures kept { S.is_kept service.old → S.is_kept service.new }
     ensures served { AreServed S.Service P.Port service.new clients.new }
-    ensures port { IfErr result (λ back. back ≡ port) }
+    ensures admits { OnOk result (Admits S.Service service.old service.new clients.old clients.new) }
+    ensures opened { OnErr result (S.opened service.new ≡ S.opened service.old) }
+    ensures numbers { OnErr result
+        (numbers_in S.Service clients.new ≡ numbers_in S.Service clients.old) }
 {
     if clients.len() >= timing.terms.connections {
         return Err(port);
@@ -51,8 +55,9 @@ pub fn admit<P: Port + Drop, S: Service>(
     if clients.reserve(1).is_err() {
         return Err(port);
     }
-    let Ok(seat) = service.open() else {
-        return Err(port);
+    let seat = match service.open() {
+        Ok(seat) => seat,
+        Err(_) => return Err(port),
     };
     clients.insert_reserved(Client {
         port,
@@ -79,7 +84,9 @@ fn turn_at<P: Port + Drop, S: Service>(
     requires served { AreServed S.Service P.Port service.old clients.old }
     ensures ready { S.ready service.new }
     ensures goes_on { S.goes_on service.old service.new }
+    ensures opened { S.opened service.new ≡ S.opened service.old }
     ensures served { AreServed S.Service P.Port service.new clients.new }
+    ensures numbers { numbers_in S.Service clients.new ≡ numbers_in S.Service clients.old }
 {
     let Some(mut client) = clients.try_remove(key) else {
         return;
@@ -112,7 +119,8 @@ fn flush_at<P: Port + Drop, S: Service>(
 ) -> bool
     requires kept { S.is_kept service.now }
     requires served { AreServed S.Service P.Port service.now clients.old }
-    ensures { AreServed S.Service P.Port service.now clients.new }
+    ensures served { AreServed S.Service P.Port service.now clients.new }
+    ensures numbers { numbers_in S.Service clients.new ≡ numbers_in S.Service clients.old }
 {
     let Some(mut client) = clients.try_remove(key) else {
         return false;
@@ -123,13 +131,10 @@ fn flush_at<P: Port + Drop, S: Service>(
     is_new
 }
 
-/// A round: each connection that is ready has its turn, then what they were answered from is settled, and then what they owe is
-/// written, as far as there is room for it. Those of which more may be at hand, which no event will tell, are listed for the next
-/// round.
-///
-/// # Errors
-/// `Failed` where it can't be settled: nothing was written then.
-pub fn round<P: Port + Drop, S: Service>(
+// A round: each connection that is ready has its turn, then what they were answered from is settled, and then what they owe is
+// written, as far as there is room for it. Those of which more may be at hand, which no event will tell, are listed for the next
+// round. `Failed` where it can't be settled: nothing was written then.
+pub(crate) fn round<P: Port + Drop, S: Service>(
     service: &mut S,
     looping: &mut Loop,
     clients: &mut Slab<Client<P, S::Seat>>,
@@ -139,7 +144,9 @@ pub fn round<P: Port + Drop, S: Service>(
     requires served { AreServed S.Service P.Port service.old clients.old }
     ensures ready { S.ready service.new }
     ensures goes_on { S.goes_on service.old service.new }
+    ensures opened { S.opened service.new ≡ S.opened service.old }
     ensures served { AreServed S.Service P.Port service.new clients.new }
+    ensures numbers { numbers_in S.Service clients.new ≡ numbers_in S.Service clients.old }
     ensures kept { OnOk result (S.is_kept service.new) }
     ensures failed { OnErr result (S.has_failed service.new) }
 {
@@ -163,8 +170,8 @@ fn ending_at<P, T>(clients: &Slab<Client<P, T>>, key: usize) -> Option<Ending>
     clients.get(key)?.over()
 }
 
-/// Takes out the connection at a key, if it has ended and owes nothing that can be written still. Its session leaves.
-pub fn hang_up<P: Port, S: Service>(
+// Takes out the connection at a key, if it has ended and owes nothing that can be written still. Its session leaves.
+pub(crate) fn hang_up<P: Port, S: Service>(
     service: &mut S,
     clients: &mut Slab<Client<P, S::Seat>>,
     key: usize,
@@ -173,9 +180,13 @@ pub fn hang_up<P: Port, S: Service>(
     requires served { AreServed S.Service P.Port service.old clients.old }
     ensures ready { S.ready service.new }
     ensures goes_on { S.goes_on service.old service.new }
+    ensures opened { S.opened service.new ≡ S.opened service.old }
     ensures kept { S.is_kept service.old → S.is_kept service.new }
     ensures served { AreServed S.Service P.Port service.new clients.new }
-    ensures over { IfSome result (WasServed S.Service P.Port service.new) }
+    ensures over { IfSome result (λ over. (faults : ℕ)
+        → TakesOut S.Service P.Port service.new clients.old clients.new faults over) }
+    ensures none { IfNone result
+        (numbers_in S.Service clients.new ≡ numbers_in S.Service clients.old) }
 {
     let Some(ending) = ending_at(clients, key) else {
         return None;
@@ -186,24 +197,32 @@ pub fn hang_up<P: Port, S: Service>(
     Some(end(service, client, ending))
 }
 
-/// Takes out the connection at a key where no more can be kept: what it owes will never be written. Its session leaves.
-pub fn cut_off<P: Port, S: Service>(
+// Takes out the connection at a key where the loop has halted: what it owes will never be written. Its session leaves.
+pub(crate) fn cut_off<P: Port, S: Service>(
     service: &mut S,
     clients: &mut Slab<Client<P, S::Seat>>,
     key: usize,
+    halt: Halt,
 ) -> Option<Over<P>>
     requires ready { S.ready service.old }
-    requires failed { S.has_failed service.old }
     requires served { AreServed S.Service P.Port service.old clients.old }
     ensures ready { S.ready service.new }
     ensures goes_on { S.goes_on service.old service.new }
+    ensures opened { S.opened service.new ≡ S.opened service.old }
     ensures served { AreServed S.Service P.Port service.new clients.new }
-    ensures over { IfSome result (WasServed S.Service P.Port service.new) }
+    ensures over { IfSome result (λ over. (faults : ℕ)
+        → HasHalted S.Service P.Port service.new faults halt
+        → TakesOut S.Service P.Port service.new clients.old clients.new faults over) }
+    ensures none { IfNone result
+        (numbers_in S.Service clients.new ≡ numbers_in S.Service clients.old) }
+    ensures gone { get clients.new key ≡ None }
+    ensures rest { (j : ℕ) → get clients.old j ≡ None → get clients.new j ≡ None }
+    ensures slots { length clients.new.slots ≡ length clients.old.slots }
 {
     let Some(client) = clients.try_remove(key) else {
         return None;
     };
-    let ending = client.ending.unwrap_or(Ending::Unkept);
+    let ending = client.ending.unwrap_or(Ending::Halted(halt));
     Some(end(service, client, ending))
 }
 
@@ -213,6 +232,7 @@ fn end<P: Port, S: Service>(service: &mut S, client: Client<P, S::Seat>, ending:
     requires says { (d : Dialogue) × S.says service.old client.seat d }
     ensures ready { S.ready service.new }
     ensures goes_on { S.goes_on service.old service.new }
+    ensures opened { S.opened service.new ≡ S.opened service.old }
     ensures kept { S.is_kept service.old → S.is_kept service.new }
     ensures over { (d : Dialogue) → S.says service.old client.seat d
         → S.is_over service.new (S.number client.seat) d }

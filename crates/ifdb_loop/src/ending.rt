@@ -1,5 +1,23 @@
-// How a connection ended.
+// How a connection ended, and why a loop halts.
 use std::fmt;
+
+/// Why a loop doesn't go on, though connections may come still.
+#[derive(Clone, Copy, Debug, PartialEq, Eq)]
+pub enum Halt {
+    /// The gate failed, as its count says.
+    Gate,
+    /// No more can be kept of what connections are answered from.
+    Unkept,
+}
+
+impl fmt::Display for Halt {
+    fn fmt<W: fmt::Write>(&self, f: &mut fmt::Formatter<W>) -> fmt::Result {
+        match self {
+            Halt::Gate => write!(f, "the gate failed"),
+            Halt::Unkept => write!(f, "the service failed"),
+        }
+    }
+}
 
 /// How a connection ended.
 #[derive(Clone, Copy, Debug, PartialEq, Eq)]
@@ -12,8 +30,8 @@ pub enum Ending {
     LinkRead,
     /// Writing failed, as the connection's count says; or its client took nothing for too long.
     LinkWrite,
-    /// The service failed, so that what the last replies were answered from isn't known to be kept.
-    Unkept,
+    /// Not by itself: its loop has halted. Where no more can be kept, what the last replies were answered from isn't known to be.
+    Halted(Halt),
     /// The connection sent more bytes than the limit.
     TooMuch,
     /// A line was longer than a line may be, and was told so.
@@ -29,7 +47,7 @@ impl fmt::Display for Ending {
             Ending::End => write!(f, "the input ended"),
             Ending::LinkRead => write!(f, "reading failed"),
             Ending::LinkWrite => write!(f, "writing failed"),
-            Ending::Unkept => write!(f, "the service failed"),
+            Ending::Halted(halt) => write!(f, "{halt}"),
             Ending::TooMuch => write!(f, "more bytes than the limit"),
             Ending::TooLong => write!(f, "a line was too long"),
             Ending::OutOfMemory => write!(f, "out of memory"),

@@ -19,14 +19,13 @@ mod wires;
 
 pub use chunk::{Chunk, Front};
 pub use client::{Client, Pace};
-pub use crowd::{admit, cut_off, hang_up, nobody, round};
-pub use ending::Ending;
-pub use gate::Gate;
+pub use ending::{Ending, Halt};
+pub use gate::{Arrivals, Gate};
 pub use memory_gate::{Coming, MemoryGate};
 pub use memory_port::{MemoryPort, Step};
 pub use over::Over;
 pub use port::Port;
-pub use rounds::{Halt, Loop, close, serve};
+pub use rounds::{Loop, serve};
 pub use service::Service;
 pub use terms::{Terms, Timing};
 pub use wires::Wires;

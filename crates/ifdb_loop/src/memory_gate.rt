@@ -1,10 +1,8 @@
 // A gate in memory.
-ghost use Rattle.std.specs.Prelude.{◌≡◌, ◌⊎◌, ℕ, [], Contains};
-ghost use Rattle.ifdb_loop.specs.Traffic.{Ported};
-ghost use Rattle.ifdb_loop.specs.declared.over.Over.{Over};
+ghost use Rattle.std.specs.Prelude.{◌≡◌, ◌<◌, ◌≤◌, ◌+◌, ◌++◌, ◌∷◌, true, false, [], IfOk, option_map, vec_len, vec_capacity};
 
-use crate::{Gate, MemoryPort, Over, Step};
-use ifdb_io::Failed;
+use crate::{Arrivals, Gate, MemoryPort, Over, Step};
+use ifdb_io::{Failed, OutOfMemory};
 use std::alloc::Global;
 
 /// What a connection in memory will give, and how its calls end.
@@ -18,51 +16,89 @@ pub struct Coming {
     pub writes: Vec<Step>,
 }
 
-/// A gate in memory, through which connections come, the last one first. Each is ready at each wait, and a second passes with each.
-/// It keeps what it is given back, as far as there is memory, and never fails.
+/// A gate in memory, through which connections come, the last one first, up to its end. Each is ready at each wait, and a second
+/// passes with each. It fails once it was waited at as often as it was told, and keeps what it is given back.
 #[derive(Drop)]
 pub struct MemoryGate {
     alloc: Global,
     coming: Vec<Coming>,
     keys: usize,
-    now: u64,
+    second: u64,
+    waits: u64,
+    out: u64,
+    ended: bool,
+    failed: u64,
     /// How many connections were refused.
     pub refused: u64,
-    /// The connections that were given back, in order.
-    pub back: Vec<Over<MemoryPort>>,
+    back: Vec<Over<MemoryPort>>,
+    ghost none_left: { ended ≡ true → vec_len coming ≡ 0 },
+    ghost room: { vec_len back + out + vec_len coming ≤ vec_capacity back },
 }
 
 impl MemoryGate {
-    /// A gate through which these come.
-    pub fn new(alloc: Global, coming: Vec<Coming>) -> MemoryGate
-        ensures { result.back.items ≡ [] }
+    /// A gate through which these come, and at which so many waits succeed. The room for those that come back is taken here.
+    ///
+    /// # Errors
+    /// `OutOfMemory` where there is no memory for that.
+    pub fn new(alloc: Global, coming: Vec<Coming>, waits: u64) -> Result<MemoryGate, OutOfMemory>
+        ensures most { IfOk result (λ gate. gate.waits ≡ waits) }
+        ensures back { IfOk result (λ gate. gate.back.items ≡ []) }
+        ensures out { IfOk result (λ gate. gate.out ≡ 0) }
+        ensures open { IfOk result (λ gate. gate.ended ≡ false) }
+        ensures faults { IfOk result (λ gate. gate.failed ≡ 0) }
     {
-        MemoryGate {
+        Ok(MemoryGate {
             alloc,
+            back: Vec::with_capacity(alloc, coming.len())?,
             coming,
             keys: 0,
-            now: 0,
+            second: 0,
+            waits,
+            out: 0,
+            ended: false,
+            failed: 0,
             refused: 0,
-            back: Vec::new(alloc),
-        }
+        })
+    }
+
+    /// The connections that were given back, in order.
+    pub fn back(&self) -> &[Over<MemoryPort>]
+        ensures { result.now ≡ self.now.back.items }
+    {
+        &self.back
     }
 }
 
 impl Gate for MemoryGate {
-    ghost use Rattle.std.specs.Prelude.{Contains};
+    ghost use Rattle.std.specs.Prelude.{Some};
 
     type Port = MemoryPort;
 
-    ghost faults = { λ _. 0 };
+    ghost most = { λ gate. gate.waits };
 
-    ghost has_back = { λ gate over. Contains gate.back.items over };
+    ghost out = { λ gate. gate.out };
 
-    fn wait(&mut self, _has_more: bool, ready: &mut Vec<usize>) -> Result<(), Failed> {
-        self.now = self.now.saturating_add(1);
+    ghost ended = { λ gate. gate.ended };
+
+    ghost faults = { λ gate. gate.failed };
+
+    ghost back = { λ gate. Some gate.back.items };
+
+    fn wait(&mut self, _has_more: bool, ready: &mut Vec<usize>) -> Result<Arrivals, Failed> {
+        if self.waits == 0 {
+            self.failed = self.failed.saturating_add(1);
+            return Err(Failed);
+        }
+        self.waits -= 1;
+        self.second = self.second.saturating_add(1);
         for key in 0..self.keys {
             let _ = ready.push(key);
         }
-        Ok(())
+        self.ended = self.coming.is_empty();
+        if self.ended {
+            return Ok(Arrivals::Ended);
+        }
+        Ok(Arrivals::MayCome)
     }
 
     fn next(&mut self, key: usize) -> Option<MemoryPort> {
@@ -71,23 +107,30 @@ impl Gate for MemoryGate {
             reads,
             writes,
         } = self.coming.pop()?;
+        self.out += 1;
         self.keys = self.keys.max(key.saturating_add(1));
         Some(MemoryPort::new(bytes, Vec::new(self.alloc), reads, writes))
     }
 
     fn refuse(&mut self, _port: MemoryPort) {
+        self.out -= 1;
         self.refused = self.refused.saturating_add(1);
     }
 
     fn done(&mut self, over: Over<MemoryPort>)
-        ensures faults { ◌≡◌ {A = ℕ} 0 0 }
-        ensures back { (o : Over Ported) → Contains self.new.back.items o
-            → Contains self.old.back.items o ⊎ (o ≡ over) }
+        requires { 0 < self.old.out }
+        ensures out { self.new.out + 1 ≡ self.old.out }
+        ensures most { self.new.waits ≡ self.old.waits }
+        ensures end { self.new.ended ≡ self.old.ended }
+        ensures faults { self.new.failed ≡ self.old.failed }
+        ensures back { Some self.new.back.items
+            ≡ option_map (λ told. told ++ over ∷ []) (Some self.old.back.items) }
     {
+        self.out -= 1;
         let _ = self.back.push(over);
     }
 
     fn seconds(&self) -> u64 {
-        self.now
+        self.second
     }
 }

@@ -1,25 +1,20 @@
 // The rounds of a loop.
-ghost use Rattle.std.specs.Prelude.{◌≡◌, ◌≢◌, [], Err, IfOk, IfSome, OnOk};
+ghost use Rattle.std.specs.Prelude.{◌≡◌, ◌≢◌, ◌+◌, ◌<◌, ◌≤◌, ℕ, [], length, None, true, Err, IfErr, IfOk, IfSome, OnOk};
+ghost use Rattle.slab.specs.Slab.{get};
 ghost use Rattle.ifdb_io.specs.Causes.{Rose};
-ghost use Rattle.ifdb_loop.specs.Crowd.{AreServed, WereServed};
+ghost use Rattle.ifdb_loop.specs.Crowd.{AreServed, numbers_in};
+ghost use Rattle.ifdb_loop.specs.Gates.{has_ended};
+ghost use Rattle.ifdb_loop.specs.Rounds.{IsInOrder, IsSteady};
+ghost use Rattle.ifdb_loop.specs.Standing.{HasHalted};
 
-use crate::crowd::{admit, cut_off, hang_up, round};
-use crate::{Chunk, Client, Gate, Service, Terms, Timing};
+use crate::crowd::{admit, cut_off, hang_up, nobody, round};
+use crate::{Arrivals, Chunk, Client, Gate, Halt, Service, Terms, Timing};
 use ifdb_io::OutOfMemory;
 use slab::Slab;
 use std::alloc::Global;
 
 // How many connections are taken in a round at most.
 const MANY: usize = 256;
-
-/// Why a loop doesn't go on.
-#[derive(Clone, Copy, Debug, PartialEq, Eq)]
-pub enum Halt {
-    /// The gate failed, as its count says.
-    Gate,
-    /// No more can be kept of what connections are answered from.
-    Unkept,
-}
 
 /// What a loop has beside its connections: the terms, and memory for a round.
 #[derive(Drop)]
@@ -80,7 +75,7 @@ impl Loop {
     }
 }
 
-// Opens a session for a connection that has come, or closes it where there is no room.
+// Opens a session for a connection that has come, or gives it back where there is no room.
 fn take_in<G: Gate, S: Service>(
     gate: &mut G,
     service: &mut S,
@@ -92,7 +87,9 @@ fn take_in<G: Gate, S: Service>(
     requires ready { S.ready service.old }
     requires kept { S.is_kept service.old }
     requires served { AreServed S.Service G.Port.Port service.old clients.old }
-    requires back { WereServed S.Service G.Port.Port service.old (G.has_back gate.old) }
+    requires order { IsInOrder S.Service G.Port.Port G.Gate service.old gate.old
+        (numbers_in S.Service clients.old) }
+    requires out { G.out gate.old ≡ length (numbers_in S.Service clients.old) + 1 }
     requires given { IfSome (G.Port.Port.given port) (λ bytes. bytes ≡ []) }
     requires written { IfSome (G.Port.Port.written port) (λ bytes. bytes ≡ []) }
     requires reads { G.Port.Port.unread port ≡ 0 }
@@ -101,11 +98,14 @@ fn take_in<G: Gate, S: Service>(
     ensures goes_on { S.goes_on service.old service.new }
     ensures kept { S.is_kept service.new }
     ensures served { AreServed S.Service G.Port.Port service.new clients.new }
-    ensures back { WereServed S.Service G.Port.Port service.new (G.has_back gate.new) }
-    ensures faults { G.faults gate.new ≡ G.faults gate.old }
+    ensures order { IsInOrder S.Service G.Port.Port G.Gate service.new gate.new
+        (numbers_in S.Service clients.new) }
+    ensures out { G.out gate.new ≡ length (numbers_in S.Service clients.new) }
+    ensures steady { IsSteady G.Gate gate.old gate.new }
 {
-    let Err(port) = admit(service, looping, clients, port, timing) else {
-        return;
+    let port = match admit(service, looping, clients, port, timing) {
+        Ok(()) => return,
+        Err(port) => port,
     };
     gate.refuse(port);
 }
@@ -121,13 +121,17 @@ fn take_new<G: Gate, S: Service>(
     requires ready { S.ready service.old }
     requires kept { S.is_kept service.old }
     requires served { AreServed S.Service G.Port.Port service.old clients.old }
-    requires back { WereServed S.Service G.Port.Port service.old (G.has_back gate.old) }
+    requires order { IsInOrder S.Service G.Port.Port G.Gate service.old gate.old
+        (numbers_in S.Service clients.old) }
+    requires out { G.out gate.old ≡ length (numbers_in S.Service clients.old) }
     ensures ready { S.ready service.new }
     ensures goes_on { S.goes_on service.old service.new }
     ensures kept { S.is_kept service.new }
     ensures served { AreServed S.Service G.Port.Port service.new clients.new }
-    ensures back { WereServed S.Service G.Port.Port service.new (G.has_back gate.new) }
-    ensures faults { G.faults gate.new ≡ G.faults gate.old }
+    ensures order { IsInOrder S.Service G.Port.Port G.Gate service.new gate.new
+        (numbers_in S.Service clients.new) }
+    ensures out { G.out gate.new ≡ length (numbers_in S.Service clients.new) }
+    ensures steady { IsSteady G.Gate gate.old gate.new }
 {
     for _ in 0..MANY {
         let Some(port) = gate.next(clients.vacant_key()) else {
@@ -147,13 +151,17 @@ fn give_back_at<G: Gate, S: Service>(
     requires ready { S.ready service.old }
     requires kept { S.is_kept service.old }
     requires served { AreServed S.Service G.Port.Port service.old clients.old }
-    requires back { WereServed S.Service G.Port.Port service.old (G.has_back gate.old) }
+    requires order { IsInOrder S.Service G.Port.Port G.Gate service.old gate.old
+        (numbers_in S.Service clients.old) }
+    requires out { G.out gate.old ≡ length (numbers_in S.Service clients.old) }
     ensures ready { S.ready service.new }
     ensures goes_on { S.goes_on service.old service.new }
     ensures kept { S.is_kept service.new }
     ensures served { AreServed S.Service G.Port.Port service.new clients.new }
-    ensures back { WereServed S.Service G.Port.Port service.new (G.has_back gate.new) }
-    ensures faults { G.faults gate.new ≡ G.faults gate.old }
+    ensures order { IsInOrder S.Service G.Port.Port G.Gate service.new gate.new
+        (numbers_in S.Service clients.new) }
+    ensures out { G.out gate.new ≡ length (numbers_in S.Service clients.new) }
+    ensures steady { IsSteady G.Gate gate.old gate.new }
 {
     let Some(over) = hang_up(service, clients, key) else {
         return;
@@ -171,45 +179,53 @@ fn give_back<G: Gate, S: Service>(
     requires ready { S.ready service.old }
     requires kept { S.is_kept service.old }
     requires served { AreServed S.Service G.Port.Port service.old clients.old }
-    requires back { WereServed S.Service G.Port.Port service.old (G.has_back gate.old) }
+    requires order { IsInOrder S.Service G.Port.Port G.Gate service.old gate.old
+        (numbers_in S.Service clients.old) }
+    requires out { G.out gate.old ≡ length (numbers_in S.Service clients.old) }
     ensures ready { S.ready service.new }
     ensures goes_on { S.goes_on service.old service.new }
     ensures kept { S.is_kept service.new }
     ensures served { AreServed S.Service G.Port.Port service.new clients.new }
-    ensures back { WereServed S.Service G.Port.Port service.new (G.has_back gate.new) }
-    ensures faults { G.faults gate.new ≡ G.faults gate.old }
+    ensures order { IsInOrder S.Service G.Port.Port G.Gate service.new gate.new
+        (numbers_in S.Service clients.new) }
+    ensures out { G.out gate.new ≡ length (numbers_in S.Service clients.new) }
+    ensures steady { IsSteady G.Gate gate.old gate.new }
 {
     for key in ready {
         give_back_at(gate, service, clients, *key);
     }
 }
 
-// A round: waits until connections are ready, serves them, gives back those that are over, and takes those that have come.
+// A round: waits until connections are ready, serves them, gives back those that are over, and takes those that have come. Says
+// whether more may come.
 fn go_round<G: Gate, S: Service>(
     gate: &mut G,
     service: &mut S,
     looping: &mut Loop,
     clients: &mut Slab<Client<G::Port, S::Seat>>,
-) -> Result<(), Halt>
+) -> Result<Arrivals, Halt>
     requires ready { S.ready service.old }
     requires served { AreServed S.Service G.Port.Port service.old clients.old }
-    requires back { WereServed S.Service G.Port.Port service.old (G.has_back gate.old) }
+    requires order { IsInOrder S.Service G.Port.Port G.Gate service.old gate.old
+        (numbers_in S.Service clients.old) }
+    requires out { G.out gate.old ≡ length (numbers_in S.Service clients.old) }
     ensures ready { S.ready service.new }
     ensures goes_on { S.goes_on service.old service.new }
     ensures served { AreServed S.Service G.Port.Port service.new clients.new }
-    ensures back { WereServed S.Service G.Port.Port service.new (G.has_back gate.new) }
-    ensures kept { OnOk result (S.is_kept service.new) }
+    ensures order { IsInOrder S.Service G.Port.Port G.Gate service.new gate.new
+        (numbers_in S.Service clients.new) }
+    ensures out { G.out gate.new ≡ length (numbers_in S.Service clients.new) }
+    ensures fewer { OnOk result (G.most gate.new < G.most gate.old) }
+    ensures end { IfOk result (λ arrivals. G.ended gate.new ≡ has_ended arrivals) }
     ensures gate { result ≡ Err Halt.Gate → Rose (G.faults gate.old) (G.faults gate.new) }
     ensures faults { result ≢ Err Halt.Gate → G.faults gate.new ≡ G.faults gate.old }
-    ensures unkept { result ≡ Err Halt.Unkept → S.has_failed service.new }
+    ensures halted { IfErr result (HasHalted S.Service G.Port.Port service.new (G.faults gate.new)) }
 {
     looping.begin();
-    if gate
-        .wait(!looping.ready.is_empty(), &mut looping.ready)
-        .is_err()
-    {
-        return Err(Halt::Gate);
-    }
+    let arrivals = match gate.wait(!looping.ready.is_empty(), &mut looping.ready) {
+        Ok(arrivals) => arrivals,
+        Err(_) => return Err(Halt::Gate),
+    };
     let timing = Timing {
         terms: looping.terms,
         now: gate.seconds(),
@@ -220,78 +236,128 @@ fn go_round<G: Gate, S: Service>(
     }
     give_back(gate, service, clients, &looping.ready);
     take_new(gate, service, looping, clients, &timing);
-    Ok(())
+    Ok(arrivals)
 }
 
-/// So many rounds of a loop: waits until connections are ready, gives each of them its turn, and takes those that have come.
-///
-/// # Errors
-/// `Gate` where the gate failed, and `Unkept` where no more can be kept: then nothing is written any more, and `close` gives the
-/// connections back.
-pub fn serve<G: Gate, S: Service>(
+// Rounds, until the gate is at its end and no connection is in.
+fn go_on<G: Gate, S: Service>(
     gate: &mut G,
     service: &mut S,
     looping: &mut Loop,
     clients: &mut Slab<Client<G::Port, S::Seat>>,
-    rounds: u64,
 ) -> Result<(), Halt>
     requires ready { S.ready service.old }
     requires served { AreServed S.Service G.Port.Port service.old clients.old }
-    requires back { WereServed S.Service G.Port.Port service.old (G.has_back gate.old) }
+    requires order { IsInOrder S.Service G.Port.Port G.Gate service.old gate.old
+        (numbers_in S.Service clients.old) }
+    requires out { G.out gate.old ≡ length (numbers_in S.Service clients.old) }
     ensures ready { S.ready service.new }
     ensures goes_on { S.goes_on service.old service.new }
     ensures served { AreServed S.Service G.Port.Port service.new clients.new }
-    ensures back { WereServed S.Service G.Port.Port service.new (G.has_back gate.new) }
+    ensures order { IsInOrder S.Service G.Port.Port G.Gate service.new gate.new
+        (numbers_in S.Service clients.new) }
+    ensures out { G.out gate.new ≡ length (numbers_in S.Service clients.new) }
+    ensures none { OnOk result (numbers_in S.Service clients.new ≡ []) }
+    ensures end { OnOk result (G.ended gate.new ≡ true) }
     ensures gate { result ≡ Err Halt.Gate → Rose (G.faults gate.old) (G.faults gate.new) }
     ensures faults { result ≢ Err Halt.Gate → G.faults gate.new ≡ G.faults gate.old }
-    ensures unkept { result ≡ Err Halt.Unkept → S.has_failed service.new }
+    ensures halted { IfErr result (HasHalted S.Service G.Port.Port service.new (G.faults gate.new)) }
 {
-    for _ in 0..rounds {
-        go_round(gate, service, looping, clients)?;
+    loop {
+        let arrivals = go_round(gate, service, looping, clients)?;
+        if arrivals.has_ended() && clients.is_empty() {
+            return Ok(());
+        }
     }
-    Ok(())
 }
 
-// Gives back the connection at a key, if there is one, where no more can be kept.
+// Gives back the connection at a key, if there is one, where the loop has halted.
 fn close_at<G: Gate, S: Service>(
     gate: &mut G,
     service: &mut S,
     clients: &mut Slab<Client<G::Port, S::Seat>>,
     key: usize,
+    halt: Halt,
 )
     requires ready { S.ready service.old }
-    requires failed { S.has_failed service.old }
+    requires halted { HasHalted S.Service G.Port.Port service.old (G.faults gate.old) halt }
     requires served { AreServed S.Service G.Port.Port service.old clients.old }
-    requires back { WereServed S.Service G.Port.Port service.old (G.has_back gate.old) }
+    requires order { IsInOrder S.Service G.Port.Port G.Gate service.old gate.old
+        (numbers_in S.Service clients.old) }
+    requires out { G.out gate.old ≡ length (numbers_in S.Service clients.old) }
     ensures ready { S.ready service.new }
     ensures goes_on { S.goes_on service.old service.new }
     ensures served { AreServed S.Service G.Port.Port service.new clients.new }
-    ensures back { WereServed S.Service G.Port.Port service.new (G.has_back gate.new) }
-    ensures faults { G.faults gate.new ≡ G.faults gate.old }
+    ensures order { IsInOrder S.Service G.Port.Port G.Gate service.new gate.new
+        (numbers_in S.Service clients.new) }
+    ensures out { G.out gate.new ≡ length (numbers_in S.Service clients.new) }
+    ensures steady { IsSteady G.Gate gate.old gate.new }
+    ensures gone { get clients.new key ≡ None }
+    ensures rest { (j : ℕ) → get clients.old j ≡ None → get clients.new j ≡ None }
+    ensures slots { length clients.new.slots ≡ length clients.old.slots }
 {
-    let Some(over) = cut_off(service, clients, key) else {
+    let Some(over) = cut_off(service, clients, key, halt) else {
         return;
     };
     gate.done(over);
 }
 
-/// Gives back all connections where no more can be kept. What they owe will never be written.
-pub fn close<G: Gate, S: Service>(
+// Gives back all connections where the loop has halted. What they owe will never be written.
+fn close<G: Gate, S: Service>(
     gate: &mut G,
     service: &mut S,
     clients: &mut Slab<Client<G::Port, S::Seat>>,
+    halt: Halt,
 )
     requires ready { S.ready service.old }
-    requires failed { S.has_failed service.old }
+    requires halted { HasHalted S.Service G.Port.Port service.old (G.faults gate.old) halt }
     requires served { AreServed S.Service G.Port.Port service.old clients.old }
-    requires back { WereServed S.Service G.Port.Port service.old (G.has_back gate.old) }
+    requires order { IsInOrder S.Service G.Port.Port G.Gate service.old gate.old
+        (numbers_in S.Service clients.old) }
+    requires out { G.out gate.old ≡ length (numbers_in S.Service clients.old) }
     ensures ready { S.ready service.new }
     ensures goes_on { S.goes_on service.old service.new }
     ensures served { AreServed S.Service G.Port.Port service.new clients.new }
-    ensures back { WereServed S.Service G.Port.Port service.new (G.has_back gate.new) }
-    ensures faults { G.faults gate.new ≡ G.faults gate.old }
+    ensures order { IsInOrder S.Service G.Port.Port G.Gate service.new gate.new
+        (numbers_in S.Service clients.new) }
+    ensures out { G.out gate.new ≡ length (numbers_in S.Service clients.new) }
+    ensures steady { IsSteady G.Gate gate.old gate.new }
+    ensures none { numbers_in S.Service clients.new ≡ [] }
 {
     for key in 0..clients.capacity() {
-        close_at(gate, service, clients, key);
+        close_at(gate, service, clients, key, halt);
     }
+}
+
+/// Serves the connections that come through a gate, in rounds, until the gate is at its end and all of them are over. Each round
+/// waits until connections are ready, gives each of these its turn, and takes those that have come. At every end all connections
+/// were given back.
+///
+/// # Errors
+/// `Gate` where the gate failed, and `Unkept` where no more can be kept. Then what connections owe is never written, and each
+/// that hadn't ended was given back as `Halted`.
+pub fn serve<G: Gate, S: Service>(
+    gate: &mut G,
+    service: &mut S,
+    looping: &mut Loop,
+) -> Result<(), Halt>
+    requires ready { S.ready service.old }
+    requires order { IsInOrder S.Service G.Port.Port G.Gate service.old gate.old [] }
+    requires out { G.out gate.old ≡ 0 }
+    ensures ready { S.ready service.new }
+    ensures goes_on { S.goes_on service.old service.new }
+    ensures order { IsInOrder S.Service G.Port.Port G.Gate service.new gate.new [] }
+    ensures out { G.out gate.new ≡ 0 }
+    ensures end { OnOk result (G.ended gate.new ≡ true) }
+    ensures gate { result ≡ Err Halt.Gate → Rose (G.faults gate.old) (G.faults gate.new) }
+    ensures faults { result ≢ Err Halt.Gate → G.faults gate.new ≡ G.faults gate.old }
+    ensures unkept { result ≡ Err Halt.Unkept → S.has_failed service.new }
+{
+    let mut clients = nobody::<G::Port, S>(looping.alloc);
+    let halt = match go_on(gate, service, looping, &mut clients) {
+        Ok(()) => return Ok(()),
+        Err(halt) => halt,
+    };
+    close(gate, service, &mut clients, halt);
+    Err(halt)
 }

@@ -1,5 +1,5 @@
 // What answers the lines.
-ghost use Rattle.std.specs.Prelude.{◌≡◌, ◌≢◌, ℕ, List, true, OnOk, OnErr, IfOk};
+ghost use Rattle.std.specs.Prelude.{◌≡◌, ◌≢◌, ◌++◌, ◌∷◌, [], ℕ, List, true, OnOk, OnErr, IfOk, count_by, nat_eq};
 ghost use Rattle.ifdb_io.specs.Lines.{IsLine};
 ghost use Rattle.ifdb_loop.specs.Dialogues.{Dialogue, settled, silence, with_answer};
 
@@ -25,6 +25,9 @@ pub trait Service {
     /// The session of this number is over, and had this dialogue. If it was open at the end, it has left.
     ghost is_over: { Self → ℕ → Dialogue → Type 0 };
 
+    /// The numbers of the sessions that it opened, in order.
+    ghost opened: { Self → List ℕ };
+
     /// All that was answered from so far is kept.
     ghost is_kept: { Self → Type 0 };
 
@@ -46,6 +49,9 @@ pub trait Service {
         ensures ready { ready self.new }
         ensures goes_on { goes_on self.old self.new }
         ensures kept { is_kept self.old → is_kept self.new }
+        ensures opened { IfOk result (λ seat. opened self.new ≡ opened self.old ++ number seat ∷ []) }
+        ensures none { OnErr result (opened self.new ≡ opened self.old) }
+        ensures fresh { IfOk result (λ seat. count_by (nat_eq (number seat)) (opened self.old) ≡ 0) }
         ensures new { IfOk result (λ seat. says self.new seat silence) }
         ensures apart { IfOk result (λ seat. (other : Self.Seat) (d : Dialogue)
             → says self.old other d → number other ≢ number seat) }
@@ -53,15 +59,22 @@ pub trait Service {
             → says self.old other d → says self.new other d };
 
     /// Asks a line of a session that is open, and says whether it is open still.
-    fn ask(&mut self, seat: &mut Self::Seat, line: &[u8]) -> bool
+    ///
+    /// # Errors
+    /// `OutOfMemory` asks nothing.
+    fn ask(&mut self, seat: &mut Self::Seat, line: &[u8]) -> Result<bool, OutOfMemory>
         requires ready { ready self.old }
         requires line { IsLine line.now }
         requires says { (d : Dialogue) × says self.old seat.old d × (d.is_open ≡ true) }
         ensures ready { ready self.new }
         ensures goes_on { goes_on self.old self.new }
+        ensures opened { opened self.new ≡ opened self.old }
         ensures number { number seat.new ≡ number seat.old }
-        ensures told { (d : Dialogue) → d.is_open ≡ true → says self.old seat.old d
-            → says self.new seat.new (with_answer d line.now (text self.new) result) }
+        ensures told { IfOk result (λ is_open. (d : Dialogue) → d.is_open ≡ true
+            → says self.old seat.old d
+            → says self.new seat.new (with_answer d line.now (text self.new) is_open)) }
+        ensures unasked { OnErr result
+            ((d : Dialogue) → says self.old seat.old d → says self.new seat.new d) }
         ensures others { (other : Self.Seat) (d : Dialogue) → number other ≢ number seat.old
             → says self.old other d → says self.new other d };
 
@@ -70,6 +83,7 @@ pub trait Service {
         requires { ready self.old }
         ensures ready { ready self.new }
         ensures goes_on { goes_on self.old self.new }
+        ensures opened { opened self.new ≡ opened self.old }
         ensures text { text self.new ≡ long_text }
         ensures says { (seat : Self.Seat) (d : Dialogue)
             → says self.old seat d → says self.new seat d };
@@ -86,6 +100,7 @@ pub trait Service {
         requires { ready self.old }
         ensures ready { ready self.new }
         ensures goes_on { goes_on self.old self.new }
+        ensures opened { opened self.new ≡ opened self.old }
         ensures kept { OnOk result (is_kept self.new) }
         ensures failed { OnErr result (has_failed self.new) }
         ensures says { (seat : Self.Seat) (d : Dialogue)
@@ -97,6 +112,7 @@ pub trait Service {
         requires says { (d : Dialogue) × says self.old seat d }
         ensures ready { ready self.new }
         ensures goes_on { goes_on self.old self.new }
+        ensures opened { opened self.new ≡ opened self.old }
         ensures kept { is_kept self.old → is_kept self.new }
         ensures over { (d : Dialogue) → says self.old seat d → is_over self.new (number seat) d }
         ensures others { (other : Self.Seat) (d : Dialogue) → number other ≢ number seat

@@ -3,7 +3,7 @@ ghost use Rattle.std.specs.Prelude.{◌≡◌, ◌<◌, ◌≤◌, ℕ, List, No
 ghost use Rattle.ifdb_io.specs.Lines.{IsLine};
 ghost use Rattle.ifdb_io.specs.Reader.{BreaksAt};
 ghost use Rattle.ifdb_io.specs.declared.lines.TheConstants.{LONGEST_LINE};
-ghost use Rattle.ifdb_loop.specs.Closings.{ending_of};
+ghost use Rattle.ifdb_loop.specs.Closings.{EndsItself, ending_of};
 ghost use Rattle.ifdb_loop.specs.Exchange.{IsTooLong};
 ghost use Rattle.ifdb_loop.specs.Dialogues.{Dialogue};
 ghost use Rattle.ifdb_loop.specs.Standing.{HasExchanged, Stands, IsServed, KeepsOthers, StillExchanges};
@@ -27,6 +27,7 @@ fn take_in<P: Port, T>(
     ensures ending { client.new.ending ≡ None }
     ensures lost { client.new.is_lost ≡ client.old.is_lost }
     ensures writes { P.unwritten client.new.port ≡ P.unwritten client.old.port }
+    ensures own { EndsItself (ending_of result) }
 {
     chunk.load(client.wires.held());
     let Front::Part = chunk.front() else {
@@ -50,6 +51,7 @@ fn read<P: Port, T>(
     ensures ending { client.new.ending ≡ None }
     ensures lost { client.new.is_lost ≡ client.old.is_lost }
     ensures writes { P.unwritten client.new.port ≡ P.unwritten client.old.port }
+    ensures own { EndsItself (ending_of result) }
 {
     let room = client.room;
     let most = (SIZE - chunk.bytes().len()).min(room.max(1));
@@ -81,6 +83,7 @@ fn wait_on<P: Port, T>(client: &mut Client<P, T>, timing: &Timing) -> Result<(),
     ensures ending { client.new.ending ≡ client.old.ending }
     ensures lost { client.new.is_lost ≡ client.old.is_lost }
     ensures writes { P.unwritten client.new.port ≡ P.unwritten client.old.port }
+    ensures own { EndsItself (ending_of result) }
 {
     client.pace.is_full = false;
     if client.wires.owed() > 0 || !client.pace.is_silent(timing) {
@@ -90,12 +93,13 @@ fn wait_on<P: Port, T>(client: &mut Client<P, T>, timing: &Timing) -> Result<(),
     Err(Ending::LinkRead)
 }
 
-// Asks the first line of a chunk, which ends at this newline, and owes its reply.
+// Asks the first line of a chunk, which ends at this newline, and owes its reply. Where there is no memory to ask it, it stays.
 fn ask<P: Port, S: Service>(
     service: &mut S,
     chunk: &mut Chunk,
     n: usize,
     client: &mut Client<P, S::Seat>,
+    timing: &Timing,
 ) -> Result<(), Ending>
     requires ready { S.ready service.old }
     requires line { BreaksAt chunk.old n }
@@ -103,6 +107,7 @@ fn ask<P: Port, S: Service>(
     requires stands { Stands S.Service P.Port service.old client.old None chunk.old }
     ensures ready { S.ready service.new }
     ensures goes_on { S.goes_on service.old service.new }
+    ensures opened { S.opened service.new ≡ S.opened service.old }
     ensures stands { Stands S.Service P.Port service.new client.new (ending_of result) chunk.new }
     ensures number { S.number client.new.seat ≡ S.number client.old.seat }
     ensures others { KeepsOthers S.Service P.Port service.old service.new
@@ -110,8 +115,13 @@ fn ask<P: Port, S: Service>(
     ensures port { client.new.port ≡ client.old.port }
     ensures ending { client.new.ending ≡ client.old.ending }
     ensures lost { client.new.is_lost ≡ client.old.is_lost }
+    ensures own { EndsItself (ending_of result) }
 {
-    let is_open = service.ask(&mut client.seat, chunk.first(n));
+    let is_open = match service.ask(&mut client.seat, chunk.first(n)) {
+        Ok(is_open) => is_open,
+        Err(_) => return Err(Ending::OutOfMemory),
+    };
+    client.pace.greet(timing.now);
     chunk.pass(n + 1);
     if client.wires.put(service.text()).is_err() {
         return Err(Ending::OutOfMemory);
@@ -127,6 +137,7 @@ fn refuse_long<P: Port, S: Service>(service: &mut S, client: &mut Client<P, S::S
     requires { S.ready service.old }
     ensures ready { S.ready service.new }
     ensures goes_on { S.goes_on service.old service.new }
+    ensures opened { S.opened service.new ≡ S.opened service.old }
     ensures stands { (held : List ℕ) → IsTooLong held
         → Stands S.Service P.Port service.old client.old None held
         → Stands S.Service P.Port service.new client.new (Some result) held }
@@ -136,6 +147,7 @@ fn refuse_long<P: Port, S: Service>(service: &mut S, client: &mut Client<P, S::S
     ensures port { client.new.port ≡ client.old.port }
     ensures ending { client.new.ending ≡ client.old.ending }
     ensures lost { client.new.is_lost ≡ client.old.is_lost }
+    ensures own { EndsItself (Some result) }
 {
     service.refuse_long();
     if client.wires.put(service.text()).is_err() {
@@ -149,11 +161,13 @@ fn ask_lines<P: Port, S: Service>(
     service: &mut S,
     chunk: &mut Chunk,
     client: &mut Client<P, S::Seat>,
+    timing: &Timing,
 ) -> Result<(), Ending>
     requires ready { S.ready service.old }
     requires stands { Stands S.Service P.Port service.old client.old None chunk.old }
     ensures ready { S.ready service.new }
     ensures goes_on { S.goes_on service.old service.new }
+    ensures opened { S.opened service.new ≡ S.opened service.old }
     ensures stands { Stands S.Service P.Port service.new client.new (ending_of result) chunk.new }
     ensures number { S.number client.new.seat ≡ S.number client.old.seat }
     ensures others { KeepsOthers S.Service P.Port service.old service.new
@@ -161,17 +175,17 @@ fn ask_lines<P: Port, S: Service>(
     ensures port { client.new.port ≡ client.old.port }
     ensures ending { client.new.ending ≡ client.old.ending }
     ensures lost { client.new.is_lost ≡ client.old.is_lost }
+    ensures own { EndsItself (ending_of result) }
 {
     for _ in 0..LINES {
         if client.wires.owed() >= MUCH {
             return Ok(());
         }
         match chunk.front() {
-            Front::Line(n) => ask(service, chunk, n, client)?,
+            Front::Line(n) => ask(service, chunk, n, client, timing)?,
             Front::TooLong => return Err(refuse_long(service, client)),
             Front::Part => return Ok(()),
         }
-        client.pace.is_greeted = true;
     }
     Ok(())
 }
@@ -188,6 +202,7 @@ fn talk<P: Port, S: Service>(
     requires served { IsServed S.Service P.Port service.old client.old }
     ensures ready { S.ready service.new }
     ensures goes_on { S.goes_on service.old service.new }
+    ensures opened { S.opened service.new ≡ S.opened service.old }
     ensures ok { OnOk result (Stands S.Service P.Port service.new client.new None
         client.new.wires.held) }
     ensures stands { (held : List ℕ)
@@ -198,12 +213,10 @@ fn talk<P: Port, S: Service>(
     ensures ending { client.new.ending ≡ None }
     ensures lost { client.new.is_lost ≡ client.old.is_lost }
     ensures writes { P.unwritten client.new.port ≡ P.unwritten client.old.port }
+    ensures own { EndsItself (ending_of result) }
 {
     take_in(chunk, client, timing)?;
-    let before = chunk.bytes().len();
-    ask_lines(service, chunk, client)?;
-    let is_asked = chunk.bytes().len() < before;
-    client.pace.note(is_asked, timing.now);
+    ask_lines(service, chunk, client, timing)?;
     if client.wires.keep(chunk.bytes()).is_err() {
         return Err(Ending::OutOfMemory);
     }
@@ -223,6 +236,7 @@ pub fn turn<P: Port, S: Service>(
     requires served { IsServed S.Service P.Port service.old client.old }
     ensures ready { S.ready service.new }
     ensures goes_on { S.goes_on service.old service.new }
+    ensures opened { S.opened service.new ≡ S.opened service.old }
     ensures served { IsServed S.Service P.Port service.new client.new }
     ensures number { S.number client.new.seat ≡ S.number client.old.seat }
     ensures others { KeepsOthers S.Service P.Port service.old service.new

@@ -1,6 +1,6 @@
 use Rattle.std.proofs.Common.{◌≡◌, Some, rules}
 use Rattle.slab.specs.Slab.{get}
-use Rattle.ifdb_loop.proofs.Crowding.{AreServed-left}
+use Rattle.ifdb_loop.proofs.Crowding.{AreServed-left, empty_still, numbers_fewer}
 use Rattle.ifdb_loop.proofs.Leaving.{was_cut}
 use Rattle.ifdb_loop.proofs.crowd.cut_off.Goals as goal
 
@@ -19,6 +19,18 @@ returns-clause-served g c =
 pub returns-clause-over : goal.returns-clause-over
 returns-clause-over g c =
     let was : get c.args.clients.now c.args.key ≡ Some c.in-Some.client = search rules in
-    let failed = g.met.S.Service.stays_failed _ _ c.end.ensures.goes_on c.requires.failed in
-    was_cut g.S.Service g.P.Port c.args.service.now c.end.new.service c.in-Some.client c.end.result (c.requires.served.each c.args.key c.in-Some.client was)
-    failed c.end.ensures.over (search rules)
+    λ faults halted. record {
+      number = g.S.Service.number c.in-Some.client.seat;
+      fewer = numbers_fewer g.S.Service c.args.clients.now c.try_remove.new.self c.args.key c.in-Some.client was c.in-Some.ensures.updates;
+      served = was_cut g.S.Service g.P.Port c.args.service.now c.end.new.service faults c.args.halt c.in-Some.client c.end.result
+          (c.requires.served.each c.args.key c.in-Some.client was) halted c.end.ensures.over (search rules);
+    }
+
+pub returns-in_default-clause-gone : goal.returns-in_default-clause-gone
+returns-in_default-clause-gone g c = c.try_remove.ensures.updates.changed
+
+pub returns-in_default-clause-rest : goal.returns-in_default-clause-rest
+returns-in_default-clause-rest g c = λ j none. empty_still c.args.clients.now c.try_remove.new.self c.args.key j c.try_remove.ensures.updates none
+
+pub returns-clause-rest : goal.returns-clause-rest
+returns-clause-rest g c = λ j none. empty_still c.args.clients.now c.try_remove.new.self c.args.key j c.try_remove.ensures.updates none

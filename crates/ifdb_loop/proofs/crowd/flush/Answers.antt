@@ -1,10 +1,11 @@
-use Rattle.std.proofs.Common.{◌≡◌, ◌<◌, ◌∙◌, sym, arith, rules}
+use Rattle.std.proofs.Common.{◌≡◌, ◌<◌, ◌∙◌, sym, subst, arith, rules}
 use Rattle.std.specs.Prelude.{unwrap_or}
 use Rattle.ifdb_io.specs.Causes.{Rose}
 use Rattle.ifdb_loop.specs.declared.ending.Ending.TheVariants as ends
 use Rattle.ifdb_loop.specs.Dialogues.{settled}
 use Rattle.ifdb_loop.specs.Standing.{traffic_of}
-use Rattle.ifdb_loop.proofs.Endings.{went, lost}
+use Rattle.ifdb_loop.specs.Closings.{EndsItself}
+use Rattle.ifdb_loop.proofs.Endings.{went, lost, own_lost}
 use Rattle.ifdb_loop.proofs.crowd.flush.Goals as goal
 
 pub returns-then-is_ok-clause-served : goal.returns-then-is_ok-clause-served
@@ -19,7 +20,8 @@ returns-then-is_ok-clause-served g c =
         rw w.seat (g.met.S.Service.keeps_all _ _ _ c.requires.kept s.0.1),
         rw (w.ending, w.limit, w.room, w.held) (went _ _ before now _ _ _ _ _ s.0.0 w.given w.left w.unread w.sends w.cause.later (λ _. same) s.0.2),
       ),
-      λ is_lost. rw same (s.1 (sym w.lost ∙ is_lost)),
+      (λ is_lost. rw same (s.1 (sym w.lost ∙ is_lost))),
+      subst EndsItself (sym w.ending) s.2,
     )
 
 pub returns-clause-served : goal.returns-clause-served
@@ -36,5 +38,6 @@ returns-clause-served g c =
         rw w.seat (g.met.S.Service.keeps_all _ _ _ c.requires.kept s.0.1),
         rw (ending, w.limit, w.room, w.held) (lost _ _ before now _ _ _ _ _ s.0.0 w.given w.left w.unread w.sends w.cause.later fault s.0.2),
       ),
-      λ _. fault,
+      (λ _. fault),
+      rw ending (own_lost c.args.client.now.ending s.2),
     )

@@ -1,6 +1,6 @@
 use Rattle.std.proofs.Common.{◌≡◌, Some, rules}
 use Rattle.slab.specs.Slab.{get}
-use Rattle.ifdb_loop.proofs.Crowding.{AreServed-left, ended_is}
+use Rattle.ifdb_loop.proofs.Crowding.{AreServed-left, ended_is, numbers_fewer}
 use Rattle.ifdb_loop.proofs.Leaving.{was_served}
 use Rattle.ifdb_loop.proofs.crowd.hang_up.Goals as goal
 
@@ -20,5 +20,9 @@ pub returns-clause-over : goal.returns-clause-over
 returns-clause-over g c =
     let was : get c.args.clients.now c.args.key ≡ Some c.in-Some-try_remove.client = search rules in
     let ended = ended_is c.args.clients.now c.args.key c.in-Some-try_remove.client c.in-Some.ending was c.in-Some.ensures in
-    was_served g.S.Service g.P.Port c.args.service.now c.end.new.service c.in-Some-try_remove.client c.end.result c.in-Some.ending
-    (c.requires.served.each c.args.key c.in-Some-try_remove.client was) ended.0 c.end.ensures.over c.end.ensures.result ended.1
+    λ faults. record {
+      number = g.S.Service.number c.in-Some-try_remove.client.seat;
+      fewer = numbers_fewer g.S.Service c.args.clients.now c.try_remove.new.self c.args.key c.in-Some-try_remove.client was c.in-Some-try_remove.ensures.updates;
+      served = was_served g.S.Service g.P.Port c.args.service.now c.end.new.service faults c.in-Some-try_remove.client c.end.result c.in-Some.ending
+          (c.requires.served.each c.args.key c.in-Some-try_remove.client was) ended.0 c.end.ensures.over c.end.ensures.result ended.1;
+    }

@@ -1,6 +1,6 @@
 use Rattle.std.proofs.Common.{◌≡◌, Some, rules}
 use Rattle.slab.specs.Slab.{get}
-use Rattle.ifdb_loop.proofs.Crowding.{AreServed-changed}
+use Rattle.ifdb_loop.proofs.Crowding.{AreServed-changed, numbers_changed}
 use Rattle.ifdb_loop.proofs.crowd.turn_at.Goals as goal
 
 pub turn-requires-clause-served : goal.turn-requires-clause-served
@@ -14,3 +14,9 @@ returns-clause-served g c =
     AreServed-changed g.S.Service g.P.Port c.args.service.now c.turn.new.service c.args.clients.now c.try_remove.new.self c.insert_reserved.new.self
     c.args.key c.in-Some.client c.turn.new.client c.requires.served was c.in-Some.ensures.updates (search rules) c.turn.ensures.number c.turn.ensures.others
     c.turn.ensures.served
+
+pub returns-clause-numbers : goal.returns-clause-numbers
+returns-clause-numbers g c =
+    let was : get c.args.clients.now c.args.key ≡ Some c.in-Some.client = search rules in
+    numbers_changed g.S.Service c.args.clients.now c.try_remove.new.self c.insert_reserved.new.self c.args.key c.in-Some.client c.turn.new.client was
+    c.in-Some.ensures.updates (search rules) c.turn.ensures.number

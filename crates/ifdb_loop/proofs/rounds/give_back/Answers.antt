@@ -7,8 +7,9 @@ loop-key-init g c = record {
   goes_on = g.met.S.Service.goes_itself _;
   kept = c.requires.kept;
   served = c.requires.served;
-  back = c.requires.back;
-  faults = refl;
+  order = c.requires.order;
+  out = c.requires.out;
+  steady = record { most = refl; ended = refl; faults = refl };
 }
 
 pub loop-key-preserved : goal.loop-key-preserved
@@ -20,6 +21,11 @@ loop-key-preserved g c =
       goes_on = g.met.S.Service.goes_further _ _ _ i.goes_on done.goes_on;
       kept = done.kept;
       served = done.served;
-      back = done.back;
-      faults = done.faults ∙ i.faults;
+      order = done.order;
+      out = done.out;
+      steady = record {
+        most = done.steady.most ∙ i.steady.most;
+        ended = done.steady.ended ∙ i.steady.ended;
+        faults = done.steady.faults ∙ i.steady.faults;
+      };
     }

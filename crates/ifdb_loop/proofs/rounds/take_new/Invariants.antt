@@ -1,5 +1,6 @@
-use Rattle.std.proofs.Common.{◌≡◌}
-use Rattle.ifdb_loop.specs.Crowd.{AreServed, WereServed}
+use Rattle.std.proofs.Common.{◌≡◌, length}
+use Rattle.ifdb_loop.specs.Crowd.{AreServed, numbers_in}
+use Rattle.ifdb_loop.specs.Rounds.{IsInOrder, IsSteady}
 use Rattle.ifdb_loop.proofs.rounds.take_new.Given as goal
 
 -- each connection is served, and each that was given back was
@@ -9,6 +10,7 @@ invariant-loop g l = record {
   goes_on : g.S.Service.goes_on l.fn.service l.service;
   kept : g.S.Service.is_kept l.service;
   served : AreServed g.S.Service g.G.Port.Port l.service l.clients;
-  back : WereServed g.S.Service g.G.Port.Port l.service (g.G.Gate.has_back l.gate);
-  faults : g.G.Gate.faults l.gate ≡ g.G.Gate.faults l.fn.gate;
+  order : IsInOrder g.S.Service g.G.Port.Port g.G.Gate l.service l.gate (numbers_in g.S.Service l.clients);
+  out : g.G.Gate.out l.gate ≡ length (numbers_in g.S.Service l.clients);
+  steady : IsSteady g.G.Gate l.fn.gate l.gate;
 }

@@ -5,6 +5,7 @@ pub loop-init : goal.loop-init
 loop-init g c = record {
   ready = c.requires.ready;
   goes_on = g.met.S.Service.goes_itself _;
+  opened = refl;
   stands = c.requires.stands;
   number = refl;
   others = λ _ _ _ says. says;
@@ -20,6 +21,7 @@ loop-preserved g c =
     record {
       ready = step.ready;
       goes_on = g.met.S.Service.goes_further _ _ _ i.goes_on step.goes_on;
+      opened = step.opened ∙ i.opened;
       stands = step.stands;
       number = step.number ∙ i.number;
       others = λ other d apart says. step.others other d (λ e. apart (e ∙ i.number)) (i.others other d apart says);

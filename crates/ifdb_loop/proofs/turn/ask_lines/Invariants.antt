@@ -7,6 +7,7 @@ abbrev pub invariant-loop : goal.invariant-loop
 invariant-loop g l = record {
   ready : g.S.Service.ready l.service;
   goes_on : g.S.Service.goes_on l.fn.service l.service;
+  opened : g.S.Service.opened l.service ≡ g.S.Service.opened l.fn.service;
   stands : Stands g.S.Service g.P.Port l.service l.client None l.chunk;
   number : g.S.Service.number l.client.seat ≡ g.S.Service.number l.fn.client.seat;
   others : KeepsOthers g.S.Service g.P.Port l.fn.service l.service (g.S.Service.number l.fn.client.seat);

@@ -13,4 +13,5 @@ returns-clause-served g c =
     let k = c.in-Err.ensures.stands in (
       (k.1.0, k.1.1, ended_with _ _ _ _ _ k.0 _ _ _ k.1.2),
       λ is_lost. rw c.talk.ensures.writes (c.requires.served.1 (sym c.talk.ensures.lost ∙ is_lost)),
+      c.in-Err.ensures.own,
     )
