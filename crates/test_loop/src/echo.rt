@@ -89,8 +89,9 @@ impl Service for Echo {
         if self.opened == u64::MAX {
             return Err(OutOfMemory);
         }
+        let number = self.opened;
         self.opened += 1;
-        Ok(self.opened - 1)
+        Ok(number)
     }
 
     fn ask(&mut self, _seat: &mut u64, line: &[u8]) -> Result<bool, OutOfMemory> {
