@@ -1,5 +1,5 @@
 use Rattle.ifdb_loop.proofs.Beginning.{order_first}
 use Rattle.test_loop.proofs.tests.run.Goals as goal
 
-pub serve-requires-clause-order : goal.serve-requires-clause-order
-serve-requires-clause-order c = order_first _ _ _ _ _ c.new-echo.ensures c.in_ok-gate.ensures.back
+pub serve-end-requires-clause-order : goal.serve-end-requires-clause-order
+serve-end-requires-clause-order c = order_first _ _ _ _ _ c.new-echo.ensures c.in_ok-gate.ensures.back
