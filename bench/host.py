@@ -65,8 +65,8 @@ class Bench:
         print(f"{what:44} {clients:7} {statistics.median(rate() for _ in range(self.runs)):12,.0f}", flush=True)
 
 
-def host(file: pathlib.Path, clients: int) -> program.Server:
-    return program.Server(workers=clients + 1, command=program.hosting(file))
+def host(file: pathlib.Path) -> program.Server:
+    return program.Server(program.hosting(file))
 
 
 @contextlib.contextmanager
@@ -79,14 +79,14 @@ def inside(folder: str) -> Iterator[pathlib.Path]:
 def measure(bench: Bench, folder: str, kind: str) -> None:
     """Statements of a kind by `ifdb host` over a file in a folder."""
     for clients in bench.clients:
-        with inside(folder) as work, host(work / "file", clients) as server:
+        with inside(folder) as work, host(work / "file") as server:
             served.make_rows(server.port, bench.rows, program.ADMIN_KEY)
             bench.tell(f"ifdb host, {kind}, {folder}", clients, lambda: bench.rate(server.port, kind, clients))
 
 
 def measure_serve(bench: Bench) -> None:
     for clients in bench.clients:
-        with program.Server(workers=clients + 1) as server:
+        with program.Server(program.serving(workers=clients + 1)) as server:
             served.make_rows(server.port, bench.rows)
             bench.tell("ifdb serve, selects", clients, lambda: bench.rate(server.port, "selects", clients, key="admin"))
 
@@ -155,13 +155,13 @@ def measure_starts(bench: Bench, commits: int) -> None:
     clients = 16
     with inside("/dev/shm") as work:
         file = work / "file"
-        with host(file, clients) as server:
+        with host(file) as server:
             served.make_rows(server.port, 0, program.ADMIN_KEY)
             bench.rate(server.port, "inserts", clients, most=commits // clients)
         times = []
         for _ in range(bench.runs):
             begun = time.monotonic()
-            with host(file, clients):
+            with host(file):
                 times.append(time.monotonic() - begun)
         told = f"{statistics.median(times):.2f} s, over {file.stat().st_size:,} bytes"
         print(f"ifdb host, a start over {commits:,} commits: {told}", flush=True)

@@ -100,7 +100,7 @@ def make_rows(port: int, rows: int, key: str = "admin") -> None:
 
 
 def measure_ifdb(load: pathlib.Path, options: argparse.Namespace) -> None:
-    with program.Server(workers=max(options.clients) + 8) as server:
+    with program.Server(program.serving(workers=max(options.clients) + 8)) as server:
         make_rows(server.port, options.rows)
         told("ifdb", options, line_load(load, server.port, options), lambda: [server.pid])
 

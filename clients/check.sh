@@ -1,7 +1,7 @@
 #!/usr/bin/env bash
 # Tests what runs outside the kit, over the built program: the client, the shell, each stored dialogue, the clinic, TLS in front of a
-# server, recorded runs of the example scripts, journals and databases in files, the service, ranges of keys beside passes, transactions of
-# many writes, backups, and packages.
+# server, recorded runs of the example scripts, journals and databases in files, many connections, the service, ranges of keys beside passes,
+# transactions of many writes, backups, and packages.
 #
 #   clients/check.sh      the variable IFDB names another program than crates/ifdb/out/ifdb
 #
@@ -44,7 +44,7 @@ try python3 -m unittest discover -s clients/python
 mapfile -t dialogues < <(find examples -name '*.dialogue' ! -name web.dialogue | LC_ALL=C sort)
 try python3 clients/python/dialogue.py "${dialogues[@]}"
 try examples/tls/try.sh
-for test in clinic traces kept hosted service ranges many; do try python3 "tests/$test.py"; done
+for test in clinic traces kept hosted crowd service ranges many; do try python3 "tests/$test.py"; done
 try python3 tests/host_kills.py --kills 3 --clients 4 --life 0.3 --every 25
 try python3 tests/compact_kills.py --kills 20 --starts 0
 try python3 examples/backup/try.py

@@ -1,20 +1,23 @@
 #!/usr/bin/env python3
 """Plays the browsers of `web.dialogue` against the clinic's web application over a database in a file, by the built program, and
 compares what they are told, and what the log tells, with what stands there. Then has a crowd of browsers ask side by side, none of
-whom may be refused. Then kills the server while browsers ask, starts it again over its file and at its port, and looks whether the
-application, which went on, shows all that they had been told was done.
+whom may be refused, and then N people (300) twice each, for whom the application keeps a connection each. Then kills the server while
+browsers ask, starts it again over its file and at its port, and looks whether the application, which went on, shows all that they had
+been told was done.
 
-    tests/clinic.py [--update]      stores what was told
+    tests/clinic.py [--update] [--crowd N]      `--update` stores what was told
 
 The status is 0 if all was so, 1 if not, and 69 if the program has no command `host`.
 """
 
 from __future__ import annotations
 
+import argparse
 import base64
 import concurrent.futures
 import html.parser
 import pathlib
+import resource
 import sys
 import tempfile
 import threading
@@ -88,6 +91,23 @@ def refused_in_a_crowd(browsers: Browsers) -> int:
     return sum(status != "200" for status in replies)
 
 
+def wrong_in_a_large_crowd(browsers: Browsers, database: program.Server, people: int) -> List[str]:
+    """What is otherwise than it has to be where so many people ask for their page twice, and each keeps a connection in between."""
+    names = [f"clerk{it}" for it in range(people)]
+    with ifdb.connect(database.port, "admin", program.ADMIN_KEY, timeout=program.PATIENCE) as admin:
+        cursor = admin.cursor()
+        for name in names:
+            cursor.execute(f"CREATE PRINCIPAL {name} KEY ?", (start.key_of(name),))
+        cursor.executemany("INSERT INTO person VALUES (?, 'clerk')", [(name,) for name in names])
+    wrong = []
+    with concurrent.futures.ThreadPoolExecutor(16) as crowd:
+        for place in ("first", "second"):
+            untold = sum(status != "200" for status in crowd.map(lambda name: browsers.ask(name, "GET /")[0], names))
+            wrong += [f"{untold} weren't told their {place} page"] if untold else []
+    held = len(list(pathlib.Path(f"/proc/{database.pid}/fd").iterdir()))
+    return wrong + ([f"the server has {held} descriptors open"] if held < people else [])
+
+
 def mails(browsers: Browsers, name: str) -> List[str]:
     """The mails that somebody's home page shows."""
     page = browsers.ask(name, "GET /")
@@ -105,7 +125,7 @@ def wrong_behind_a_kill(browsers: Browsers, database: program.Server, file: path
         database.stop()
         waiting = [it for it in asked if not it.cancel()]
     done = sum(it.result()[0] == "200" for it in waiting)
-    with program.Server(command=program.hosting(file), port=database.port):
+    with program.Server(program.hosting(file), port=database.port):
         wrong = ["a second start made a clinic"] if start.start(database.port, program.ADMIN_KEY) else []
         behind = mails(browsers, "ann")
         if behind[: len(before)] != before or not done <= len(behind) - len(before) <= done + 4:
@@ -124,30 +144,35 @@ def let_eve_in(port: int) -> None:
 
 
 def main(words: Sequence[str]) -> int:
-    if list(words) not in ([], ["--update"]):
-        print(__doc__, file=sys.stderr)
-        return 2
+    parser = argparse.ArgumentParser(description=__doc__, formatter_class=argparse.RawDescriptionHelpFormatter)
+    parser.add_argument("--update", action="store_true")
+    parser.add_argument("--crowd", type=int, default=300)
+    given = parser.parse_args(words)
+    most = resource.getrlimit(resource.RLIMIT_NOFILE)[1]
+    resource.setrlimit(resource.RLIMIT_NOFILE, (most, most))
     if not program.can_host():
         print(f"clinic: nothing was tried: {program.path()} isn't there, or has no command host", file=sys.stderr)
         return NOT_HERE
     log: List[str] = []
     with tempfile.TemporaryDirectory(prefix="ifdb-clinic-") as folder:
         file = pathlib.Path(folder) / "clinic"
-        with program.Server(command=program.hosting(file)) as database:
+        with program.Server(program.hosting(file)) as database:
             start.start(database.port, program.ADMIN_KEY)
             let_eve_in(database.port)
             with app.serve(database.port, 0, log.append) as web:
                 threading.Thread(target=web.serve_forever).start()
                 try:
                     browsers = Browsers(web.server_port, log)
-                    differing = dialogue.differs(CLINIC / "web.dialogue", browsers.ask, update=bool(words))
+                    differing = dialogue.differs(CLINIC / "web.dialogue", browsers.ask, update=given.update)
                     refused = refused_in_a_crowd(browsers)
+                    crowded = wrong_in_a_large_crowd(browsers, database, given.crowd)
                     wrong = wrong_behind_a_kill(browsers, database, file)
                 finally:
                     web.shutdown()
     print(f"the clinic's web dialogue {'differs' if differing else 'is as stored'}; {refused} of 20 requests in a crowd failed")
+    print(f"{given.crowd} people, with a connection each: {'; '.join(crowded) or 'all were told'}")
     print(f"behind a kill: {'; '.join(wrong) or 'all that was told is there'}")
-    return 1 if differing or refused or wrong else 0
+    return 1 if differing or refused or crowded or wrong else 0
 
 
 if __name__ == "__main__":

@@ -78,7 +78,7 @@ def found(port: int) -> Tuple[int, Dict[int, int]]:
 
 def tell(clients: int, transactions: int) -> List[str]:
     """Runs the clients, and returns what is wrong, if anything."""
-    with program.Server(workers=clients + 1, links=2) as server:
+    with program.Server(program.serving(workers=clients + 1, links=2)) as server:
         prepare(server.port)
         all_clients = [Client(server.port, number, transactions) for number in range(clients)]
         begun = time.monotonic()

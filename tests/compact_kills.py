@@ -48,7 +48,7 @@ class Database(NamedTuple):
 
 
 def host(file: pathlib.Path) -> program.Server:
-    return program.Server(workers=1, command=program.hosting(file), quiet=True)
+    return program.Server(program.hosting(file, loops=1), quiet=True)
 
 
 def ask(file: pathlib.Path, requests: Sequence[str]) -> List[str]:

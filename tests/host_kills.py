@@ -26,6 +26,7 @@ from __future__ import annotations
 import argparse
 import pathlib
 import random
+import signal
 import subprocess
 import sys
 import tempfile
@@ -47,8 +48,8 @@ class Lost(Exception):
     """What is there isn't what has to be."""
 
 
-def host(file: pathlib.Path, workers: int, links: int = 1_000_000, quiet: bool = False) -> program.Server:
-    return program.Server(workers=workers, links=links, command=program.hosting(file), quiet=quiet)
+def host(file: pathlib.Path, quiet: bool = False, **options: int) -> program.Server:
+    return program.Server(program.hosting(file, **options), quiet=quiet)
 
 
 def told(session: program.Session, request: str) -> List[List[str]]:
@@ -241,7 +242,7 @@ def try_kills(file: pathlib.Path, kills: int, sizes: Sequence[int], life: float,
     slowest = 0.0
     for round in range(kills + 1):
         begun = time.monotonic()
-        with host(file, workers=min(max(sizes) + 1, 64)) as server:
+        with host(file) as server:
             slowest = max(slowest, time.monotonic() - begun)
             with program.connected(server.port) as session:
                 session.answer(program.HELLO)
@@ -305,7 +306,7 @@ def small(file: pathlib.Path) -> List[Front]:
     """Makes a small file, and returns what was there before the steps and after each."""
     fronts = []
     steps: List[List[str]] = [[], *STEPS]
-    with host(file, workers=2) as server, program.connected(server.port) as session:
+    with host(file) as server, program.connected(server.port) as session:
         session.answer(program.HELLO)
         for step in steps:
             for request in step:
@@ -318,10 +319,11 @@ def shown(file: pathlib.Path) -> Optional[State]:
     """What the program shows of a file, or None where it refuses it, as it has to: with status 8, and leaving it as it is."""
     before = file.read_bytes()
     try:
-        with host(file, workers=1, links=1, quiet=True) as server:
+        with host(file, quiet=True, loops=1) as server:
             state = state_at(server.port)
-            if server.status() != 0:
-                raise Lost(f"it ended with status {server.status()}")
+            ended = server.terminated()
+            if ended != (-signal.SIGTERM, ""):
+                raise Lost(f"it ended with this status and output: {ended}")
             return state
     except program.NotServing as refusal:
         if refusal.status != DAMAGED:
@@ -375,7 +377,7 @@ def try_full(folder: pathlib.Path, rng: random.Random) -> str:
 
 def fill(folder: pathlib.Path, rng: random.Random) -> str:
     file, ledger = folder / "log", Ledger()
-    with host(file, workers=5) as server:
+    with host(file) as server:
         with program.connected(server.port) as session:
             session.answer(program.HELLO)
             for request in SETTING:
@@ -392,7 +394,7 @@ def fill(folder: pathlib.Path, rng: random.Random) -> str:
     size = file.stat().st_size
     for room in ("64k", "1m"):
         subprocess.run(["mount", "-o", f"remount,size={room}", str(folder)], check=True)
-        with host(file, workers=1) as server, program.connected(server.port) as session:
+        with host(file) as server, program.connected(server.port) as session:
             session.answer(program.HELLO)
             session.answer("SET LABEL (secret)")
             ledger.check(session)

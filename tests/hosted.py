@@ -10,6 +10,8 @@ The status is 1 where something was otherwise, and 69 where the program has no s
 from __future__ import annotations
 
 import pathlib
+import resource
+import signal
 import subprocess
 import sys
 import tempfile
@@ -34,8 +36,8 @@ def expect(what: str, found: object, wanted: object) -> None:
         raise Otherwise(f"{what}: {found!r} in place of {wanted!r}")
 
 
-def host(file: pathlib.Path, workers: int = 4, links: int = 1_000_000) -> program.Server:
-    return program.Server(workers=workers, links=links, command=program.hosting(file), quiet=True)
+def host(file: pathlib.Path) -> program.Server:
+    return program.Server(program.hosting(file), quiet=True)
 
 
 def admin(port: int) -> program.Session:
@@ -83,10 +85,12 @@ def what_was_told_is_kept(folder: pathlib.Path) -> None:
     with host(file) as server, admin(server.port) as session:
         expect("a key that is there", session.ask("INSERT INTO note VALUES (2, 'again')"), ["ERR 13 DuplicateKey"])
         session.answer("UPDATE note SET body = 'second' WHERE id = 2")
-    with host(file, workers=1, links=1) as server, admin(server.port) as session:
+    with host(file) as server, admin(server.port) as session:
         expect("behind a second kill", session.answer("SELECT id, body FROM note"), ["ROWS 1 2", "2\tsecond"])
-        session.answer("BYE")
-        expect("the status", server.status(), 0)
+        session.answer("UPDATE note SET body = 'third' WHERE id = 2")
+        expect("a stop", server.terminated(), (-signal.SIGTERM, ""))
+    with host(file) as server, admin(server.port) as session:
+        expect("behind a stop", session.answer("SELECT id, body FROM note"), ["ROWS 1 2", "2\tthird"])
 
 
 def nothing_is_kept_of_what_only_looks(folder: pathlib.Path) -> None:
@@ -159,7 +163,7 @@ def without_a_key_nobody_is_served(folder: pathlib.Path) -> None:
     with host(file) as server, program.connected(server.port) as session:
         expect("the key that all know", session.ask("HELLO admin KEY 'admin'"), ["ERR 4 BadKey"])
     key.write_text("another\r\n")
-    with program.Server(command=("host", "--file", file, "--admin-key", key), quiet=True) as server, program.connected(server.port) as session:
+    with program.Server(("host", "--file", file, "--admin-key", key), quiet=True) as server, program.connected(server.port) as session:
         session.answer("HELLO admin KEY 'another'")
         expect("what the other key's admin sees", session.answer("SELECT id FROM note"), ["ROWS 0 1"])
 
@@ -182,16 +186,15 @@ def what_stands_before_damage_goes_on(folder: pathlib.Path) -> None:
 
 
 def a_full_disk_loses_nothing(folder: pathlib.Path) -> None:
+    """The loop that meets it ends the others, whose connections are silent."""
     file, told = folder / "full", 0
-    with program.Server(workers=3, command=program.hosting(file), quiet=True, largest_file=FULL) as server:
+    with program.Server(program.hosting(file, loops=3), quiet=True, limits={resource.RLIMIT_FSIZE: FULL}) as server:
         with admin(server.port) as session, admin(server.port) as other:
             session.answer("CREATE TABLE note (id INT, body TEXT, PRIMARY KEY (id))")
             while not is_ended(session, f"INSERT INTO note VALUES ({told}, NULL)"):
                 told += 1
+            expect("the status", server.status(), DISK_FAULT)
             expect("another connection behind it", is_ended(other, "SELECT id FROM note"), True)
-        with program.connected(server.port) as late:  # (by which the last worker learns of it)
-            expect("a later connection", is_ended(late, "SHOW LABEL"), True)
-        expect("the status", server.status(), DISK_FAULT)
     expect("that there were some", told > 50, True)
     expect("what a start finds", ids(file), [str(it) for it in range(told)])
 

@@ -24,86 +24,13 @@ import sys
 import threading
 import time
 from collections.abc import Callable, Iterator
-from typing import Dict, List, Optional
+from typing import ContextManager, Dict, List, Optional
+
+from wires import PATIENCE, Client, Steady, Wrong, check, working
 
 ROOT = pathlib.Path(__file__).resolve().parents[1]
 PROGRAM = pathlib.Path(os.environ.get("BENCH_LOOP", ROOT / "crates/bench_loop/out/bench_loop"))
-PATIENCE = 30.0
-"""Seconds that a client waits for what comes at once."""
 NOT_HERE = 69
-
-
-class Wrong(Exception):
-    """A client saw something else than it should."""
-
-
-def check(holds: bool, what: str) -> None:
-    if not holds:
-        raise Wrong(what)
-
-
-class Client:
-    """A client, which sends lines and reads replies."""
-
-    def __init__(self, port: int) -> None:
-        self.link = socket.create_connection(("127.0.0.1", port), timeout=PATIENCE)
-        self.link.setsockopt(socket.IPPROTO_TCP, socket.TCP_NODELAY, 1)
-
-    def send(self, data: bytes) -> None:
-        self.link.sendall(data)
-
-    def read(self, count: int) -> bytes:
-        """So many bytes, or fewer at the end."""
-        heard = bytearray()
-        while len(heard) < count:
-            piece = self.link.recv(min(count - len(heard), 1 << 20))
-            if not piece:
-                break
-            heard += piece
-        return bytes(heard)
-
-    def expect(self, want: bytes) -> None:
-        heard = self.read(len(want))
-        check(heard == want, f"{heard[:40]!r} and so on ({len(heard)} bytes) in place of {want[:40]!r} ({len(want)})")
-
-    def ask(self, line: bytes, reply: Optional[bytes] = None) -> None:
-        self.send(line + b"\n")
-        self.expect((line if reply is None else reply) + b"\n")
-
-    def expect_end(self) -> None:
-        try:
-            heard = self.link.recv(1)
-        except ConnectionResetError:
-            raise Wrong("a reset in place of the end") from None
-        check(not heard, "more in place of the end")
-
-    def close(self) -> None:
-        self.link.close()
-
-
-class Steady(threading.Thread):
-    """A client that works beside the others, and the longest time for which it waited."""
-
-    def __init__(self, port: int) -> None:
-        super().__init__()
-        self.client = Client(port)
-        self.longest = 0.0
-        self.asked = 0
-        self.wrong: Optional[str] = None
-        self.stops = threading.Event()
-
-    def run(self) -> None:
-        try:
-            while not self.stops.is_set():
-                begun = time.monotonic()
-                self.client.ask(b"steady %d" % self.asked)
-                self.longest = max(self.longest, time.monotonic() - begun)
-                self.asked += 1
-                time.sleep(0.001)
-            self.client.ask(b"BYE")
-            self.client.expect_end()
-        except (OSError, Wrong) as error:
-            self.wrong = f"the client beside it: {error}"
 
 
 class Server:
@@ -129,7 +56,7 @@ class Server:
             check(self.process.poll() is None, "the server ended")
             with contextlib.suppress(OSError):
                 client = Client(self.port)
-                client.ask(b"BYE")
+                client.ask(b"BYE", b"BYE")
                 client.expect_end()
                 client.close()
                 return
@@ -157,22 +84,9 @@ def served(loops: int, files: Optional[int] = None, **terms: int) -> Iterator[Se
         server.end()
 
 
-@contextlib.contextmanager
-def beside(server: Server) -> Iterator[Steady]:
-    steady = Steady(server.port)
-    steady.start()
-    try:
-        yield steady
-    finally:
-        steady.stops.set()
-        steady.join()
-        steady.client.close()
-    if steady.wrong is not None:
-        raise Wrong(steady.wrong)
-
-
-def words_of(steady: Steady) -> str:
-    return f"the client beside it waited {steady.longest * 1000:.1f} ms at the longest, in {steady.asked} requests"
+def beside(server: Server) -> ContextManager[Steady]:
+    """A client that is said back what it says, as long as the block lasts."""
+    return working(Steady(Client(server.port), lambda asked: (b"steady %d" % asked,) * 2, b"BYE"))
 
 
 def sends_and_reads_nothing(loops: int) -> str:
@@ -186,9 +100,9 @@ def sends_and_reads_nothing(loops: int) -> str:
             time.sleep(pause)
             client.expect(lines)
             sender.join()
-        client.ask(b"BYE")
+        client.ask(b"BYE", b"BYE")
         client.expect_end()
-    return words_of(steady)
+    return steady.told()
 
 
 def sends_a_byte_at_a_time(loops: int) -> str:
@@ -201,7 +115,7 @@ def sends_a_byte_at_a_time(loops: int) -> str:
                 time.sleep(0.001)
             client.expect(line)
         client.close()
-    return words_of(steady)
+    return steady.told()
 
 
 def stops_in_the_middle_of_a_reply(loops: int) -> str:
@@ -213,9 +127,9 @@ def stops_in_the_middle_of_a_reply(loops: int) -> str:
         client.expect(b"x" * (count // 2))
         time.sleep(2)
         client.expect(b"x" * (count - count // 2) + b"\nbehind it\n")
-        client.ask(b"more")
+        client.ask(b"more", b"more")
         client.close()
-    return words_of(steady)
+    return steady.told()
 
 
 def says_bye_with_more_behind_it(loops: int) -> str:
@@ -226,19 +140,19 @@ def says_bye_with_more_behind_it(loops: int) -> str:
             client.expect(b"first\nBYE\n")
             client.expect_end()
             client.close()
-    return words_of(steady)
+    return steady.told()
 
 
 def sends_too_long_a_line(loops: int) -> str:
     with served(loops) as server, beside(server) as steady:
         client = Client(server.port)
         longest = b"y" * 65_535
-        client.ask(longest)
+        client.ask(longest, longest)
         client.send(b"before\n" + longest + b"y" * 500_000)
         client.expect(b"before\n!\n")
         client.expect_end()
         client.close()
-    return words_of(steady)
+    return steady.told()
 
 
 def sends_many_lines_at_once(loops: int) -> str:
@@ -250,7 +164,7 @@ def sends_many_lines_at_once(loops: int) -> str:
             client.send(lines)
             client.expect(lines)
         client.close()
-    return words_of(steady)
+    return steady.told()
 
 
 def shuts_behind_many_lines(loops: int) -> str:
@@ -267,7 +181,7 @@ def shuts_behind_many_lines(loops: int) -> str:
             client.expect(lines[len(lines) // 2 :])
             client.expect_end()
             client.close()
-    return words_of(steady)
+    return steady.told()
 
 
 def leave_in_all_ways(loops: int) -> str:
@@ -281,7 +195,7 @@ def leave_in_all_ways(loops: int) -> str:
                 client.expect(b"line\n")
                 client.expect_end()
             client.close()
-    return words_of(steady)
+    return steady.told()
 
 
 def stand_idle(loops: int, count: int) -> str:
@@ -304,7 +218,7 @@ def stand_idle(loops: int, count: int) -> str:
         for client in clients:
             client.close()
     said = f"{count} came in {connected:.1f} s and took {memory / count:.0f} bytes each"
-    return f"{said}; {words_of(steady)}"
+    return f"{said}; {steady.told()}"
 
 
 def lack_descriptors(loops: int) -> str:
@@ -317,7 +231,7 @@ def lack_descriptors(loops: int) -> str:
             client.expect(b"BYE\n")
             client.expect_end()
             client.close()
-    return words_of(steady)
+    return steady.told()
 
 
 def are_too_many(loops: int) -> str:
@@ -325,15 +239,15 @@ def are_too_many(loops: int) -> str:
     with served(1, connections=5) as server, beside(server) as steady:
         clients = [Client(server.port) for _ in range(4)]
         for client in clients:
-            client.ask(b"in")
+            client.ask(b"in", b"in")
         late = Client(server.port)
         check(late.read(1) == b"", "one too many was served")
-        clients[0].ask(b"BYE")
+        clients[0].ask(b"BYE", b"BYE")
         clients[0].expect_end()
         time.sleep(0.1)
-        Client(server.port).ask(b"in too")
+        Client(server.port).ask(b"in too", b"in too")
         del loops
-    return words_of(steady)
+    return steady.told()
 
 
 def are_put_out(loops: int) -> str:
@@ -341,7 +255,7 @@ def are_put_out(loops: int) -> str:
     with served(loops, hello=2, idle=4, stall=6) as server, beside(server) as steady:
         begun = time.monotonic()
         mute, silent, stalled, slow = (Client(server.port) for _ in range(4))
-        silent.ask(b"once")
+        silent.ask(b"once", b"once")
         stalled.send(b"*50000000\n")
         slow.send(b"*50000000\n")
         slow.read(1000)
@@ -357,7 +271,7 @@ def are_put_out(loops: int) -> str:
         check(len(slow.read(22_999_001)) == 22_999_001, "the slow one lacks bytes")
         for client in (mute, silent, stalled, slow):
             client.close()
-    return words_of(steady)
+    return steady.told()
 
 
 def tries(loops: int, idle: int) -> Dict[str, Callable[[], str]]:

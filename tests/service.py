@@ -20,7 +20,6 @@ import socket
 import subprocess
 import sys
 import tempfile
-import time
 from collections.abc import Callable, Iterator
 from typing import Dict, List, Optional
 
@@ -52,7 +51,7 @@ class Service:
         """`limit` is one of the system's on what a process may take, and `most` how much that is."""
         self.port = program.free_port()
         files = {"IFDB": str(program.path()), "IFDB_FILE": str(file), "IFDB_ADMIN_KEY": str(program.ADMIN_KEY_FILE)}
-        words = {**files, "IFDB_PORT": str(self.port), "IFDB_WORKERS": "4", "IFDB_WATCH": "1"}
+        words = {**files, "IFDB_PORT": str(self.port), "IFDB_LOOPS": "4"}
         environment: Dict[str, str] = {**os.environ, **words}
         if listener is not None:
             environment["NOTIFY_SOCKET"] = listener.getsockname()
@@ -116,7 +115,6 @@ def it_is_ready_when_it_listens(folder: pathlib.Path) -> None:
         expect("the status of a stop", service.status(), ENDED)
     with Service(folder / "db") as service:
         expect("a line", service.line(), f"LISTENING {service.port}\n")
-        time.sleep(2.5)  # (it looks at itself in between)
         with service.admin() as session:
             expect("what was told before the stop", session.answer("SELECT id FROM note")[1:], ["1"])
 
@@ -131,7 +129,7 @@ def other_files_end_it(folder: pathlib.Path) -> None:
 
 
 def a_disk_fault_ends_it(folder: pathlib.Path) -> None:
-    """Its one client is gone then: its own looks end the workers that wait."""
+    """The loop that meets it ends the others."""
     told = 0
     with Service(folder / "db", None, resource.RLIMIT_FSIZE, FULL) as service:
         service.line()

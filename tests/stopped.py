@@ -74,7 +74,7 @@ def is_held(pool: concurrent.futures.Executor, sessions: List[program.Session], 
 
 def tell(clients: int, statements: int) -> bool:
     """Stops each thread in turn, and says how often some client wasn't answered that should have been."""
-    with program.Server(workers=clients) as server:
+    with program.Server(program.serving(workers=clients)) as server:
         sessions = [program.connected(server.port) for _ in range(clients)]
         for session in sessions:
             session.answer("HELLO admin KEY 'admin'")

@@ -10,9 +10,11 @@ where they are others, and 69 where strace or the command host isn't there.
 
 from __future__ import annotations
 
+import os
 import pathlib
 import re
 import shutil
+import signal
 import subprocess
 import sys
 import tempfile
@@ -34,7 +36,7 @@ def served(folder: pathlib.Path, requests: List[str]) -> List[str]:
     """The calls of a server whose one client asks some requests, as strace tells them."""
     port, trace = program.free_port(), folder / "trace"
     traced = ["strace", "-f", "-qq", "-e", "trace=openat,flock,fsync,pwrite64,recvfrom,sendto", "-o", str(trace)]
-    words = [str(program.path()), *map(str, program.hosting(folder / "db")), f"--port={port}", "--workers=1", "--links=1"]
+    words = [str(program.path()), *map(str, program.hosting(folder / "db", loops=1)), f"--port={port}"]
     with subprocess.Popen([*traced, *words], stdout=subprocess.PIPE, text=True) as server:
         assert server.stdout
         if server.stdout.readline() != f"LISTENING {port}\n":
@@ -42,6 +44,9 @@ def served(folder: pathlib.Path, requests: List[str]) -> List[str]:
         with program.connected(port) as session:
             for request in requests:
                 session.answer(request)
+            session.rest()
+        child = pathlib.Path(f"/proc/{server.pid}/task/{server.pid}/children").read_text()
+        os.kill(int(child), signal.SIGTERM)
         server.wait(program.PATIENCE)
     return trace.read_text().splitlines()
 

@@ -25,7 +25,6 @@ ROOTS = [
     *(f"ifdb_io/src/{name}.rt" for name in ("outside", "doors")),
     *(f"ifdb_disk/src/{name}.rt" for name in ("disk", "shelf")),
     "ifdb_folder/src/folder.rt",
-    *(f"ifdb_keyed/src/{name}.rt" for name in ("link", "door", "site")),
     *(f"{crate}/src/laws.rt" for crate in ("ifdb_parse", "ifdb_keep", "ifdb_keyed")),
 ]
 # The rules by which the parser's definition reads. The laws of ifdb_parse tie what they give to the written grammar.

@@ -46,7 +46,7 @@ def items(told: Iterable[tuple[str, str]]) -> Iterator[str]:
 def commands() -> Iterator[tuple[str, str]]:
     """The words of each command, and what it does, as ./ifdb tells them."""
     told = subprocess.run([TOP / "ifdb", "help"], stdout=subprocess.PIPE, text=True, check=True).stdout
-    for form, does in re.findall(r"^ +\./(ifdb .*?) {2,}(.*)$", told, re.M):
+    for form, does in re.findall(r"^ +\./(ifdb .*?)\s{2,}(.*)$", told, re.M):
         if form.split()[1] not in SCRIPTS_OWN:
             yield form, does
 

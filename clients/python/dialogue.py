@@ -80,7 +80,7 @@ def main(words: Optional[Sequence[str]] = None) -> int:
     options = parser.parse_args(words)
     differing = 0
     for path in options.files:
-        with program.Server(workers=16) as server:
+        with program.Server(program.serving(workers=16)) as server:
             connections = Connections(server.port)
             differing += differs(path, connections.ask, update=options.update)
             connections.close()

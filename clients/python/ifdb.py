@@ -326,7 +326,7 @@ class Session:
         self, port: int, host: str = "127.0.0.1", timeout: Optional[float] = None, *, ssl: Optional[SSLContext] = None
     ) -> None:
         """Connects to a served ifdb. `timeout` is in seconds, for connecting and for each wait for more of a reply: also for the
-        first reply of all, which comes when a worker of the server is free. With `ssl` it speaks TLS, to what stands in front of
+        first reply of all, which `serve` gives once a worker is free. With `ssl` it speaks TLS, to what stands in front of
         the server; a context that checks names, as that of `ssl.create_default_context`, wants a certificate for `host`.
 
         Raises OperationalError where nobody serves there, or not by that TLS."""
@@ -602,7 +602,7 @@ def connect(
 ) -> Connection:
     """Connects to a served ifdb as a principal, and says HELLO.
 
-    `timeout` is in seconds, for connecting and for each wait for more of a reply. A server that has no worker free answers later,
+    `timeout` is in seconds, for connecting and for each wait for more of a reply. `serve` without a free worker answers later,
     so it counts for HELLO too. With `ssl` it speaks TLS, as `Session` does. With `reconnect`, if the server ended the connection
     while nobody asked and no transaction was open, the next request goes over a new one, at the same label: nothing of it was sent
     before. A connection that is lost within a request is closed all the same, since nobody knows what became of that. `columns`
@@ -976,8 +976,8 @@ class Pool:
         autocommit: bool = False,
         columns: Optional[Columns] = None,
     ) -> None:
-        """A pool of at most `size` connections at a time, each made by `connect` once it is wanted. Each holds a worker of the
-        server, also while nobody has it. Raises ProgrammingError where `user` is no name or `size` isn't positive."""
+        """A pool of at most `size` connections at a time, each made by `connect` once it is wanted. Each stays open while
+        nobody has it, and holds a worker of `serve`. Raises ProgrammingError where `user` is no name or `size` isn't positive."""
         if size < 1:
             raise ProgrammingError(f"a pool of {size} connections has none")
         self.user = user.lower()

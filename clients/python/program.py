@@ -7,12 +7,13 @@ import os
 import pathlib
 import re
 import resource
+import signal
 import socket
 import subprocess
 import time
 from collections.abc import Iterable, Iterator, Mapping, Sequence
 from types import TracebackType
-from typing import IO, Dict, List, NamedTuple, Optional, Type, TypeVar, Union
+from typing import IO, Dict, List, NamedTuple, Optional, Tuple, Type, TypeVar, Union
 
 ROOT = pathlib.Path(__file__).resolve().parents[2]
 PATIENCE = 20.0
@@ -153,6 +154,13 @@ class Session:
         except OSError as fault:
             raise Ended(str(fault)) from fault
 
+    def rest(self) -> bytes:
+        """What else is told, up to the end. Raises Ended where the other side is cut off."""
+        try:
+            return self._told.read()
+        except OSError as fault:
+            raise Ended(str(fault)) from fault
+
     def close(self) -> None:
         with contextlib.suppress(OSError):  # (of what could not be sent)
             self._asked.close()
@@ -208,9 +216,15 @@ def recorded(script: Iterable[bytes], words: Sequence[Word] = ("run",)) -> Itera
 # ---- A served program
 
 
-def hosting(file: Word) -> List[Word]:
-    """The words that serve the database in a file, but for those that `Server` adds. `HELLO` is what its admin begins with."""
-    return ["host", "--file", file, "--admin-key", ADMIN_KEY_FILE]
+def serving(workers: int = 8, links: int = 1_000_000) -> List[Word]:
+    """The words that serve from memory, but for those that `Server` adds."""
+    return ["serve", f"--workers={workers}", f"--links={links}"]
+
+
+def hosting(file: Word, **options: int) -> List[Word]:
+    """The words that serve the database in a file, with some options, but for those that `Server` adds. `HELLO` is what its admin
+    begins with."""
+    return ["host", "--file", file, "--admin-key", ADMIN_KEY_FILE, *(f"--{name}={value}" for name, value in options.items())]
 
 
 def free_port() -> int:
@@ -238,30 +252,34 @@ class NotServing(OSError):
 
 
 class Server:
-    """`ifdb serve`, or another command that serves, until the end of the `with` block."""
+    """A command that serves, `serving()` or `hosting(file)` with options, until the end of the `with` block."""
 
     def __init__(
         self,
-        workers: int = 8,
-        links: int = 1_000_000,
+        command: Sequence[Word] = (),
         limit: int = 2**30,
-        command: Sequence[Word] = ("serve",),
         quiet: bool = False,
-        largest_file: Optional[int] = None,
         port: Optional[int] = None,
+        limits: Optional[Mapping[int, int]] = None,
     ) -> None:
-        """Waits until it listens, and raises NotServing where it doesn't. If `quiet`, what it says on standard error is dropped. None
-        of its files grows past `largest_file` bytes: a write past them fails. It serves at a free port, or at `port`."""
+        """Waits until it listens, and raises NotServing where it doesn't. Without a command it is `serving()`. If `quiet`, what it says
+        on standard error is dropped. It serves at a free port, or at `port`, and keeps to `limits` of the system, by their numbers in
+        `resource`: a write past RLIMIT_FSIZE fails."""
         self.port = free_port() if port is None else port
-        words = [f"--port={self.port}", f"--workers={workers}", f"--links={links}", f"--limit={limit}"]
+        words = [f"--port={self.port}", f"--limit={limit}"]
         said = subprocess.DEVNULL if quiet else None
+
+        def keep_to_limits() -> None:
+            for kind, most in (limits or {}).items():
+                resource.setrlimit(kind, (most, most))
+
         self._process = subprocess.Popen(
-            [path(), *command, *words],
+            [path(), *(command or serving()), *words],
             stdout=subprocess.PIPE,
             stderr=said,
             text=True,
-            restore_signals=largest_file is None,  # (Python sets aside the signal that such a write sends)
-            preexec_fn=None if largest_file is None else lambda: resource.setrlimit(resource.RLIMIT_FSIZE, (largest_file,) * 2),
+            restore_signals=not limits,  # (Python sets aside the signal that a write past such a limit sends)
+            preexec_fn=keep_to_limits if limits else None,
         )
         self.pid = self._process.pid
         assert self._process.stdout is not None
@@ -280,6 +298,19 @@ class Server:
     def status(self, patience: float = PATIENCE) -> int:
         """The status with which it ends."""
         return self._process.wait(patience)
+
+    def is_running(self) -> bool:
+        return self._process.poll() is None
+
+    def terminated(self, patience: float = PATIENCE) -> Tuple[int, str]:
+        """Ends the server by SIGTERM, and gives its status and what it wrote behind LISTENING."""
+        self._process.send_signal(signal.SIGTERM)
+        told, _ = self._process.communicate(timeout=patience)
+        return self._process.returncode, told
+
+    def resident(self) -> int:
+        """The bytes of its memory that the system has for it now."""
+        return int(pathlib.Path(f"/proc/{self.pid}/statm").read_text().split()[1]) * resource.getpagesize()
 
     def stop(self) -> None:
         """Ends the server at once, if it hasn't ended."""

@@ -365,7 +365,7 @@ class Served(unittest.TestCase):
 
     @classmethod
     def setUpClass(cls) -> None:
-        cls.server = program.Server(workers=16)
+        cls.server = program.Server(program.serving(workers=16))
         cls.addClassCleanup(cls.server.stop)
         with cls.connect() as admin:
             for request in (
@@ -692,7 +692,7 @@ class Served(unittest.TestCase):
             ifdb.connect(program.free_port(), "admin", "admin")
 
     def test_no_worker_is_free(self) -> None:
-        with program.Server(workers=1) as server, ifdb.connect(server.port, "admin", "admin"):
+        with program.Server(program.serving(workers=1)) as server, ifdb.connect(server.port, "admin", "admin"):
             with self.assertRaisesRegex(ifdb.OperationalError, "no reply within 0.2 s"):
                 ifdb.connect(server.port, "admin", "admin", timeout=0.2)
 
@@ -707,7 +707,7 @@ class Served(unittest.TestCase):
         connection.close()
 
     def test_closed_sessions_are_no_faults_to_the_server(self) -> None:
-        with program.Server(workers=1, links=3) as server:
+        with program.Server(program.serving(workers=1, links=3)) as server:
             ifdb.connect(server.port, "admin", "admin").close()
             with ifdb.connect(server.port, "admin", "admin") as connection:
                 connection.cursor().execute("SHOW LABEL")

@@ -31,7 +31,7 @@ class OverAServer(unittest.TestCase):
     server: program.Server
 
     def setUp(self) -> None:
-        self.server = program.Server(workers=4)
+        self.server = program.Server(program.serving(workers=4))
         self.addCleanup(self.server.stop)
         with ifdb.connect(self.server.port, "admin", "admin", autocommit=True) as admin:
             for request in SETTING:
@@ -58,7 +58,7 @@ class Pools(OverAServer):
     """What goes back to a pool, and who gets it."""
 
     def test_threads_share_a_pool_of_few_connections(self) -> None:
-        with program.Server(workers=2, links=1) as server:  # so there are no more than two connections ever
+        with program.Server(program.serving(workers=2, links=1)) as server:  # so there are no more than two connections ever
             with ifdb.Pool(server.port, "admin", "admin", timeout=program.PATIENCE, size=2) as pool:
                 with pool.connection() as one, pool.connection() as other:
                     one.cursor().execute("CREATE TABLE note (id INT, PRIMARY KEY (id))")
@@ -100,7 +100,7 @@ class Pools(OverAServer):
         self.assertEqual(self.notes("ann"), [])
 
     def test_one_that_cant_come_down_is_closed(self) -> None:
-        with program.Server(workers=1, links=3) as server:  # so a connection is served once the one before it is closed
+        with program.Server(program.serving(workers=1, links=3)) as server:  # (one is served once the one before it is closed)
             with ifdb.connect(server.port, "admin", "admin") as admin:
                 admin.cursor().execute("CREATE TAG secret")
                 admin.cursor().execute("CREATE PRINCIPAL bob KEY 'b'")

@@ -33,8 +33,8 @@ class Otherwise(Exception):
     """A copy shows what it must not."""
 
 
-def host(file: pathlib.Path, workers: int) -> program.Server:
-    return program.Server(workers=workers, command=program.hosting(file), quiet=True)
+def host(file: pathlib.Path) -> program.Server:
+    return program.Server(program.hosting(file), quiet=True)
 
 
 class Client(threading.Thread):
@@ -63,7 +63,7 @@ class Client(threading.Thread):
 
 def commits_in(file: pathlib.Path, clients: int) -> List[int]:
     """How many of each client's commits a database shows, which have to be the first ones."""
-    with host(file, 1) as server, program.connected(server.port) as session:
+    with host(file) as server, program.connected(server.port) as session:
         session.answer(program.HELLO)
         rows = session.answer("SELECT client, number FROM entry")[1:]
     numbers: Dict[int, List[int]] = {client: [] for client in range(clients)}
@@ -104,7 +104,7 @@ def check(what: str, file: pathlib.Path, clients: List[Client], least: List[int]
 def try_all(work: pathlib.Path, given: argparse.Namespace) -> None:
     file, standby = work / "db", work / "standby"
     backups: List[Backup] = []
-    with host(file, given.clients + 1) as server:
+    with host(file) as server:
         with program.connected(server.port) as session:
             session.answer(program.HELLO)
             session.answer("CREATE TABLE entry (client INT, number INT, PRIMARY KEY (client, number))")

@@ -6,9 +6,10 @@
 Behind `examples/clinic/start.py IFDB_PORT`, a browser at http://127.0.0.1:WEB_PORT/ asks for a name and a key: ann and ann-key, bob
 and bob-key, grey and grey-key, clerk and clerk-key.
 
-Each request has a connection of its own, which says HELLO as who asks, so the application keeps no key and has no authority. A page
-leaves only where the session could come back to the empty label, by the authority of who reads it. `Application.page_once` sees to
-that for every handler, and is the one place of this file that has to be right.
+Each request has a connection that said HELLO as who asks, by the key that the browser sent: the application has no authority of its own.
+It keeps the connections of who asked, in a pool for each. A page leaves only where the session could come back to the empty label, by
+the authority of who reads it. `Application.page_once` sees to that for every handler, and with `Application.pool` is what has to be
+right in this file.
 """
 
 from __future__ import annotations
@@ -19,6 +20,7 @@ import html
 import http.server
 import pathlib
 import sys
+import threading
 import urllib.parse
 from http import HTTPStatus
 from typing import Callable, Dict, FrozenSet, Iterable, List, NamedTuple, Optional, Sequence, Tuple
@@ -31,6 +33,8 @@ PATIENCE = 10.0
 """Seconds that the database has for an answer."""
 TRIES = 20
 """How often a request is begun at most, where its transaction meets others."""
+SIZE, MOST = 4, 4_000
+"""How many connections one who asks has at most, and of how many of them connections are kept."""
 
 
 class Request(NamedTuple):
@@ -153,6 +157,33 @@ class Application:
     def __init__(self, port: int, log: Callable[[str], None]) -> None:
         self._port = port
         self._log = log
+        self._pools: Dict[Tuple[str, str], ifdb.Pool] = {}
+        """By a name and a key, which the server has heard; who asked last is the last."""
+        self._lock = threading.Lock()
+
+    def pool(self, user: str, key: str) -> ifdb.Pool:
+        """The connections of who asks by this name and this key, and of nobody else. Who has asked for none for the longest time is
+        forgotten where there are too many."""
+        with self._lock:
+            pool = self._pools.pop((user, key), None) or ifdb.Pool(self._port, user, key, timeout=PATIENCE, size=SIZE)
+            self._pools[user, key] = pool
+            oldest = self._pools.pop(next(iter(self._pools))) if len(self._pools) > MOST else None
+        if oldest is not None:
+            oldest.close()
+        return pool
+
+    def forget(self, user: str, key: str) -> None:
+        with self._lock:
+            pool = self._pools.pop((user, key), None)
+        if pool is not None:
+            pool.close()
+
+    def close(self) -> None:
+        """Closes all connections."""
+        with self._lock:
+            pools, self._pools = list(self._pools.values()), {}
+        for pool in pools:
+            pool.close()
 
     def answer(self, user: str, key: str, target: str) -> Reply:
         """The reply to somebody's request. What the database refuses is a line of the log, and a page that says nothing of it."""
@@ -165,6 +196,7 @@ class Application:
         except ifdb.Error as error:
             self._log(f"{user} {target!a}: {'; then '.join(refusals(error))}")
             if error.name == "BadKey":
+                self.forget(user, key)
                 return NOBODY
             return Reply(HTTPStatus.INTERNAL_SERVER_ERROR, document("Something went wrong", "<p>Nothing was shown or sent.</p>"))
 
@@ -185,7 +217,7 @@ class Application:
         Handlers begin at the label of who reads: a patient's own, the doctor's that of all patients, the clerk's the empty one.
         Whatever came of a handler, the label then goes down to the empty one, by the authority of who reads alone. Where the
         database refuses that, somebody else's secret was read, and there is no page."""
-        with ifdb.connect(self._port, user, key, timeout=PATIENCE) as connection:
+        with self.pool(user, key).connection() as connection:
             role = role_of(connection)
             label = {"patient": frozenset({connection.user}), "doctor": frozenset({"patients"})}.get(role, frozenset())
             try:
@@ -237,10 +269,23 @@ class Handler(http.server.BaseHTTPRequestHandler):
         """Nothing: the application has a log of its own, in which no key stands."""
 
 
-def serve(port: int, web_port: int, log: Callable[[str], None]) -> http.server.ThreadingHTTPServer:
+class Web(http.server.ThreadingHTTPServer):
+    """A web server of an application, whose connections end with it."""
+
+    request_queue_size = 1024
+
+    def __init__(self, web_port: int, application: Application) -> None:
+        self._application = application
+        super().__init__(("127.0.0.1", web_port), type("Handler", (Handler,), {"application": application}))
+
+    def server_close(self) -> None:
+        super().server_close()
+        self._application.close()
+
+
+def serve(port: int, web_port: int, log: Callable[[str], None]) -> Web:
     """A web server of the application at this port of this machine, to be run by `serve_forever`."""
-    handler = type("Handler", (Handler,), {"application": Application(port, log)})
-    return http.server.ThreadingHTTPServer(("127.0.0.1", web_port), handler)
+    return Web(web_port, Application(port, log))
 
 
 def main(words: Sequence[str]) -> int:

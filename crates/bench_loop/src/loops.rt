@@ -17,20 +17,21 @@ struct Served<'a, R> {
 }
 
 // The rounds of a loop, if no connection is out yet.
-fn go_round<R: Net + Wait + Clock>(alloc: Global, one: &mut Served<'_, R>) {
-    let mut echo = Echo::new(alloc, 0);
+fn go_round<R: Net + Wait + Clock>(alloc: Global, limit: usize, one: &mut Served<'_, R>) {
+    let mut echo = Echo::new(alloc, limit, 0);
     if one.gate.out() == 0 {
         let _ = serve(&mut one.gate, &mut echo, &mut one.looping);
     }
 }
 
-/// Serves this port by so many loops.
+/// Serves this port by so many loops, each of whose connections may give so many bytes.
 pub fn serve_port<R>(
     rt: &R,
     alloc: Global,
     port: u16,
     count: usize,
     terms: Terms,
+    limit: usize,
 ) -> anyhow::Result<()>
 where
     R: Net<Listener = TcpListener, Stream = TcpStream> + Threads + Wait + Clock + Sync,
@@ -51,7 +52,7 @@ where
         rt,
         &mut loops,
         count,
-        &|_, one: &mut Served<'_, R>| { go_round(alloc, one) },
+        &|_, one: &mut Served<'_, R>| { go_round(alloc, limit, one) },
     );
     Ok(())
 }

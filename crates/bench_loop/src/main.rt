@@ -36,13 +36,14 @@ fn main(rt: HostRuntime) -> anyhow::Result<()> {
     }
     let port = u16::try_from(number(words.next(), 7070)).unwrap_or(7070);
     let loops = count(number(words.next(), 1));
+    let connections = count(number(words.next(), 10_000));
+    let limit = count(number(words.next(), 1 << 40));
     let terms = Terms {
-        connections: count(number(words.next(), 10_000)),
-        bytes: count(number(words.next(), 1 << 40)),
+        connections,
         hello: number(words.next(), 10),
         idle: number(words.next(), 600),
         stall: number(words.next(), 60),
     };
-    loops::serve_port(&rt, rt.alloc(), port, loops, terms)?;
+    loops::serve_port(&rt, rt.alloc(), port, loops, terms, limit)?;
     Ok(())
 }

@@ -5,11 +5,13 @@ use test_loop::Echo;
 
 const TERMS: Terms = Terms {
     connections: 10,
-    bytes: 1000,
     hello: 20,
     idle: 20,
     stall: 20,
 };
+
+// How many bytes each connection may give.
+const LIMIT: usize = 1000;
 
 // What comes, each as text, how many bytes a read gives, and how many a write takes.
 const COMING: [(&str, usize, usize); 4] = [
@@ -42,7 +44,7 @@ fn served(alloc: Global) -> Result<MemoryGate, AllocError> {
         all.push(coming(alloc, text, read, write)?)?;
     }
     let mut gate = MemoryGate::new(alloc, all, 100)?;
-    let mut echo = Echo::new(alloc, 0);
+    let mut echo = Echo::new(alloc, LIMIT, 0);
     let mut looping = Loop::new(alloc, TERMS)?;
     let _ = serve(&mut gate, &mut echo, &mut looping);
     Ok(gate)

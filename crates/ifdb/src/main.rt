@@ -6,8 +6,8 @@ mod adapters;
 use adapters::{Reading, Writing};
 use ifdb_file::{FileShelf, ReadShelf};
 use ifdb_io::write_all;
-use ifdb_keyed::KeyedSite;
 use ifdb_net::TcpSite;
+use ifdb_ready::TcpGates;
 use ifdb_service::write_numbered;
 use ifdb_top::{HostStatus, MoreStatus, Status, top_host};
 use std::io;
@@ -26,7 +26,8 @@ fn main(rt: HostRuntime) -> ExitCode {
     };
     let mut input = Reading::new(rt.stdin());
     let mut output = Writing::new(rt.stdout());
-    let mut site = KeyedSite::new(rt.alloc(), TcpSite::new(&rt, rt.alloc()));
+    let mut site = TcpSite::new(&rt, rt.alloc());
+    let mut gates = TcpGates::new(&rt, rt.alloc());
     let mut folder = FileShelf::new(&rt);
     let mut shelf = FileShelf::new(&rt);
     let mut secrets = ReadShelf::new(&rt);
@@ -36,6 +37,7 @@ fn main(rt: HostRuntime) -> ExitCode {
         &mut input,
         &mut output,
         &mut site,
+        &mut gates,
         &mut folder,
         &mut shelf,
         &mut secrets,

@@ -52,9 +52,11 @@ module _ {Q : Type 0} (recorders : recorder.Ghosts Q) where
 module _ {R Q S : Type 0} (recorders : recorder.Ghosts Q) (settlers : settler.Ghosts S Q) (stays : (s t : S) (n : ℕ) → settlers.goes_on s t → settlers.is_kept s n → settlers.is_kept t n) where
   -- ---- the desk itself, where its pass has gone on
 
-  pub goes_by : ((s : S) → settlers.goes_on s s) → (s t : Desk R Q S) → Sees recorders.first s.hall.now s.pass t.pass → t.hall ≡ s.hall → t.keeper ≡ s.keeper → GoesOn recorders settlers s t
-  goes_by itself s t sees hall keeper = record {
+  pub goes_by : ((s : S) → settlers.goes_on s s) → (s t : Desk R Q S) → Sees recorders.first s.hall.now s.pass t.pass → t.hall ≡ s.hall → t.keeper ≡ s.keeper
+      → t.limit ≡ s.limit → GoesOn recorders settlers s t
+  goes_by itself s t sees hall keeper limit = record {
     hall = hall;
+    limit = limit;
     begins = sees.begins;
     right = λ _. sees.orderly.0;
     shares = sees.shares;

@@ -24,9 +24,10 @@ module _ {R Q S : Type 0} (recorders : recorder.Ghosts Q) (settlers : settler.Gh
     pub keeper : settlers.ready s.keeper
     pub settled : s.is_settled ≡ true → settlers.is_kept s.keeper s.mark
 
-  -- the second is at the same room, has seen all that the first had, and knows all that it knew
+  -- the second is at the same room, takes as many bytes of a connection, has seen all that the first had, and knows all that it knew
   pub record GoesOn (s t : Desk R Q S) : Type 0 where
     pub hall : t.hall ≡ s.hall
+    pub limit : t.limit ≡ s.limit
     pub begins : IsPrefix (history s.pass) (history t.pass)
     pub right : AllRight (IsRight (start_of recorders.first)) (history s.pass) → AllRight (IsRight (start_of recorders.first)) (history t.pass)
     pub shares : shares t.pass ≡ shares s.pass

@@ -1,3 +1,4 @@
+-- decides: a served database
 -- What a session was told that is known to be kept.
 use Rattle.std.specs.Prelude.{◌≡◌, ◌⊎◌, ℕ, true, List, [], ◌∷◌, ◌++◌}
 use mathlib.Core.List.{IsPrefix}

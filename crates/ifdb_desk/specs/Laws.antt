@@ -57,12 +57,13 @@ module _ (first : List LogEntry) (IsKept StillKept : List (List ℕ) → Type 0)
 
 module _ {R Q S : Type 0} (recorders : recorder.Ghosts Q) (settlers : settler.Ghosts S Q) where
   pub goes_itself : ((s : S) → settlers.goes_on s s) → (s : Desk R Q S) → GoesOn recorders settlers s s
-  goes_itself itself s = record { hall = refl; begins = prefix_itself (history s.pass); right = λ right. right; shares = refl; keeper = itself s.keeper; held = λ n has. has }
+  goes_itself itself s = record { hall = refl; limit = refl; begins = prefix_itself (history s.pass); right = λ right. right; shares = refl; keeper = itself s.keeper; held = λ n has. has }
 
   pub goes_further : ((r s t : S) → settlers.goes_on r s → settlers.goes_on s t → settlers.goes_on r t) → (r s t : Desk R Q S)
       → GoesOn recorders settlers r s → GoesOn recorders settlers s t → GoesOn recorders settlers r t
   goes_further further r s t p q = record {
     hall = q.hall ∙ p.hall;
+    limit = q.limit ∙ p.limit;
     begins = prefix-trans (history r.pass) (history s.pass) (history t.pass) p.begins q.begins;
     right = λ right. q.right (p.right right);
     shares = q.shares ∙ p.shares;

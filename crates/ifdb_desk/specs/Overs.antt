@@ -1,3 +1,4 @@
+-- decides: a served database
 -- Sessions that are over, in a history.
 use Rattle.std.specs.Prelude.{◌≡◌, ℕ, Bool, true, false, List}
 use mathlib.Core.List.{IsPrefix}

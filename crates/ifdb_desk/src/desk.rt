@@ -26,8 +26,10 @@ pub struct Desk<'a, R, Q: Records, S> {
     pub pass: Pass<SharedRoom<Q>>,
     /// By what the loop waits until that is kept which its replies are answered from.
     pub keeper: S,
-    // The reply to the line that was asked last.
-    out: Out,
+    /// How many bytes a connection may give.
+    pub limit: usize,
+    /// The reply to the line that was asked last.
+    pub out: Out,
     // How many records of the journal all replies so far rest on.
     mark: u64,
     // Whether these are known to be kept.
@@ -37,7 +39,7 @@ pub struct Desk<'a, R, Q: Records, S> {
 impl<'a, R: Wait, Q: Records, S: Settles<Q>> Desk<'a, R, Q, S> {
     ghost use Rattle.ifdb_desk.specs.Desks.{IsReady};
 
-    /// A desk that has answered nothing yet. Its replies are put into `out`.
+    /// A desk that has answered nothing yet, and takes so many bytes of a connection. Its replies are put into `out`.
     pub fn new(
         rt: &'a R,
         alloc: Global,
@@ -45,6 +47,7 @@ impl<'a, R: Wait, Q: Records, S: Settles<Q>> Desk<'a, R, Q, S> {
         pass: Pass<SharedRoom<Q>>,
         keeper: S,
         out: Out,
+        limit: usize,
     ) -> Desk<'a, R, Q, S>
         requires pass { BelongsTo hall.now pass }
         requires orderly { IsOrderly (IsRight (start_of Q.first)) pass }
@@ -53,6 +56,7 @@ impl<'a, R: Wait, Q: Records, S: Settles<Q>> Desk<'a, R, Q, S> {
         ensures hall { result.hall.now ≡ hall.now }
         ensures pass { result.pass ≡ pass }
         ensures keeper { result.keeper ≡ keeper }
+        ensures limit { result.limit ≡ limit }
     {
         Desk {
             rt,
@@ -60,6 +64,7 @@ impl<'a, R: Wait, Q: Records, S: Settles<Q>> Desk<'a, R, Q, S> {
             hall,
             pass,
             keeper,
+            limit,
             out,
             mark: 0,
             is_settled: false,
@@ -116,6 +121,8 @@ impl<'a, R: Wait, Q: Records, S: Settles<Q>> Service for Desk<'a, R, Q, S> {
 
     ghost long_text = { long_text };
 
+    ghost limit = { λ desk. desk.limit };
+
     fn open(&mut self) -> Result<Place, OutOfMemory> {
         let number = open(self.rt, self.hall, &mut self.pass)?;
         Ok(Place {
@@ -147,6 +154,10 @@ impl<'a, R: Wait, Q: Records, S: Settles<Q>> Service for Desk<'a, R, Q, S> {
         self.out.bytes()
     }
 
+    fn limit(&self) -> usize {
+        self.limit
+    }
+
     fn settle(&mut self) -> Result<(), Failed> {
         if self.is_settled {
             return Ok(());
@@ -170,6 +181,8 @@ impl<'a, R: Wait, Q: Records, S: Settles<Q>> Service for Desk<'a, R, Q, S> {
     ghost goes_itself = { goes_itself _ _ S.goes_itself };
 
     ghost goes_further = { goes_further _ _ S.goes_further };
+
+    ghost keeps_limit = { λ s t goes. goes.limit };
 
     ghost stays_over = { stays_over _ _ S.stays_kept };
 

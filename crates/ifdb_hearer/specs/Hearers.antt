@@ -1,3 +1,4 @@
+-- decides: a served database
 -- What a service is asked where its lines are heard by a key for admin.
 use Rattle.std.specs.Prelude.{◌≡◌, ℕ, List, map}
 use Rattle.ifdb_keyed.specs.Keyed.{keyed_line}

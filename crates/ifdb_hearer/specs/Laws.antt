@@ -1,7 +1,7 @@
 -- What stays of a service and its sessions, where its lines are heard by a key for admin.
 use Rattle.std.specs.Prelude.{ℕ}
 use Rattle.std.proofs.Common.{refl, ◌∙◌}
-use Rattle.ifdb_keyed.specs.Links.{key_bytes}
+use Rattle.ifdb_keyed.specs.Keys.{key_bytes}
 use Rattle.ifdb_loop.specs.Dialogues.{Dialogue}
 use Rattle.ifdb_hearer.specs.declared.hearer.Hearer.{Hearer}
 use Rattle.ifdb_hearer.specs.Hearers.{GoesOn, heard_dialogue}

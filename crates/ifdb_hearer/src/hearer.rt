@@ -38,7 +38,7 @@ impl<S> Hearer<S> {
 impl<S: Service> Service for Hearer<S> {
     ghost use Rattle.ifdb_hearer.specs.Hearers.{GoesOn, heard_dialogue};
     ghost use Rattle.ifdb_hearer.specs.Laws.{goes_further, goes_itself, stays_over};
-    ghost use Rattle.ifdb_keyed.specs.Links.{key_bytes};
+    ghost use Rattle.ifdb_keyed.specs.Keys.{key_bytes};
 
     type Seat = S::Seat;
 
@@ -62,6 +62,8 @@ impl<S: Service> Service for Hearer<S> {
 
     ghost long_text = { S.long_text };
 
+    ghost limit = { λ hearer. S.limit hearer.service };
+
     fn open(&mut self) -> Result<S::Seat, OutOfMemory> {
         self.service.open()
     }
@@ -79,6 +81,10 @@ impl<S: Service> Service for Hearer<S> {
         self.service.text()
     }
 
+    fn limit(&self) -> usize {
+        self.service.limit()
+    }
+
     fn settle(&mut self) -> Result<(), Failed> {
         self.service.settle()
     }
@@ -92,6 +98,8 @@ impl<S: Service> Service for Hearer<S> {
     ghost goes_itself = { goes_itself S.goes_on S.goes_itself };
 
     ghost goes_further = { goes_further S.goes_on S.goes_further };
+
+    ghost keeps_limit = { λ s t goes. S.keeps_limit s.service t.service goes.service };
 
     ghost stays_over = { stays_over S.goes_on S.is_over S.stays_over };
 

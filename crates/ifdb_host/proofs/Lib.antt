@@ -1,4 +1,5 @@
 mod Rests
 mod Keeping
+mod AtGates
 mod Openings
 mod Visits

@@ -2,10 +2,10 @@
 use Rattle.std.proofs.Common.{◌≡◌, inl, inr, ℕ, List, [], ◌++◌, refl, sym, subst, arith, append-nil}
 use Rattle.std.specs.Prelude.{Option, Some, None}
 use Rattle.ifdb_io.specs.Causes.{Rose}
-use Rattle.ifdb_io.specs.declared.outside.Source as source
 use Rattle.ifdb_io.specs.declared.outside.Sink as sink
-use Rattle.ifdb_io.specs.declared.doors.Door as door
-use Rattle.ifdb_io.specs.declared.doors.Site as site
+use Rattle.ifdb_loop.specs.declared.gate.Gate as gate
+use Rattle.ifdb_loop.specs.declared.gate_site.GateSite as site
+use Rattle.ifdb_loop.specs.declared.port.Port as port
 use Rattle.ifdb_disk.specs.Images.{IsImage}
 use Rattle.ifdb_disk.specs.Clock.{Clock, Leaves, Now}
 use Rattle.ifdb_disk.proofs.Moments.{since_here}
@@ -15,8 +15,7 @@ use Rattle.ifdb_log.specs.declared.fault.LogFault.TheVariants as fault
 use Rattle.ifdb_log.specs.Title.{IsOther, IsLog, IsSettled}
 use Rattle.ifdb_model.specs.Log.{Entry as LogEntry}
 use Rattle.ifdb_history.specs.declared.entry.Entry.{Entry}
-use Rattle.ifdb_words.specs.declared.service.Service.{Service}
-use Rattle.ifdb_service.proofs.AtSite.{served_wider}
+use Rattle.ifdb_gates.specs.Served.{Run}
 use Rattle.ifdb_reopen.specs.Causes.{IsCaused}
 use Rattle.ifdb_reopen.specs.Files.{IsFileOf, IsFileOn, IsNewOn, IsOldOrBare, IsTold, IsUnopened, ShowsLog}
 use Rattle.ifdb_reopen.proofs.Unopened.{bare_unopened, file_behind, log_not_new, new_behind, shown_on, told_behind, unopened_before, IsTitledFrom}
@@ -25,6 +24,8 @@ use Rattle.ifdb_host.specs.Hosted.{end_of, DiskSpan, HostsSite, IsHosted, IsKept
 use Rattle.ifdb_host.specs.Serving.{IsKeptBehind, LeavesFronts, ServedHere, ServesOpened}
 use Rattle.ifdb_host.specs.declared.end.HostEnd.{HostEnd}
 use Rattle.ifdb_host.specs.declared.end.HostEnd.TheVariants as ends
+use Rattle.ifdb_host.specs.declared.plan.Plan.{Plan}
+use Rattle.ifdb_host.proofs.AtGates.{served_wider}
 
 abbrev pub kept_before : (t u v : Option Clock) (h : List Entry) → IsTitledFrom t u → IsKeptOn u v h → IsKeptOn t v h
 kept_before t u v h k kept = record {
@@ -38,40 +39,43 @@ kept_before t u v h k kept = record {
   fronts = λ told. kept.fronts (told_behind t u k told);
 }
 
-module _ {S D K : Type 0} (sites : site.Ghosts S D K) (doors : door.Ghosts D K) (sources : source.Ghosts K) (sinks : sink.Ghosts K) where
-  hosted_before : (HasFailed HasFailed' : Type 0) → (HasFailed → HasFailed') → (Wrote : List ℕ → Type 0) (s : Service) (before after : S) (t u v : Option Clock) (m n o : ℕ) → IsTitledFrom t u
-      → IsHosted sites doors sources sinks HasFailed Wrote s before after (record { before = u; after = v; faults = n; faults_after = o })
-      → IsHosted sites doors sources sinks HasFailed' Wrote s before after (record { before = t; after = v; faults = m; faults_after = o })
-  hosted_before HasFailed HasFailed' failed Wrote s before after t u v m n o k h = record {
+module _ {S G P : Type 0} (sites : site.Ghosts S G P) (gates : gate.Ghosts G P) (ports : port.Ghosts P) where
+  hosted_before : (HasFailed HasFailed' : Type 0) → (HasFailed → HasFailed') → (Ends : List (Run G P) → Type 0) (Wrote : List ℕ → Type 0) (plan : Plan) (before after : S) (t u v : Option Clock) (m n o : ℕ) → IsTitledFrom t u
+      → IsHosted sites gates ports HasFailed Ends Wrote plan before after (record { before = u; after = v; faults = n; faults_after = o })
+      → IsHosted sites gates ports HasFailed' Ends Wrote plan before after (record { before = t; after = v; faults = m; faults_after = o })
+  hosted_before HasFailed HasFailed' failed Ends Wrote plan before after t u v m n o k h = record {
     log = h.log;
     kept = kept_before t u v h.log k h.kept;
-    served = served_wider sites doors sources sinks h.kept.first (λ texts. IsTold u → IsKeptSince h.kept.texts v texts) (λ texts. IsTold t → IsKeptSince h.kept.texts v texts) HasFailed HasFailed'
-        (λ texts kept told. kept (told_behind t u k told)) failed Wrote s before after h.served;
+    served = served_wider sites gates ports h.kept.first (λ texts. IsTold u → IsKeptSince h.kept.texts v texts) (λ texts. IsTold t → IsKeptSince h.kept.texts v texts) HasFailed HasFailed'
+        (λ texts kept told. kept (told_behind t u k told)) failed Ends Wrote plan before after h.served;
     same = h.same;
   }
 
   -- however a service ended over the disk that was given its title, so it did over the disk as it was given
-  pub hosts_before : {W : Type 0} (outputs : sink.Ghosts W) (s : Service) (before after : S) (output output' : W) (t u v : Option Clock) (m n o : ℕ) (end : HostEnd) → IsTitledFrom t u → n ≡ m
-      → HostsSite sites doors sources sinks outputs s before after output output' (record { before = u; after = v; faults = n; faults_after = o }) end
+  pub hosts_before : {W : Type 0} (outputs : sink.Ghosts W) (plan : Plan) (before after : S) (output output' : W) (t u v : Option Clock) (m n o : ℕ) (end : HostEnd) → IsTitledFrom t u → n ≡ m
+      → HostsSite sites gates ports outputs plan before after output output' (record { before = u; after = v; faults = n; faults_after = o }) end
       → (end ≡ ends.NotADatabase → ⊥)
-      → HostsSite sites doors sources sinks outputs s before after output output' (record { before = t; after = v; faults = m; faults_after = o }) end
-  hosts_before outputs s before after output output' t u v m n o end k calm h titled = record {
-    done = λ e. hosted_before ⊥ ⊥ (λ none. none) _ s before after t u v m n o k (h.done e);
+      → HostsSite sites gates ports outputs plan before after output output' (record { before = t; after = v; faults = m; faults_after = o }) end
+  hosts_before outputs plan before after output output' t u v m n o end k calm h titled = record {
+    done = λ e. hosted_before ⊥ ⊥ (λ none. none) _ _ plan before after t u v m n o k (h.done e);
     cut = λ e. (
       (h.cut e).0,
       elim (h.cut e).1 [
         | inl idle ↦ inl (idle.0, idle.1, kept_before t u v [] k idle.2)
-        | inr hosted ↦ inr (hosted_before ⊥ ⊥ (λ none. none) _ s before after t u v m n o k hosted)
+        | inr hosted ↦ inr (hosted_before ⊥ ⊥ (λ none. none) _ _ plan before after t u v m n o k hosted)
       ],
     );
     disk = λ e. (
       subst (λ f. Rose f o) calm (h.disk e).0,
       elim (h.disk e).1 [
         | inl none ↦ inl (none.0, unopened_before t u v k none.1)
-        | inr hosted ↦ inr (hosted_before (Rose n o) (Rose m o) (subst (λ f. Rose f o) calm) _ s before after t u v m n o k hosted)
+        | inr hosted ↦ inr (hosted_before (Rose n o) (Rose m o) (subst (λ f. Rose f o) calm) _ _ plan before after t u v m n o k hosted)
       ],
     );
-    site = λ e. let x = h.site e in (x.0, x.1, x.2, kept_before t u v [] k x.3);
+    site = λ e. elim (h.site e) [
+      | inl unserved ↦ inl (unserved.0, unserved.1, unserved.2, kept_before t u v [] k unserved.3)
+      | inr hosted ↦ inr (hosted_before ⊥ ⊥ (λ none. none) _ _ plan before after t u v m n o k hosted)
+    ];
     memory = λ e. let x = h.memory e in (
       elim x.0 [
         | inl unopened ↦ inl (unopened_before t u v k unopened)
@@ -127,35 +131,38 @@ module _ (t u v : Option Clock) (size : ℕ) (first : List LogEntry) (m n : ℕ)
     fronts = λ told. fronts (texts_by t k.shows) (here told).0 (here told).1;
   }
 
-  module _ {S D K W : Type 0} (sites : site.Ghosts S D K) (doors : door.Ghosts D K) (sources : source.Ghosts K) (sinks : sink.Ghosts K) (outputs : sink.Ghosts W)
-      (s : Service) (before after : S) (output output' : W) (l : ℕ) (calm : n ≡ l) where
+  module _ {S G P W : Type 0} (sites : site.Ghosts S G P) (gates : gate.Ghosts G P) (ports : port.Ghosts P) (outputs : sink.Ghosts W)
+      (plan : Plan) (before after : S) (output output' : W) (l : ℕ) (calm : n ≡ l) where
     abbrev whole : DiskSpan
     whole = record { before = t; after = v; faults = l; faults_after = m }
 
-    hosted_opened : (HasFailed HasFailed' : Type 0) → (HasFailed → HasFailed') → (Wrote : List ℕ → Type 0) → ServedHere sites doors sources sinks outputs first s before after output output' size d HasFailed Wrote
-        → IsHosted sites doors sources sinks HasFailed' Wrote s before after whole
-    hosted_opened HasFailed HasFailed' failed Wrote h = record {
+    hosted_opened : (HasFailed HasFailed' : Type 0) → (HasFailed → HasFailed') → (Ends : List (Run G P) → Type 0) (Wrote : List ℕ → Type 0) → ServedHere sites gates ports outputs first plan before after output output' size d HasFailed Ends Wrote
+        → IsHosted sites gates ports HasFailed' Ends Wrote plan before after whole
+    hosted_opened HasFailed HasFailed' failed Ends Wrote h = record {
       log = h.served.log;
       kept = kept_opened h.served.log h.fronts;
-      served = served_wider sites doors sources sinks first (IsKeptBehind first size d) (λ texts. IsTold t → IsKeptSince (texts_by t k.shows) v texts) HasFailed HasFailed'
-          (λ texts kept told. kept (texts_by t k.shows) (here told).0 (here told).1) failed Wrote s before after h.served;
+      served = served_wider sites gates ports first (IsKeptBehind first size d) (λ texts. IsTold t → IsKeptSince (texts_by t k.shows) v texts) HasFailed HasFailed'
+          (λ texts kept told. kept (texts_by t k.shows) (here told).0 (here told).1) failed Ends Wrote plan before after h.served;
       same = refl;
     }
 
     -- however serving the opened database ended, so the service of the site did
-    pub hosts_opened : (end : HostEnd) → ServesOpened sites doors sources sinks outputs first s before after output output' size d end
-        → HostsSite sites doors sources sinks outputs s before after output output' whole end
+    pub hosts_opened : (end : HostEnd) → ServesOpened sites gates ports outputs first plan before after output output' size d end
+        → HostsSite sites gates ports outputs plan before after output output' whole end
     hosts_opened end h = record {
-      done = λ e. hosted_opened ⊥ ⊥ (λ none. none) _ (h.done e);
+      done = λ e. hosted_opened ⊥ ⊥ (λ none. none) _ _ (h.done e);
       cut = λ e. (
         (h.cut e).0,
         elim (h.cut e).1 [
           | inl idle ↦ inl (idle.0, idle.1, kept_opened [] idle.2)
-          | inr served ↦ inr (hosted_opened ⊥ ⊥ (λ none. none) _ served)
+          | inr served ↦ inr (hosted_opened ⊥ ⊥ (λ none. none) _ _ served)
         ],
       );
-      disk = λ e. (subst (λ f. Rose f m) calm (h.disk e).0, inr (hosted_opened (Rose n m) (Rose l m) (subst (λ f. Rose f m) calm) _ (h.disk e).1));
-      site = λ e. let x = h.site e in (x.0, x.1, x.2, kept_opened [] x.3);
+      disk = λ e. (subst (λ f. Rose f m) calm (h.disk e).0, inr (hosted_opened (Rose n m) (Rose l m) (subst (λ f. Rose f m) calm) _ _ (h.disk e).1));
+      site = λ e. elim (h.site e) [
+        | inl unserved ↦ inl (unserved.0, unserved.1, unserved.2, kept_opened [] unserved.3)
+        | inr served ↦ inr (hosted_opened ⊥ ⊥ (λ none. none) _ _ served)
+      ];
       memory = λ e. let x = h.memory e in (inr (kept_opened [] x.0), x.1);
       damaged = λ at e. absurd (h.opened at e);
       other = λ e. absurd (h.titled e);
@@ -182,11 +189,11 @@ shown_leaves (Some c) texts first shows = (
 
 -- ---- a start that was refused
 
-module _ {S D K W : Type 0} (sites : site.Ghosts S D K) (doors : door.Ghosts D K) (sources : source.Ghosts K) (sinks : sink.Ghosts K) (outputs : sink.Ghosts W)
-    (s : Service) (at_site : S) (output : W) (t u : Option Clock) (m n : ℕ) where
+module _ {S G P W : Type 0} (sites : site.Ghosts S G P) (gates : gate.Ghosts G P) (ports : port.Ghosts P) (outputs : sink.Ghosts W)
+    (plan : Plan) (at_site : S) (output : W) (t u : Option Clock) (m n : ℕ) where
   pub refused_so : (why : LogFault) → IsCaused m n why → IsUnopened t u → (why ≡ fault.NotALog → (u ≡ t) × Now t (λ shown. IsOther shown.bytes))
       → ((at : ℕ) → why ≡ fault.Damaged at → (texts : List (List ℕ)) (log : List LogEntry) → IsFileOn t texts log → ⊥)
-      → HostsSite sites doors sources sinks outputs s at_site at_site output output (record { before = t; after = u; faults = m; faults_after = n }) (end_of why)
+      → HostsSite sites gates ports outputs plan at_site at_site output output (record { before = t; after = u; faults = m; faults_after = n }) (end_of why)
   refused_so fault.Disk cause unopened other damaged = record {
     done = λ e. cc;
     cut = λ e. cc;

@@ -1,23 +1,24 @@
 -- decides: a served database
 -- What the service of a database on a disk did.
-use Rattle.std.specs.Prelude.{◌≡◌, ◌⊎◌, ℕ, ◌≤◌, List, [], Option}
+use Rattle.std.specs.Prelude.{◌≡◌, ◌⊎◌, ℕ, ◌≤◌, List, [], Option, ⊤}
 use Rattle.std.specs.Io.KnownBytes.{Appends}
 use Rattle.ifdb_io.specs.Causes.{Rose, WritesShort}
-use Rattle.ifdb_io.specs.declared.outside.Source as source
 use Rattle.ifdb_io.specs.declared.outside.Sink as sink
-use Rattle.ifdb_io.specs.declared.doors.Door as door
-use Rattle.ifdb_io.specs.declared.doors.Site as site
+use Rattle.ifdb_loop.specs.declared.gate.Gate as gate
+use Rattle.ifdb_loop.specs.declared.gate_site.GateSite as site
+use Rattle.ifdb_loop.specs.declared.port.Port as port
 use Rattle.ifdb_disk.specs.Clock.{Clock, Now}
 use Rattle.ifdb_log.specs.Title.{IsOther}
 use Rattle.ifdb_log.specs.declared.fault.LogFault.{LogFault}
 use Rattle.ifdb_log.specs.declared.fault.LogFault.TheVariants as fault
 use Rattle.ifdb_model.specs.Log.{Entry as LogEntry}
 use Rattle.ifdb_history.specs.declared.entry.Entry.{Entry}
-use Rattle.ifdb_words.specs.declared.service.Service.{Service}
-use Rattle.ifdb_service.specs.Site.{Exchanges, GivesNone, IsServedOver}
 use Rattle.ifdb_service.specs.Summary.{listening_line}
+use Rattle.ifdb_gates.specs.Served.{Run}
 use Rattle.ifdb_reopen.specs.Files.{IsFileOn, IsNewOn, IsTold, IsUnopened, ShowsLog}
 use Rattle.ifdb_host.specs.Fronts.{HasFrontOf, IsKeptSince, LeavesFrom}
+use Rattle.ifdb_host.specs.Gates.{AllEnded, Exchanges, GivesNone, IsServedOver, OneFailed}
+use Rattle.ifdb_host.specs.declared.plan.Plan.{Plan}
 use Rattle.ifdb_host.specs.declared.end.HostEnd.{HostEnd}
 use Rattle.ifdb_host.specs.declared.end.HostEnd.TheVariants as ends
 
@@ -55,21 +56,21 @@ pub record DiskSpan : Type 0 where
 abbrev pub DiskRose : DiskSpan → Type 0
 DiskRose d = Rose d.faults d.faults_after
 
-module _ {S D K : Type 0} (sites : site.Ghosts S D K) (doors : door.Ghosts D K) (sources : source.Ghosts K) (sinks : sink.Ghosts K) where
+module _ {S G P : Type 0} (sites : site.Ghosts S G P) (gates : gate.Ghosts G P) (ports : port.Ghosts P) where
   -- A site was served by a database: by one history over the log that the disk held. What a written reply was answered from has been
-  -- on the disk since some moment, and a reply was held back only where the disk has failed.
-  pub record IsHosted (HasFailed : Type 0) (Wrote : List ℕ → Type 0) (s : Service) (before after : S) (d : DiskSpan) : Type 0 where
+  -- on the disk since some moment, and a reply was held back only where the disk has failed. The gates ended so.
+  pub record IsHosted (HasFailed : Type 0) (Ends : List (Run G P) → Type 0) (Wrote : List ℕ → Type 0) (plan : Plan) (before after : S) (d : DiskSpan) : Type 0 where
     pub log : List Entry
     pub kept : IsKeptOn d.before d.after log
-    pub served : IsServedOver sites doors sources sinks kept.first
-        (λ texts. IsTold d.before → IsKeptSince kept.texts d.after texts) HasFailed Wrote s before after
+    pub served : IsServedOver sites gates ports kept.first
+        (λ texts. IsTold d.before → IsKeptSince kept.texts d.after texts) HasFailed Ends Wrote plan before after
     pub same : served.log ≡ log
 
-  -- the doors went back as they came
-  abbrev pub IsUnvisited : Service → S → S → Type 0
-  IsUnvisited s before after = (given : List D) × Exchanges sites s before after given given
+  -- the gates went back as they came
+  abbrev pub IsUnvisited : Plan → S → S → Type 0
+  IsUnvisited plan before after = (given : List G) × Exchanges sites plan before after given given
 
-  module _ {W : Type 0} (outputs : sink.Ghosts W) (s : Service) (before after : S) (output output' : W) (d : DiskSpan) where
+  module _ {W : Type 0} (outputs : sink.Ghosts W) (plan : Plan) (before after : S) (output output' : W) (d : DiskSpan) where
     -- nothing was written, and the site wasn't asked for anything
     abbrev pub IsUntouched : Type 0
     IsUntouched = (after ≡ before) × (output' ≡ output)
@@ -81,20 +82,27 @@ module _ {S D K : Type 0} (sites : site.Ghosts S D K) (doors : door.Ghosts D K) 
     abbrev pub WroteFront : List ℕ → Type 0
     WroteFront bytes = WritesShort (outputs.written output) (outputs.written output') bytes
 
+    -- the line was written that says that connections may come, and no more
+    abbrev pub WroteListening : List ℕ → Type 0
+    WroteListening bytes = WroteAll (listening_line plan.port)
+
     -- a database was opened, and nobody was served
     abbrev pub IsIdle : Type 0
     IsIdle = IsKeptOn d.before d.after []
 
-    -- The service ended so. Where it was done, or only its summary couldn't be written, no reply was held back.
+    -- The service ended so. Where it was done, or only the counts couldn't be written, each gate was at its end, and no reply was held
+    -- back. Nor was one where a gate failed, unless the disk has failed too, which is told then.
     pub record HostsSite (end : HostEnd) : Type 0 where
-      pub done : end ≡ ends.Done → IsHosted ⊥ WroteAll s before after d
+      pub done : end ≡ ends.Done → IsHosted ⊥ (AllEnded gates) WroteAll plan before after d
       pub cut : end ≡ ends.WriteFault → Rose (outputs.faults output) (outputs.faults output')
-          × ((IsUnvisited s before after × WroteFront (listening_line s.port) × IsIdle) ⊎ IsHosted ⊥ WroteFront s before after d)
+          × ((IsUnvisited plan before after × WroteFront (listening_line plan.port) × IsIdle) ⊎ IsHosted ⊥ (AllEnded gates) WroteFront plan before after d)
       pub disk : end ≡ ends.DiskFault → DiskRose d
-          × ((IsUntouched × IsUnopened d.before d.after) ⊎ IsHosted (DiskRose d) (λ _. WroteAll (listening_line s.port)) s before after d)
-      pub site : end ≡ ends.SiteFault → Rose (sites.faults before) (sites.faults after) × GivesNone sites s before after × (output' ≡ output) × IsIdle
+          × ((IsUntouched × IsUnopened d.before d.after) ⊎ IsHosted (DiskRose d) (λ _. ⊤) WroteListening plan before after d)
+      pub site : end ≡ ends.SiteFault →
+          (Rose (sites.faults before) (sites.faults after) × GivesNone sites plan before after × (output' ≡ output) × IsIdle)
+          ⊎ IsHosted ⊥ (OneFailed gates) WroteListening plan before after d
       pub memory : end ≡ ends.OutOfMemory → (IsUnopened d.before d.after ⊎ IsIdle)
-          × (IsUntouched ⊎ ((GivesNone sites s before after ⊎ IsUnvisited s before after) × ((output' ≡ output) ⊎ WroteAll (listening_line s.port))))
+          × (IsUntouched ⊎ ((GivesNone sites plan before after ⊎ IsUnvisited plan before after) × ((output' ≡ output) ⊎ WroteAll (listening_line plan.port))))
       pub damaged : (at : ℕ) → end ≡ ends.Damaged at → IsUntouched × IsUnopened d.before d.after
           × ((texts : List (List ℕ)) (log : List LogEntry) → IsFileOn d.before texts log → ⊥)
       pub other : end ≡ ends.NotADatabase → IsUntouched × (d.after ≡ d.before) × Now d.before (λ shown. IsOther shown.bytes)

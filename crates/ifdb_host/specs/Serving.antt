@@ -1,40 +1,47 @@
 -- decides: a served database
 -- What serving a database that was opened did.
-use Rattle.std.specs.Prelude.{◌≡◌, ◌⊎◌, ℕ, ◌≤◌, List, [], Option}
-use Rattle.ifdb_io.specs.Causes.{Rose}
-use Rattle.ifdb_io.specs.declared.outside.Source as source
+use Rattle.std.specs.Prelude.{◌≡◌, ◌⊎◌, ℕ, ◌≤◌, List, [], map, All, Option, ⊤}
+use Rattle.std.specs.Io.KnownBytes.{Appends}
+use Rattle.ifdb_io.specs.Causes.{Rose, WritesShort}
 use Rattle.ifdb_io.specs.declared.outside.Sink as sink
-use Rattle.ifdb_io.specs.declared.doors.Door as door
-use Rattle.ifdb_io.specs.declared.doors.Site as site
+use Rattle.ifdb_loop.specs.declared.gate.Gate as gate
+use Rattle.ifdb_loop.specs.declared.gate_site.GateSite as site
+use Rattle.ifdb_loop.specs.declared.port.Port as port
 use Rattle.ifdb_io.specs.declared.doors.SiteFault.{SiteFault}
 use Rattle.ifdb_io.specs.declared.doors.SiteFault.TheVariants as refusal
 use Rattle.ifdb_disk.specs.Clock.{Clock}
 use Rattle.ifdb_turn.specs.declared.turnstile.Turnstile.{Turnstile}
 use Rattle.ifdb_turn.specs.declared.turnstile.Pass.{Pass}
 use Rattle.ifdb_turn.specs.Histories.{AllRight}
-use Rattle.ifdb_turn.specs.Passes.{history, places, shares, BelongsTo, IsOrderly, OwnsAll}
-use Rattle.ifdb_turn.specs.Places.{RisesFrom}
+use Rattle.ifdb_turn.specs.Passes.{history, places, shares, BelongsTo, IsOrderly}
 use Rattle.ifdb_turn.specs.Views.{all_shares}
 use Rattle.ifdb_model.specs.Log.{Entry as LogEntry}
 use Rattle.ifdb_history.specs.declared.entry.Entry.{Entry}
-use Rattle.ifdb_history.specs.History.{IsRight}
+use Rattle.ifdb_history.specs.History.{after as state_after, IsRight, WasOpened}
 use Rattle.ifdb_session.specs.declared.counts.Counts.{Counts}
 use Rattle.ifdb_session.specs.Counts.{counts_of}
 use Rattle.ifdb_session.specs.Starts.{start_of}
-use Rattle.ifdb_words.specs.declared.service.Service.{Service}
-use Rattle.ifdb_service.specs.Doors.{ServedAll}
-use Rattle.ifdb_service.specs.Site.{GivesNone, IsServedOver}
 use Rattle.ifdb_service.specs.Summary.{listening_line}
+use Rattle.ifdb_gates.specs.Served.{Run, IsRunIn, numbers_of, times_in}
 use Rattle.ifdb_reopen.specs.Files.{ShowsLog}
 use Rattle.ifdb_host.specs.Fronts.{HasFrontOf, IsKeptSince, LeavesFrom}
+use Rattle.ifdb_host.specs.Gates.{AllEnded, GivesNone, IsServedOver, OneFailed}
 use Rattle.ifdb_host.specs.Hosted.{DiskRose, DiskSpan, IsUnvisited, WroteAll, WroteFront}
+use Rattle.ifdb_host.specs.declared.plan.Plan.{Plan}
 use Rattle.ifdb_host.specs.declared.end.HostEnd.{HostEnd}
 use Rattle.ifdb_host.specs.declared.end.HostEnd.TheVariants as ends
 
--- how a service ends whose site gave no doors
+-- how a service ends whose site gave no gates
 abbrev pub site_end : SiteFault → HostEnd
 site_end refusal.Failed = ends.SiteFault
 site_end refusal.OutOfMemory = ends.OutOfMemory
+
+-- these bytes were written, or a front of them, and so the service ends
+pub record Tells {W : Type 0} (outputs : sink.Ghosts W) (old new : W) (bytes : List ℕ) (end : HostEnd) : Type 0 where
+  pub how : (end ≡ ends.Done) ⊎ (end ≡ ends.WriteFault)
+  pub all : end ≡ ends.Done → Appends (outputs.written old) (outputs.written new) bytes
+  pub short : end ≡ ends.WriteFault → WritesShort (outputs.written old) (outputs.written new) bytes
+  pub cause : end ≡ ends.WriteFault → Rose (outputs.faults old) (outputs.faults new)
 
 -- a disk at two moments
 abbrev pub span_of : {D : Type 0} → (D → Option Clock) → (D → ℕ) → D → D → DiskSpan
@@ -57,40 +64,47 @@ LeavesFronts first size d h = (texts : List (List ℕ)) → size ≡ 16 → Show
 abbrev pub IsKeptBehind : List LogEntry → ℕ → DiskSpan → List (List ℕ) → Type 0
 IsKeptBehind first size d xs = (texts : List (List ℕ)) → size ≡ 16 → ShowsLog d.before texts first → IsKeptSince texts d.after xs
 
-module _ {K : Type 0} (sources : source.Ghosts K) (sinks : sink.Ghosts K) (first : List LogEntry) where
-  -- all doors were visited, in one history over the log, which was counted so
-  pub record VisitedAll {G X : Type 0} (doors : door.Ghosts G K) (limit size : ℕ) (d : DiskSpan) (HasFailed : Type 0) (old : Pass X Entry) (given back : List G) (faults : ℕ) (counts : Counts) : Type 0 where
-    pub now : Pass X Entry
-    pub all : ServedAll sources sinks first (IsKeptBehind first size d) HasFailed doors limit old now given back faults
-    pub order : AllRight (IsRight (start_of first)) (history now)
-    pub own : OwnsAll now
-    pub rises : RisesFrom 0 (places now)
-    pub counted : counts ≡ counts_of first (history now)
-    pub fronts : LeavesFronts first size d (history now)
+module _ {P : Type 0} (ports : port.Ghosts P) (key : List ℕ) (limit : ℕ) (first : List LogEntry) where
+  -- All gates were served, in one history over the log, which was counted so. Each of its sessions is that of one connection.
+  pub record VisitedAll {G : Type 0} (gates : gate.Ghosts G P) (size : ℕ) (d : DiskSpan) (HasFailed : Type 0) (given back : List G) (counts : Counts) : Type 0 where
+    pub log : List Entry
+    pub order : AllRight (IsRight (start_of first)) log
+    pub runs : List (Run G P)
+    pub before : map (λ r. r.before) runs ≡ given
+    pub after : map (λ r. r.after) runs ≡ back
+    pub served : All (IsRunIn ports key limit first (IsKeptBehind first size d) HasFailed gates log) runs
+    pub each : (n : ℕ) → WasOpened (state_after (start_of first) log) n → times_in n (numbers_of runs) ≡ 1
+    pub counted : counts ≡ counts_of first log
+    pub fronts : LeavesFronts first size d log
 
-module _ {S D K W : Type 0} (sites : site.Ghosts S D K) (doors : door.Ghosts D K) (sources : source.Ghosts K) (sinks : sink.Ghosts K) (outputs : sink.Ghosts W)
-    (first : List LogEntry) (s : Service) (before after : S) (output output' : W) (size : ℕ) (d : DiskSpan) where
-  -- a site was served by one history over the log
-  pub record ServedHere (HasFailed : Type 0) (Wrote : List ℕ → Type 0) : Type 0 where
-    pub served : IsServedOver sites doors sources sinks first (IsKeptBehind first size d) HasFailed Wrote s before after
+module _ {S G P W : Type 0} (sites : site.Ghosts S G P) (gates : gate.Ghosts G P) (ports : port.Ghosts P) (outputs : sink.Ghosts W)
+    (first : List LogEntry) (plan : Plan) (before after : S) (output output' : W) (size : ℕ) (d : DiskSpan) where
+  -- a site was served by one history over the log, and its gates ended so
+  pub record ServedHere (HasFailed : Type 0) (Ends : List (Run G P) → Type 0) (Wrote : List ℕ → Type 0) : Type 0 where
+    pub served : IsServedOver sites gates ports first (IsKeptBehind first size d) HasFailed Ends Wrote plan before after
     pub fronts : LeavesFronts first size d served.log
 
   abbrev pub Wrote : List ℕ → Type 0
-  Wrote = WroteAll sites doors sources sinks outputs s before after output output' d
+  Wrote = WroteAll sites gates ports outputs plan before after output output' d
 
   abbrev pub WroteShort : List ℕ → Type 0
-  WroteShort = WroteFront sites doors sources sinks outputs s before after output output' d
+  WroteShort = WroteFront sites gates ports outputs plan before after output output' d
+
+  abbrev pub WroteLine : List ℕ → Type 0
+  WroteLine bytes = Wrote (listening_line plan.port)
 
   -- the service ended so
   pub record ServesOpened (end : HostEnd) : Type 0 where
-    pub done : end ≡ ends.Done → ServedHere ⊥ Wrote
+    pub done : end ≡ ends.Done → ServedHere ⊥ (AllEnded gates) Wrote
     pub cut : end ≡ ends.WriteFault → Rose (outputs.faults output) (outputs.faults output')
-        × ((IsUnvisited sites doors sources sinks s before after × WroteShort (listening_line s.port) × LeavesFronts first size d []) ⊎ ServedHere ⊥ WroteShort)
-    pub disk : end ≡ ends.DiskFault → DiskRose d × ServedHere (DiskRose d) (λ _. Wrote (listening_line s.port))
-    pub site : end ≡ ends.SiteFault → Rose (sites.faults before) (sites.faults after) × GivesNone sites s before after × (output' ≡ output) × LeavesFronts first size d []
+        × ((IsUnvisited sites gates ports plan before after × WroteShort (listening_line plan.port) × LeavesFronts first size d []) ⊎ ServedHere ⊥ (AllEnded gates) WroteShort)
+    pub disk : end ≡ ends.DiskFault → DiskRose d × ServedHere (DiskRose d) (λ _. ⊤) WroteLine
+    pub site : end ≡ ends.SiteFault →
+        (Rose (sites.faults before) (sites.faults after) × GivesNone sites plan before after × (output' ≡ output) × LeavesFronts first size d [])
+        ⊎ ServedHere ⊥ (OneFailed gates) WroteLine
     pub memory : end ≡ ends.OutOfMemory → LeavesFronts first size d []
         × (((after ≡ before) × (output' ≡ output))
-        ⊎ ((GivesNone sites s before after ⊎ IsUnvisited sites doors sources sinks s before after) × ((output' ≡ output) ⊎ Wrote (listening_line s.port))))
+        ⊎ ((GivesNone sites plan before after ⊎ IsUnvisited sites gates ports plan before after) × ((output' ≡ output) ⊎ Wrote (listening_line plan.port))))
     pub opened : (at : ℕ) → end ≡ ends.Damaged at → ⊥
     pub titled : end ≡ ends.NotADatabase → ⊥
     pub output_later : outputs.faults output ≤ outputs.faults output'

@@ -7,13 +7,13 @@ use ifdb_log::LogFault;
 /// How the service of a database ended.
 #[derive(Clone, Copy, Debug, PartialEq, Eq)]
 pub enum HostEnd {
-    /// All connections were served, and the output says what was done.
+    /// No connection comes any more, all were served, and the output says what was done.
     Done,
     /// The output failed.
     WriteFault,
     /// There was no memory to begin, and no connection was taken.
     OutOfMemory,
-    /// The site gave no doors.
+    /// The site gave no gates, or one of its gates failed.
     SiteFault,
     /// The disk failed: what was acknowledged before is on it.
     DiskFault,

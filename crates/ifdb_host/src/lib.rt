@@ -5,10 +5,13 @@
 //! `ifdb_session` says, and `Database::close` ends it.
 #![tactic(auto)]
 
+mod counts;
 mod database;
 mod end;
+mod plan;
 mod serving;
 
 pub use database::{Closed, Database};
 pub use end::HostEnd;
+pub use plan::Plan;
 pub use serving::{Hosted, host};

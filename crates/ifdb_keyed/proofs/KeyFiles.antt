@@ -8,11 +8,13 @@ use Rattle.std.proofs.lemmas.List.Elements.{All-head, All-tail}
 use Rattle.ifdb_io.specs.Reader.{BreaksAt}
 use Rattle.ifdb_lex.specs.Line.{without_return}
 use Rattle.ifdb_keyed.specs.declared.admin_key.AdminKey.{AdminKey}
-use Rattle.ifdb_keyed.specs.Links.{key_bytes}
+use Rattle.ifdb_keyed.specs.Keys.{key_bytes}
 use Rattle.ifdb_keyed.specs.Files.{first_line, is_key, key_in}
-use Rattle.ifdb_keyed.proofs.Bytes.{is_other}
 
 -- ---- the first line
+
+is_other : (b : ℕ) → b ≢ 10 → (b == 10) ≡ false
+is_other b h = grind (arith, nat_tests)
 
 line_before : (n : ℕ) (bytes : List ℕ) → All (λ b. b ≢ 10) (take n bytes) → get_or bytes n 0 ≡ 10 → take n bytes ≡ first_line bytes
 line_before zero [] plain newline = refl

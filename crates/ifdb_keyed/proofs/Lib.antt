@@ -1,13 +1,6 @@
-pub mod Ranges
-pub mod Bytes
-pub mod Hears
-pub mod Views
 pub mod Hello
 pub mod FirstMark
 pub mod Requests
-pub mod Lefts
 pub mod Keys
-pub mod Lines
-pub mod Doors
 pub mod Fronts
 pub mod KeyFiles

@@ -4,7 +4,7 @@ use Rattle.std.specs.Prelude.{◌≡◌, ℕ, ◌==◌, ◌&&◌, Bool, List, []
 use Rattle.std.specs.Str.Lossy.{utf8_valid_len}
 use Rattle.ifdb_lex.specs.Line.{without_return}
 use Rattle.ifdb_keyed.specs.declared.admin_key.AdminKey.{AdminKey}
-use Rattle.ifdb_keyed.specs.Links.{key_bytes}
+use Rattle.ifdb_keyed.specs.Keys.{key_bytes}
 
 -- the bytes before the first newline, or all
 abbrev pub first_line : List ℕ → List ℕ

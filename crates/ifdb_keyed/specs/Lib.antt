@@ -1,7 +1,5 @@
 pub mod Keyed
-pub mod Hearing
-pub mod Links
-pub mod Doors
+pub mod Keys
 pub mod Files
 pub mod Marks
 pub mod Laws

@@ -1,5 +1,5 @@
--- Which lines may be HELLO by their first mark, and what is heard in place of a line.
-use Rattle.std.specs.Prelude.{ℕ, ◌==◌, ◌||◌, Bool, false, List, [], ◌∷◌, codes, bytes_eq, Option, Some, None, Ok, if◌then◌else◌}
+-- Which lines may be HELLO by their first mark, and what is heard of a line.
+use Rattle.std.specs.Prelude.{ℕ, ◌==◌, ◌||◌, Bool, false, List, [], ◌∷◌, bytes_eq, Option, Some, None, Ok, if◌then◌else◌}
 use Rattle.ifdb_lex.specs.Line.{is_blank}
 use Rattle.ifdb_syntax.specs.declared.request.Request.{Request}
 use Rattle.ifdb_keyed.specs.declared.heard.Heard.{Heard}
@@ -15,18 +15,6 @@ first_mark (b ∷ line) = if is_blank b then first_mark line else Some b
 abbrev pub is_h : Option ℕ → Bool
 is_h None = false
 is_h (Some b) = (b == 72) || (b == 104)
-
--- what is heard in place of a line, with its newline
-abbrev pub text_for : Heard → List ℕ
-text_for heard.AsSaid = []
-text_for heard.Admin = codes "HELLO admin KEY 'admin'\n"
-text_for heard.Nobody = codes "HELLO admin KEY ''\n"
-
--- what is heard in place of these bytes, the last of which is a newline
-abbrev pub bytes_for : Heard → List ℕ → List ℕ
-bytes_for heard.AsSaid bytes = bytes
-bytes_for heard.Admin bytes = text_for heard.Admin
-bytes_for heard.Nobody bytes = text_for heard.Nobody
 
 -- what is heard of a line
 abbrev pub line_for : Heard → List ℕ → List ℕ

@@ -1,14 +1,10 @@
 // The key of admin.
-ghost use Rattle.std.specs.Prelude.{◌≡◌, ◌<◌, ◌≤◌, ◌⊎◌, [], length, take, IfSome, None};
-ghost use Rattle.ifdb_keyed.specs.Keyed.{admin};
+ghost use Rattle.std.specs.Prelude.{◌≡◌, ◌<◌, ◌≤◌, ◌⊎◌, length, take, IfSome, None};
 
 /// The most bytes of a key.
 pub const LONGEST_KEY: usize = 64;
 
-// The key of admin in each new database.
-const INITIAL: &[u8] = b"admin";
-
-/// A key of 1 to `LONGEST_KEY` bytes, by which a peer of a site is admin. Contracts cite its bytes as `key_bytes`.
+/// A key of 1 to `LONGEST_KEY` bytes, by which a server's peers are admin. Contracts cite its bytes as `key_bytes`.
 #[derive(Clone, Copy)]
 pub struct AdminKey {
     bytes: [u8; LONGEST_KEY],
@@ -33,18 +29,6 @@ impl AdminKey {
             bytes,
             count: text.len(),
         })
-    }
-
-    /// The key that each database begins with: `admin`.
-    pub fn initial() -> AdminKey
-        ensures { take result.count result.bytes ≡ admin }
-    {
-        let mut bytes = [0; LONGEST_KEY];
-        bytes[..INITIAL.len()].copy_from_slice(INITIAL);
-        AdminKey {
-            bytes,
-            count: INITIAL.len(),
-        }
     }
 
     /// Its bytes.

@@ -2,7 +2,7 @@
 ghost use Rattle.std.specs.Prelude.{◌≡◌, IfOk, Some, take};
 ghost use Rattle.ifdb_lex.specs.Line.{is_blank};
 ghost use Rattle.ifdb_keyed.specs.Keyed.{keyed_line};
-ghost use Rattle.ifdb_keyed.specs.Marks.{first_mark, heard_request, is_h, line_for, text_for};
+ghost use Rattle.ifdb_keyed.specs.Marks.{first_mark, heard_request, is_h, line_for};
 
 use crate::{AdminKey, OutOfMemory};
 use ifdb_parse::{ParseFault, parse};
@@ -18,19 +18,6 @@ pub enum Heard {
     Admin,
     /// HELLO of admin with no key: the line said another.
     Nobody,
-}
-
-impl Heard {
-    /// What is heard in place of the line, with its newline; nothing where the line is heard itself.
-    pub fn text(self) -> &'static [u8]
-        ensures { result.now ≡ text_for self }
-    {
-        match self {
-            Heard::AsSaid => b"",
-            Heard::Admin => b"HELLO admin KEY 'admin'\n",
-            Heard::Nobody => b"HELLO admin KEY ''\n",
-        }
-    }
 }
 
 /// What is heard of a line by a server with this key for admin. The only error is want of memory, which only a line takes that begins

@@ -1,16 +1,17 @@
 // The key of admin in a file.
-ghost use Rattle.std.specs.Prelude.{◌≡◌, ℕ, List, length, nat_le, take, IfOk};
+ghost use Rattle.std.specs.Prelude.{◌≡◌, ◌≢◌, ℕ, All, List, length, nat_le, take, IfOk, MatchOption};
 ghost use Rattle.std.specs.Str.Lossy.{utf8_valid_len};
 ghost use Rattle.std.specs.Io.{ReadsAtMost};
 ghost use Rattle.ifdb_io.specs.Causes.{HasCause};
+ghost use Rattle.ifdb_io.specs.Reader.{BreaksAt};
 ghost use Rattle.ifdb_disk.specs.Clock.{Now};
 ghost use Rattle.ifdb_keyed.specs.Files.{IsKeyIn, first_line};
 
-use crate::hearing::newline_in;
 use crate::{AdminKey, LONGEST_KEY};
 use ifdb_disk::Disk;
 use ifdb_io::Failed;
 use ifdb_parse::without_return;
+use memchr::memchr;
 use std::str;
 
 // As many bytes of a file tell its key: the longest, a carriage return, and a newline or one byte too many.
@@ -78,4 +79,11 @@ fn first_line(bytes: &[u8]) -> &[u8]
         Some(place) => &bytes[..place],
         None => bytes,
     }
+}
+
+// The place of the first newline.
+fn newline_in(bytes: &[u8]) -> Option<usize>
+    ensures { MatchOption result (All (λ b. b ≢ 10) bytes.now) (λ n. BreaksAt bytes.now n) }
+{
+    memchr(b'\n', bytes)
 }

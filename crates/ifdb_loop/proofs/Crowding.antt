@@ -121,6 +121,7 @@ module _ {S T P : Type 0} (services : service.Ghosts S T) (ports : port.Ghosts P
     same : (j : ℕ) → j ≢ k → get new j ≡ get old j
     number : services.number d.seat ≡ services.number c.seat
     others : KeepsOthers services ports s t (services.number c.seat)
+    limit : services.limit t ≡ services.limit s
     served : IsServed services ports t d
 
   -- where there is no connection
@@ -131,8 +132,9 @@ module _ {S T P : Type 0} (services : service.Ghosts S T) (ports : port.Ghosts P
   }
 
   -- what the service says of a connection's session it says still
-  says_on : (s t : S) (c : Client P T) → ((d : Dialogue) → services.says s c.seat d → services.says t c.seat d) → IsServed services ports s c → IsServed services ports t c
-  says_on s t c says x = ((x.0.0, says x.0.0 x.0.1, x.0.2), x.1, x.2)
+  says_on : (s t : S) (c : Client P T) → services.limit t ≡ services.limit s → ((d : Dialogue) → services.says s c.seat d → services.says t c.seat d)
+      → IsServed services ports s c → IsServed services ports t c
+  says_on s t c limit says x = ((x.0.0, says x.0.0 x.0.1, rw limit x.0.2), x.1, x.2)
 
   each_by : (s t : S) (old new : Slab (Client P T)) (k : ℕ) (c d : Client P T) → Changes s t old new k c d
       → (j : ℕ) (x : Client P T) → Same j k → get new j ≡ Some x → IsServed services ports t x
@@ -140,7 +142,7 @@ module _ {S T P : Type 0} (services : service.Ghosts S T) (ports : port.Ghosts P
   each_by s t old new k c d h j x (Other o) at =
       let before = sym (h.same j o) ∙ at in
       let served = h.all.each j x before in
-      says_on s t x (λ d. h.others x.seat d (h.all.apart j k x c before h.was o)) served
+      says_on s t x h.limit (λ d. h.others x.seat d (h.all.apart j k x c before h.was o)) served
 
   apart_by : (s t : S) (old new : Slab (Client P T)) (k : ℕ) (c d : Client P T) → Changes s t old new k c d
       → (i j : ℕ) (x y : Client P T) → Same i k → Same j k → get new i ≡ Some x → get new j ≡ Some y → i ≢ j → services.number x.seat ≢ services.number y.seat
@@ -155,9 +157,9 @@ module _ {S T P : Type 0} (services : service.Ghosts S T) (ports : port.Ghosts P
 
   pub AreServed-changed : (s t : S) (old mid new : Slab (Client P T)) (k : ℕ) (c d : Client P T) → AreServed services ports s old
       → get old k ≡ Some c → Updates old mid k None → Updates mid new k (Some d)
-      → services.number d.seat ≡ services.number c.seat → KeepsOthers services ports s t (services.number c.seat) → IsServed services ports t d
-      → AreServed services ports t new
-  AreServed-changed s t old mid new k c d all was out back number others served =
+      → services.number d.seat ≡ services.number c.seat → KeepsOthers services ports s t (services.number c.seat) → services.limit t ≡ services.limit s
+      → IsServed services ports t d → AreServed services ports t new
+  AreServed-changed s t old mid new k c d all was out back number others limit served =
       let h : Changes s t old new k c d = record {
         all = all;
         was = was;
@@ -165,6 +167,7 @@ module _ {S T P : Type 0} (services : service.Ghosts S T) (ports : port.Ghosts P
         same = λ j o. back.others j o ∙ out.others j o;
         number = number;
         others = others;
+        limit = limit;
         served = served;
       } in record {
         each = λ j x. each_by s t old new k c d h j x (same j k);
@@ -174,9 +177,9 @@ module _ {S T P : Type 0} (services : service.Ghosts S T) (ports : port.Ghosts P
   -- what the service said is so still
   pub AreServed-settled : (s t : S) (clients : Slab (Client P T))
       → ((seat : T) (dialogue : Dialogue) → services.says s seat dialogue → services.says t seat dialogue)
-      → AreServed services ports s clients → AreServed services ports t clients
-  AreServed-settled s t clients kept all = record {
-    each = λ k c at. says_on s t c (kept c.seat) (all.each k c at);
+      → services.limit t ≡ services.limit s → AreServed services ports s clients → AreServed services ports t clients
+  AreServed-settled s t clients kept limit all = record {
+    each = λ k c at. says_on s t c limit (kept c.seat) (all.each k c at);
     apart = all.apart;
   }
 
@@ -194,19 +197,20 @@ module _ {S T P : Type 0} (services : service.Ghosts S T) (ports : port.Ghosts P
       }
 
   left_by : (s t : S) (old new : Slab (Client P T)) (k : ℕ) (c : Client P T) → AreServed services ports s old → get old k ≡ Some c → Updates old new k None
-      → KeepsOthers services ports s t (services.number c.seat) → (j : ℕ) (x : Client P T) → Same j k → get new j ≡ Some x → IsServed services ports t x
-  left_by s t old new k c all was out others j x (Is e) at = absurd (none_some x (sym out.changed ∙ (ap (get new) (sym e) ∙ at)))
-  left_by s t old new k c all was out others j x (Other o) at =
+      → KeepsOthers services ports s t (services.number c.seat) → services.limit t ≡ services.limit s
+      → (j : ℕ) (x : Client P T) → Same j k → get new j ≡ Some x → IsServed services ports t x
+  left_by s t old new k c all was out others limit j x (Is e) at = absurd (none_some x (sym out.changed ∙ (ap (get new) (sym e) ∙ at)))
+  left_by s t old new k c all was out others limit j x (Other o) at =
       let before = sym (out.others j o) ∙ at in
-      says_on s t x (λ d. others x.seat d (all.apart j k x c before was o)) (all.each j x before)
+      says_on s t x limit (λ d. others x.seat d (all.apart j k x c before was o)) (all.each j x before)
 
   -- the same where its session has left, and sessions of other numbers are as they were
   pub AreServed-left : (s t : S) (old new : Slab (Client P T)) (k : ℕ) (c : Client P T) → AreServed services ports s old → get old k ≡ Some c → Updates old new k None
-      → KeepsOthers services ports s t (services.number c.seat) → AreServed services ports t new
-  AreServed-left s t old new k c all was out others =
+      → KeepsOthers services ports s t (services.number c.seat) → services.limit t ≡ services.limit s → AreServed services ports t new
+  AreServed-left s t old new k c all was out others limit =
       let rest = AreServed-without s old new k all out in
       record {
-        each = λ j x at. left_by s t old new k c all was out others j x (same j k) at;
+        each = λ j x at. left_by s t old new k c all was out others limit j x (same j k) at;
         apart = rest.apart;
       }
 
@@ -214,9 +218,10 @@ module _ {S T P : Type 0} (services : service.Ghosts S T) (ports : port.Ghosts P
   more_by : (s t : S) (old new : Slab (Client P T)) (k : ℕ) (d : Client P T) → AreServed services ports s old → get new k ≡ Some d
       → ((j : ℕ) → j ≢ k → get new j ≡ get old j)
       → ((seat : T) (dialogue : Dialogue) → services.says s seat dialogue → services.says t seat dialogue)
-      → IsServed services ports t d → (j : ℕ) (x : Client P T) → Same j k → get new j ≡ Some x → IsServed services ports t x
-  more_by s t old new k d all is kept says served j x (Is e) at = subst (IsServed services ports t) (some_is d x (sym is ∙ (ap (get new) (sym e) ∙ at))) served
-  more_by s t old new k d all is kept says served j x (Other o) at = says_on s t x (says x.seat) (all.each j x (sym (kept j o) ∙ at))
+      → services.limit t ≡ services.limit s → IsServed services ports t d
+      → (j : ℕ) (x : Client P T) → Same j k → get new j ≡ Some x → IsServed services ports t x
+  more_by s t old new k d all is kept says limit served j x (Is e) at = subst (IsServed services ports t) (some_is d x (sym is ∙ (ap (get new) (sym e) ∙ at))) served
+  more_by s t old new k d all is kept says limit served j x (Other o) at = says_on s t x limit (says x.seat) (all.each j x (sym (kept j o) ∙ at))
 
   more_apart : (s : S) (old new : Slab (Client P T)) (k : ℕ) (d : Client P T) → AreServed services ports s old → get new k ≡ Some d
       → ((j : ℕ) → j ≢ k → get new j ≡ get old j)
@@ -234,9 +239,9 @@ module _ {S T P : Type 0} (services : service.Ghosts S T) (ports : port.Ghosts P
   pub AreServed-more : (s t : S) (old new : Slab (Client P T)) (k : ℕ) (d : Client P T) → AreServed services ports s old → Updates old new k (Some d)
       → ((seat : T) (dialogue : Dialogue) → services.says s seat dialogue → services.says t seat dialogue)
       → ((other : T) (dialogue : Dialogue) → services.says s other dialogue → services.number other ≢ services.number d.seat)
-      → IsServed services ports t d → AreServed services ports t new
-  AreServed-more s t old new k d all came says fresh served = record {
-    each = λ j x. more_by s t old new k d all came.changed came.others says served j x (same j k);
+      → services.limit t ≡ services.limit s → IsServed services ports t d → AreServed services ports t new
+  AreServed-more s t old new k d all came says fresh limit served = record {
+    each = λ j x. more_by s t old new k d all came.changed came.others says limit served j x (same j k);
     apart = λ i j x y. more_apart s old new k d all came.changed came.others fresh i j x y (same i k) (same j k);
   }
 

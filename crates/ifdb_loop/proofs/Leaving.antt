@@ -29,35 +29,36 @@ module _ {S T P : Type 0} (services : service.Ghosts S T) (ports : port.Ghosts P
 
   -- one that had ended, and owed nothing that could be written
   pub was_served : (s t : S) (faults : ℕ) (c : Client P T) (o : Over P) (ending : Ending) → IsServed services ports s c → c.ending ≡ Some ending
-      → Leaves s t c → o ≡ record { port = c.port; ending = ending; limit = c.limit } → (c.wires.owed ≡ []) ⊎ (c.is_lost ≡ true)
+      → Leaves s t c → services.limit t ≡ services.limit s → o ≡ record { port = c.port; ending = ending } → (c.wires.owed ≡ []) ⊎ (c.is_lost ≡ true)
       → WasServed services ports t faults (record { over = o; number = services.number c.seat })
-  was_served s t faults c o ending x is over same paid =
+  was_served s t faults c o ending x is over limit same paid =
       subst (λ p. WasServed services ports t faults (record { over = p; number = services.number c.seat })) (sym same) (record {
         dialogue = x.0.0;
         owed = c.wires.owed;
         over = over x.0.0 x.0.1;
-        exchanged = closed services.long_text c.ending ending _ c.limit c.room c.wires.held c.wires.owed x.0.0 is x.0.2;
+        exchanged = rw limit (closed services.long_text c.ending ending _ _ c.room c.wires.held c.wires.owed x.0.0 is x.0.2);
         paid = paid_by t faults c x.1 paid;
         halted = λ halt so. absurd (own_not_halted ending halt (subst EndsItself is x.2) so);
       })
 
   -- one that was cut off, since the loop has halted
   pub was_cut : (s t : S) (faults : ℕ) (halt : Halt) (c : Client P T) (o : Over P) → IsServed services ports s c → HasHalted services ports t faults halt
-      → Leaves s t c → o ≡ record { port = c.port; ending = unwrap_or c.ending (ends.Halted halt); limit = c.limit }
+      → Leaves s t c → services.limit t ≡ services.limit s → o ≡ record { port = c.port; ending = unwrap_or c.ending (ends.Halted halt) }
       → WasServed services ports t faults (record { over = o; number = services.number c.seat })
-  was_cut s t faults halt c o x cause over same =
+  was_cut s t faults halt c o x cause over limit same =
       subst (λ p. WasServed services ports t faults (record { over = p; number = services.number c.seat })) (sym same) (record {
         dialogue = x.0.0;
         owed = c.wires.owed;
         over = over x.0.0 x.0.1;
-        exchanged = halted services.long_text halt c.ending _ c.limit c.room c.wires.held c.wires.owed x.0.0 x.0.2;
+        exchanged = rw limit (halted services.long_text halt c.ending _ _ c.room c.wires.held c.wires.owed x.0.0 x.0.2);
         paid = inr (inr (halt, cause));
         halted = λ other so. subst (HasHalted services ports t faults) (halted_for c.ending halt other x.2 so) cause;
       })
 
-  -- what a service knows to be over stays so, and so does that no more can be kept, or that the gate has failed
+  -- what a service knows to be over stays so, how many bytes a connection may give, that no more can be kept, and that the gate has failed
   pub record Remembers (s t : S) (before now : ℕ) : Type 0 where
     pub over : (n : ℕ) (d : Dialogue) → services.is_over s n d → services.is_over t n d
+    pub limit : services.limit t ≡ services.limit s
     pub failed : services.has_failed s → services.has_failed t
     pub faults : 0 < before → 0 < now
 
@@ -77,7 +78,7 @@ module _ {S T P : Type 0} (services : service.Ghosts S T) (ports : port.Ghosts P
     dialogue = x.dialogue;
     owed = x.owed;
     over = m.over v.number x.dialogue x.over;
-    exchanged = x.exchanged;
+    exchanged = rw m.limit x.exchanged;
     paid = paid_later s t faults later v.over x.owed m x.paid;
     halted = λ halt so. halted_later s t faults later halt m (x.halted halt so);
   }

@@ -1,3 +1,4 @@
+-- decides: a served database
 -- What a session was asked and told.
 use Rattle.std.specs.Prelude.{ℕ, List, [], ◌∷◌, ◌++◌, Bool, true}
 

@@ -1,3 +1,4 @@
+-- decides: a served database
 -- What a connection has read and written, beside its lines and the texts of its replies.
 use Rattle.std.specs.Prelude.{◌≡◌, ◌≢◌, ℕ, ◌<◌, List, [], ◌∷◌, ◌++◌, length, flat_map, IfSome, All}
 use Rattle.ifdb_io.specs.Lines.{IsLine}

@@ -1,3 +1,4 @@
+-- decides: a served database
 -- What is so of a connection and its session.
 use Rattle.std.specs.Prelude.{◌≡◌, ◌≢◌, ◌⊎◌, ◌<◌, ℕ, List, [], Option, Some, true}
 use Rattle.ifdb_loop.specs.declared.port.Port as port
@@ -16,18 +17,19 @@ module _ {P : Type 0} (ports : port.Ghosts P) where
   abbrev pub traffic_of : P → Traffic
   traffic_of p = record { given = ports.given p; left = ports.left p; written = ports.written p; unread = ports.unread p; unwritten = ports.unwritten p }
 
-  -- a connection that has ended so, if it has, and of which these bytes are held, has exchanged the dialogue
-  abbrev pub HasExchanged : {T : Type 0} → List ℕ → Client P T → Option Ending → List ℕ → Dialogue → Type 0
-  HasExchanged long c ending held d = Exchanges long ending (traffic_of c.port) c.limit c.room held c.wires.owed d
+  -- a connection that may give so many bytes, has ended so, if it has, and of which these bytes are held, has exchanged the dialogue
+  abbrev pub HasExchanged : {T : Type 0} → List ℕ → ℕ → Client P T → Option Ending → List ℕ → Dialogue → Type 0
+  HasExchanged long limit c ending held d = Exchanges long ending (traffic_of c.port) limit c.room held c.wires.owed d
 
   -- whatever dialogue it had exchanged before its end, it has exchanged still
   abbrev pub StillExchanges : {T : Type 0} → Client P T → Client P T → Option Ending → List ℕ → Type 0
-  StillExchanges c c' ending held = (long : List ℕ) (d : Dialogue) → HasExchanged long c c.ending c.wires.held d → HasExchanged long c' ending held d
+  StillExchanges c c' ending held =
+      (long : List ℕ) (limit : ℕ) (d : Dialogue) → HasExchanged long limit c c.ending c.wires.held d → HasExchanged long limit c' ending held d
 
 module _ {S T P : Type 0} (services : service.Ghosts S T) (ports : port.Ghosts P) where
   -- a connection that has ended so, if it has, and of which these bytes are held, has exchanged what its session was asked and told
   abbrev pub Stands : S → Client P T → Option Ending → List ℕ → Type 0
-  Stands s c ending held = (d : Dialogue) × services.says s c.seat d × HasExchanged ports services.long_text c ending held d
+  Stands s c ending held = (d : Dialogue) × services.says s c.seat d × HasExchanged ports services.long_text (services.limit s) c ending held d
 
   -- so it is with a connection as it is, and writing has failed if it is lost
   abbrev pub IsServed : S → Client P T → Type 0
@@ -48,6 +50,6 @@ module _ {S T P : Type 0} (services : service.Ghosts S T) (ports : port.Ghosts P
     pub dialogue : Dialogue
     pub owed : List ℕ
     pub over : services.is_over s v.number dialogue
-    pub exchanged : Exchanges services.long_text (Some v.over.ending) (traffic_of ports v.over.port) v.over.limit 0 [] owed dialogue
+    pub exchanged : Exchanges services.long_text (Some v.over.ending) (traffic_of ports v.over.port) (services.limit s) 0 [] owed dialogue
     pub paid : (owed ≡ []) ⊎ ((0 < ports.unwritten v.over.port) ⊎ ((halt : Halt) × HasHalted s faults halt))
     pub halted : (halt : Halt) → v.over.ending ≡ ends.Halted halt → HasHalted s faults halt

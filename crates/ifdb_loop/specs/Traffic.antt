@@ -1,3 +1,4 @@
+-- decides: a served database
 -- What a port tells of itself.
 use Rattle.std.specs.Prelude.{ℕ, List, Option}
 

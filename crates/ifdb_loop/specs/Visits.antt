@@ -1,3 +1,4 @@
+-- decides: a served database
 -- Connections that were served, and are over.
 use Rattle.std.specs.Prelude.{ℕ}
 use Rattle.ifdb_loop.specs.declared.over.Over.{Over}

@@ -18,9 +18,7 @@ pub struct Client<P, T> {
     pub wires: Wires,
     /// The session.
     pub seat: T,
-    /// How many bytes it may give.
-    pub limit: usize,
-    /// How many of these may still come.
+    /// How many bytes of it may still come.
     pub room: usize,
     /// How it ended, if it has.
     pub ending: Option<Ending>,
@@ -78,12 +76,12 @@ impl Pace {
         } else {
             timing.terms.hello
         };
-        timing.now.saturating_sub(self.since) >= patience
+        timing.now.saturating_sub(self.since) > patience
     }
 
     /// Whether nothing was taken for longer than a client is given that is owed something.
     pub(crate) fn is_stalled(&self, timing: &Timing) -> bool {
-        timing.now.saturating_sub(self.since) >= timing.terms.stall
+        timing.now.saturating_sub(self.since) > timing.terms.stall
     }
 }
 
@@ -139,7 +137,6 @@ impl<P: Port, T> Client<P, T> {
         ensures unread { P.unread self.new.port ≡ P.unread self.old.port }
         ensures held { self.new.wires.held ≡ self.old.wires.held }
         ensures seat { self.new.seat ≡ self.old.seat }
-        ensures limit { self.new.limit ≡ self.old.limit }
         ensures room { self.new.room ≡ self.old.room }
         ensures ending { self.new.ending ≡ self.old.ending }
         ensures lost { self.new.is_lost ≡ self.old.is_lost }

@@ -63,8 +63,7 @@ pub(crate) fn admit<P: Port + Drop, S: Service>(
         port,
         wires: Wires::new(looping.alloc),
         seat,
-        limit: timing.terms.bytes,
-        room: timing.terms.bytes,
+        room: service.limit(),
         ending: None,
         is_lost: false,
         pace: Pace::new(timing.now),
@@ -240,19 +239,9 @@ fn end<P: Port, S: Service>(service: &mut S, client: Client<P, S::Seat>, ending:
     ensures result { result ≡ record {
       port = client.port;
       ending = ending;
-      limit = client.limit;
     } }
 {
-    let Client {
-        port,
-        seat,
-        limit,
-        ..
-    } = client;
+    let Client { port, seat, .. } = client;
     service.leave(seat);
-    Over {
-        port,
-        ending,
-        limit,
-    }
+    Over { port, ending }
 }

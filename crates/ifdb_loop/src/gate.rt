@@ -33,7 +33,7 @@ pub trait Gate {
     ghost use Rattle.ifdb_loop.specs.declared.over.Over.{Over};
 
     /// A connection.
-    type Port: Port + Drop;
+    type Port: Port + Send + Drop;
 
     /// How many waits may still succeed.
     ghost most: { Self → ℕ };
@@ -95,6 +95,18 @@ pub trait Gate {
         ensures end { ended self.new ≡ ended self.old }
         ensures faults { faults self.new ≡ faults self.old }
         ensures back { back self.new ≡ option_map (λ told. told ++ over ∷ []) (back self.old) };
+
+    /// Notes that the gate's loop has halted. The other gates of its site may fail from now on, so that their loops halt too.
+    fn halt(&mut self)
+        ensures out { out self.new ≡ out self.old }
+        ensures most { most self.new ≡ most self.old }
+        ensures end { ended self.new ≡ ended self.old }
+        ensures faults { faults self.new ≡ faults self.old }
+        ensures back { back self.new ≡ back self.old };
+
+    /// Whether the gate is at its end.
+    fn has_ended(&self) -> bool
+        ensures { result ≡ ended self.now };
 
     /// The second that it is now, from any beginning.
     fn seconds(&self) -> u64;

@@ -138,6 +138,12 @@ impl Gate for MemoryGate {
         let _ = self.back.push(over);
     }
 
+    fn halt(&mut self) {}
+
+    fn has_ended(&self) -> bool {
+        self.ended
+    }
+
     fn seconds(&self) -> u64 {
         self.second
     }

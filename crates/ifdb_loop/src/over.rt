@@ -8,6 +8,4 @@ pub struct Over<P> {
     pub port: P,
     /// How it ended.
     pub ending: Ending,
-    /// How many bytes it might have given.
-    pub limit: usize,
 }

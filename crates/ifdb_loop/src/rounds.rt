@@ -334,8 +334,8 @@ fn close<G: Gate, S: Service>(
 /// were given back.
 ///
 /// # Errors
-/// `Gate` where the gate failed, and `Unkept` where no more can be kept. Then what connections owe is never written, and each
-/// that hadn't ended was given back as `Halted`.
+/// `Gate` where the gate failed, and `Unkept` where no more can be kept. Then what connections owe is never written, each that
+/// hadn't ended was given back as `Halted`, and the gate was told.
 pub fn serve<G: Gate, S: Service>(
     gate: &mut G,
     service: &mut S,
@@ -359,5 +359,6 @@ pub fn serve<G: Gate, S: Service>(
         Err(halt) => halt,
     };
     close(gate, service, &mut clients, halt);
+    gate.halt();
     Err(halt)
 }

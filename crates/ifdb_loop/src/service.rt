@@ -8,7 +8,7 @@ use ifdb_io::{Failed, OutOfMemory};
 /// Answers the lines of sessions, each of which has a number of its own.
 pub trait Service {
     /// A session as its connection has it.
-    type Seat: Drop;
+    type Seat: Send + Drop;
 
     /// It may be called.
     ghost ready: { Self → Type 0 };
@@ -39,6 +39,9 @@ pub trait Service {
 
     /// What refuses a line that is too long.
     ghost long_text: { List ℕ };
+
+    /// How many bytes a connection may give.
+    ghost limit: { Self → ℕ };
 
     /// Opens a session, which has a number of its own.
     ///
@@ -92,6 +95,10 @@ pub trait Service {
     fn text(&self) -> &[u8]
         ensures { result.now ≡ text self.now };
 
+    /// How many bytes a connection may give.
+    fn limit(&self) -> usize
+        ensures { result ≡ limit self.now };
+
     /// Waits until all is kept that was answered from.
     ///
     /// # Errors
@@ -127,6 +134,9 @@ pub trait Service {
 
     /// What goes on from the second goes on from the first too.
     ghost goes_further: { (r s t : Self) → goes_on r s → goes_on s t → goes_on r t };
+
+    /// How many bytes a connection may give stays as it is.
+    ghost keeps_limit: { (s t : Self) → goes_on s t → limit t ≡ limit s };
 
     /// A session that is over stays so.
     ghost stays_over: { (s t : Self) (n : ℕ) (d : Dialogue)

@@ -5,8 +5,6 @@
 pub struct Terms {
     /// The most connections at a time.
     pub connections: usize,
-    /// The most bytes that a connection may give.
-    pub bytes: usize,
     /// How many seconds a connection has for its first line.
     pub hello: u64,
     /// For how many seconds nothing may come of a connection.

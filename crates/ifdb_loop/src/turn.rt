@@ -76,9 +76,9 @@ fn read<P: Port, T>(
 
 // Nothing has come. Ends a connection that was silent for too long and is owed nothing.
 fn wait_on<P: Port, T>(client: &mut Client<P, T>, timing: &Timing) -> Result<(), Ending>
-    ensures exchanges { (long : List ℕ) (held : List ℕ) (d : Dialogue) → IsLine held
-        → HasExchanged P.Port long client.old None held d
-        → HasExchanged P.Port long client.new (ending_of result) held d }
+    ensures exchanges { (long : List ℕ) (limit : ℕ) (held : List ℕ) (d : Dialogue) → IsLine held
+        → HasExchanged P.Port long limit client.old None held d
+        → HasExchanged P.Port long limit client.new (ending_of result) held d }
     ensures seat { client.new.seat ≡ client.old.seat }
     ensures ending { client.new.ending ≡ client.old.ending }
     ensures lost { client.new.is_lost ≡ client.old.is_lost }

@@ -14,12 +14,11 @@ const MANY: u32 = 1024;
 // After how long the porter asks again, where the system has no descriptor, in milliseconds.
 const PAUSE: u64 = 20;
 
-// Takes the connections of a port of this machine, and puts them into the hands of loops, one after another.
+// Takes the connections of a port of this machine, and puts each into the hand of the loop that has the fewest.
 #[derive(Drop)]
 pub(crate) struct Porter {
     listener: TcpListener,
     hands: Vec<Arc<Hand>>,
-    next: usize,
     // After how long more may have come, of which no event tells, if that may be.
     again: Option<Duration>,
 }
@@ -42,7 +41,6 @@ impl Porter {
         Ok(Porter {
             listener,
             hands,
-            next: 0,
             again: None,
         })
     }
@@ -81,17 +79,13 @@ impl Porter {
         Some(Duration::ZERO)
     }
 
-    // Puts a connection into the next hand.
-    fn hand_out<R: Wait>(&mut self, rt: &R, stream: TcpStream) {
+    // Puts a connection into the hand of the loop that has the fewest.
+    fn hand_out<R: Wait>(&self, rt: &R, stream: TcpStream) {
         if stream.set_nodelay(true).is_err() {
             return;
         }
-        if self.next >= self.hands.len() {
-            self.next = 0;
-        }
-        if self.next < self.hands.len() {
-            self.hands[self.next].give(rt, stream);
-            self.next += 1;
+        if let Some(hand) = self.hands.iter().min_by_key(|hand| hand.load()) {
+            hand.give(rt, stream);
         }
     }
 }

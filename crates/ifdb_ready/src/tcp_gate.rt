@@ -13,6 +13,7 @@ use std::alloc::Global;
 use std::io;
 use std::net::Net;
 use std::rt::Clock;
+use std::sync::atomic::{AtomicBool, Ordering};
 use std::sync::{Arc, Wait};
 use std::time::{Duration, Instant};
 
@@ -25,15 +26,17 @@ const ARRIVAL: usize = usize::MAX - 1;
 const MANY: usize = 1024;
 
 /// A gate over the readiness that the system tells, through which the connections come that the last gate of its port puts into
-/// its hand. It waits for a
-/// second at most, never comes to its end, and fails where the system's wait does, or after 2^64 - 1 waits. A connection that is
-/// given back ends so that its client gets what was written.
+/// its hand. It waits for a second at most, and never comes to its end. It fails where the system's wait does, where the loop of
+/// another gate of its port has halted, or after 2^64 - 1 waits. A connection that is given back ends so that its client gets what
+/// was written.
 #[derive(Drop)]
 pub struct TcpGate<'a, R> {
     rt: &'a R,
     poll: Poll,
     events: Events,
     hand: Arc<Hand>,
+    // Whether a loop of the port has halted, as all its gates know.
+    has_halted: Arc<AtomicBool>,
     // Who hands out the connections of the port, in the last of its gates.
     porter: Option<Porter>,
     lingering: Lingering,
@@ -52,7 +55,11 @@ pub struct TcpGate<'a, R> {
 
 impl<'a, R: Net + Clock> TcpGate<'a, R> {
     // A gate with an empty hand. The errors are those of the system, where it gives no descriptor, and want of memory.
-    pub(crate) fn new(rt: &'a R, alloc: Global) -> io::Result<TcpGate<'a, R>>
+    pub(crate) fn new(
+        rt: &'a R,
+        alloc: Global,
+        has_halted: Arc<AtomicBool>,
+    ) -> io::Result<TcpGate<'a, R>>
         ensures { IfOk result (λ gate. gate.out ≡ 0) }
     {
         let poll = Poll::new(rt)?;
@@ -62,6 +69,7 @@ impl<'a, R: Net + Clock> TcpGate<'a, R> {
             poll,
             events: Events::with_capacity(alloc, MANY)?,
             hand: Arc::new(alloc, hand)?,
+            has_halted,
             porter: None,
             lingering: Lingering::new(alloc),
             closing: Vec::with_capacity(alloc, MANY)?,
@@ -196,7 +204,7 @@ impl<'a, R: Net + Wait + Clock> Gate for TcpGate<'a, R> {
     ghost back = { λ _. None };
 
     fn wait(&mut self, has_more: bool, ready: &mut Vec<usize>) -> Result<Arrivals, Failed> {
-        if self.waits == 0 {
+        if self.waits == 0 || self.has_halted.load(Ordering::Relaxed) {
             self.failed = self.failed.saturating_add(1);
             return Err(Failed);
         }
@@ -226,6 +234,7 @@ impl<'a, R: Net + Wait + Clock> Gate for TcpGate<'a, R> {
             return None;
         };
         if key >= FIRST {
+            self.hand.lose();
             return None;
         }
         let both = Interest::READABLE | Interest::WRITABLE;
@@ -235,6 +244,7 @@ impl<'a, R: Net + Wait + Clock> Gate for TcpGate<'a, R> {
             .register(&mut stream, Token(key), both)
             .is_err()
         {
+            self.hand.lose();
             return None;
         }
         self.out += 1;
@@ -243,6 +253,7 @@ impl<'a, R: Net + Wait + Clock> Gate for TcpGate<'a, R> {
 
     fn refuse(&mut self, _port: TcpPort) {
         self.out -= 1;
+        self.hand.lose();
         self.refused = self.refused.saturating_add(1);
     }
 
@@ -256,6 +267,7 @@ impl<'a, R: Net + Wait + Clock> Gate for TcpGate<'a, R> {
             (option_map (λ told. told ++ over ∷ []) None) }
     {
         self.out -= 1;
+        self.hand.lose();
         // At the end of the input nothing comes any more that a close could reset.
         if over.ending == Ending::End {
             return;
@@ -264,6 +276,14 @@ impl<'a, R: Net + Wait + Clock> Gate for TcpGate<'a, R> {
             self.lingering
                 .add(self.poll.registry(), stream, self.second);
         }
+    }
+
+    fn halt(&mut self) {
+        self.has_halted.store(true, Ordering::Relaxed);
+    }
+
+    fn has_ended(&self) -> bool {
+        false
     }
 
     fn seconds(&self) -> u64 {

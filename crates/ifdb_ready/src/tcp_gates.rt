@@ -10,11 +10,12 @@ use std::alloc::Global;
 use std::io;
 use std::net::Net;
 use std::rt::Clock;
-use std::sync::Wait;
+use std::sync::atomic::AtomicBool;
+use std::sync::{Arc, Wait};
 
 /// A site whose gates stand at a port of this machine alone: it listens on 127.0.0.1, which no other machine reaches. The gates of one
-/// call share a listener, whose connections the last of them hands out, one gate after another, and which is closed with that
-/// one. At port 0 the system picks a port that is free.
+/// call share a listener, whose connections the last of them hands out, each to the gate that has the fewest, and which is closed
+/// with that one. At port 0 the system picks a port that is free.
 ///
 /// `open` fails, and the count of the site's faults rises, where the port is taken or may not be listened at, or the system has no
 /// descriptor or no memory for it.
@@ -90,12 +91,13 @@ fn gates_at<'a, R: Net + Clock>(
     if loops == 0 {
         return Ok(gates);
     }
+    let has_halted = Arc::new(alloc, AtomicBool::new(false))?;
     for _ in 1..loops {
-        let gate = TcpGate::new(rt, alloc)?;
+        let gate = TcpGate::new(rt, alloc, Arc::try_clone(&has_halted)?)?;
         hands.push(gate.hand()?)?;
         gates.push(gate)?;
     }
-    let mut last = TcpGate::new(rt, alloc)?;
+    let mut last = TcpGate::new(rt, alloc, has_halted)?;
     hands.push(last.hand()?)?;
     last.listen(port, hands)?;
     gates.push(last)?;

@@ -22,12 +22,14 @@ use Rattle.ifdb_service.specs.Site.{Exchanges, IsServedOver, IsAskedFor}
 use Rattle.ifdb_service.specs.Summary.{listening_line, summary_text}
 use Rattle.ifdb_service.proofs.Links.{run_later}
 
-loses_kept : {A : Type 0} (a b c : Option (List A)) (xs : List A) → LosesFirst a b xs → Stays b c → LosesFirst a c xs
+-- what a list lost it lost still, where it stayed since
+pub loses_kept : {A : Type 0} (a b c : Option (List A)) (xs : List A) → LosesFirst a b xs → Stays b c → LosesFirst a c xs
 loses_kept None b c xs l s = tt
 loses_kept (Some told) None c xs l s = absurd l
 loses_kept (Some told) (Some left) c xs l s = subst (λ o. LosesFirst (Some told) o xs) (sym s) l
 
-becomes_kept : {A : Type 0} (a b c : Option (List A)) (xs : List A) → Stays a b → Becomes b c xs → Becomes a c xs
+-- what it became it is, where it stayed before
+pub becomes_kept : {A : Type 0} (a b c : Option (List A)) (xs : List A) → Stays a b → Becomes b c xs → Becomes a c xs
 becomes_kept None b c xs s l = tt
 becomes_kept (Some told) b c xs s l = subst (λ o. Becomes o c xs) s l
 

@@ -1,5 +1,5 @@
 pub mod Links
-mod Crew
+pub mod Crew
 pub mod AtSite
-mod Rooms
+pub mod Rooms
 mod Hosts

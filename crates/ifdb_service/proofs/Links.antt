@@ -58,7 +58,7 @@ turns_are first ending limit n old new s one =
 
 -- ---- what replies were answered from are first texts of the history
 
-texts_front : (first : List LogEntry) (h k : List Entry) → IsPrefix (texts_of first h) (texts_of first (h ++ k))
+pub texts_front : (first : List LogEntry) (h k : List Entry) → IsPrefix (texts_of first h) (texts_of first (h ++ k))
 texts_front first h k =
     let more = records read_line (after (start_of first) h) (flat k) in
     let all : records_of first (h ++ k) ≡ records_of first h ++ more =

@@ -33,10 +33,10 @@ CatalogSends = AllSend (shape in_catalog.the_type).fields
 abbrev pub CatalogSyncs : Type 0
 CatalogSyncs = AllSync (shape in_catalog.the_type).fields
 
-catalog_send : CatalogSends → IsSend catalog.the_row
+pub catalog_send : CatalogSends → IsSend catalog.the_row
 catalog_send s = view_send _ _ _ _ _ (recorded_send in_catalog.the_field.row _ _ in_catalog.the_type.to_one (struct_send (shape in_catalog.the_type) s))
 
-catalog_sync : CatalogSyncs → IsSync catalog.the_row
+pub catalog_sync : CatalogSyncs → IsSync catalog.the_row
 catalog_sync s = view_sync _ _ _ _ _ (recorded_sync in_catalog.the_field.row _ _ in_catalog.the_type.to_one (struct_sync (shape in_catalog.the_type) s))
 
 public_send : IsSend catalog.the_row → IsSend public_state.the_row
@@ -67,10 +67,12 @@ room_send : IsSend db.the_row → IsSend session.the_row → IsSend room.the_row
 room_send d s = view_send _ _ _ _ _ (recorded_send in_room.the_field.row _ _ in_room.the_type.to_one
     (struct_send (shape in_room.the_type) (heap.the_field_send, (d, (Vec-send session.the_row s, tt)))))
 
-pub room_crosses : CatalogSends → CatalogSyncs → IsSend store.the_row → IsSend content.the_row → IsSend room.the_row
-room_crosses sends syncs s c =
-    let state = shared_state_send (public_send (catalog_send sends)) (public_sync (catalog_sync syncs)) in
-    room_send (db_send state s) (session_send (txn_send state c))
+-- so may a session
+pub session_crosses : IsSend catalog.the_row → IsSync catalog.the_row → IsSend content.the_row → IsSend session.the_row
+session_crosses s y c = session_send (txn_send (shared_state_send (public_send s) (public_sync y)) c)
+
+pub room_crosses : IsSend catalog.the_row → IsSync catalog.the_row → IsSend store.the_row → IsSend content.the_row → IsSend room.the_row
+room_crosses s y t c = room_send (db_send (shared_state_send (public_send s) (public_sync y)) t) (session_crosses s y c)
 
 -- so may a room that connections share, if what records its entries may
 pub shared_room_send : (Q : RattleType) → IsSend room.the_row → IsSend Q → IsSend (shared_room.the_row Q)

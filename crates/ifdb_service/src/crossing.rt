@@ -1,6 +1,8 @@
-// That a room may go to another thread.
+// That a room and a session may go to another thread.
 ghost use Rattle.std.specs.Thread.{IsSend, IsSync};
+ghost use Rattle.ifdb_catalog.specs.contracts.catalog.Catalog as catalog;
 ghost use Rattle.ifdb_db.specs.contracts.room.Room as room;
+ghost use Rattle.ifdb_db.specs.contracts.session.Session as session;
 
 use ifdb_bound::{Schema, ViewDef};
 use ifdb_catalog::Credentials;
@@ -9,9 +11,20 @@ use ifdb_value::Name;
 use indexmap::{IndexMap, IndexSet};
 use std::marker::{Send, Sync};
 
-/// A room may go to another thread. Does nothing: the checker finds it of the parts that hold themselves, and not of the whole.
-pub(crate) fn room_crosses()
-    ensures { IsSend room.the_row }
+/// A room may go to another thread, and so may a session that it lends. Does nothing: the checker finds it of the parts that hold
+/// themselves, and not of the whole.
+pub fn room_crosses()
+    ensures room { IsSend room.the_row }
+    ensures session { IsSend session.the_row }
+{
+    catalog_crosses();
+    sends::<Store>();
+    sends::<Content>();
+}
+
+fn catalog_crosses()
+    ensures send { IsSend catalog.the_row }
+    ensures sync { IsSync catalog.the_row }
 {
     sends::<IndexMap<Name, Credentials>>();
     sends::<IndexSet<Name>>();
@@ -21,8 +34,6 @@ pub(crate) fn room_crosses()
     syncs::<IndexSet<Name>>();
     syncs::<IndexMap<Name, Schema>>();
     syncs::<IndexMap<Name, ViewDef>>();
-    sends::<Store>();
-    sends::<Content>();
 }
 
 fn sends<T: Send>()

@@ -10,8 +10,10 @@ mod service;
 mod summary;
 mod workers;
 
+pub use crossing::room_crosses;
 pub use doors::{Ended, Unserved, serve_doors};
 pub use end::ServiceEnd;
+pub use laws::laws_hold;
 pub use numbered_line::write_numbered;
 pub use service::serve;
 pub use summary::write_summary;

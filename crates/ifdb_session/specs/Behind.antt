@@ -1,3 +1,4 @@
+-- decides: a served database
 -- Turns that answer a session are taken behind all that it was told.
 use Rattle.std.specs.Prelude.{◌≡◌, ◌⊎◌, ℕ, true, List, [], ◌∷◌, ◌++◌}
 use mathlib.Core.List.{IsPrefix}

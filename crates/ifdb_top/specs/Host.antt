@@ -11,18 +11,21 @@ use Rattle.ifdb_disk.specs.Clock.{Now}
 use Rattle.ifdb_disk.specs.declared.disk.Disk as disk
 use Rattle.ifdb_disk.specs.declared.shelf.Shelf as shelf
 use Rattle.ifdb_folder.specs.declared.folder.Folder as folder
+use Rattle.ifdb_loop.specs.declared.gate.Gate as gate
+use Rattle.ifdb_loop.specs.declared.gate_site.GateSite as gate_site
+use Rattle.ifdb_loop.specs.declared.port.Port as port
 use Rattle.ifdb_host.specs.Hosted.{HostsSite}
+use Rattle.ifdb_host.specs.Plans.{loops_in, share_of}
 use Rattle.ifdb_host.specs.Serving.{span_of}
 use Rattle.ifdb_host.specs.declared.end.HostEnd.{HostEnd}
 use Rattle.ifdb_host.specs.declared.end.HostEnd.TheVariants as hosted
+use Rattle.ifdb_host.specs.declared.plan.Plan.{Plan}
 use Rattle.ifdb_keyed.specs.Files.{IsKeyIn}
 use Rattle.ifdb_keyed.specs.declared.admin_key.AdminKey.{AdminKey}
-use Rattle.ifdb_keyed.specs.declared.door.KeyedDoor.{KeyedDoor}
-use Rattle.ifdb_keyed.specs.declared.link.KeyedLink.{KeyedLink}
-use Rattle.ifdb_keyed.specs.declared.site.KeyedSite.{KeyedSite}
 use Rattle.ifdb_words.specs.First.{behind_first, is_first}
 use Rattle.ifdb_words.specs.Host.{host_in}
 use Rattle.ifdb_words.specs.declared.host.Hosting.{Hosting}
+use Rattle.ifdb_words.specs.declared.loops.LoopService.{LoopService}
 use Rattle.ifdb_top.specs.declared.base.Status.TheVariants as status
 use Rattle.ifdb_top.specs.declared.more.MoreStatus.{MoreStatus}
 use Rattle.ifdb_top.specs.declared.more.MoreStatus.TheVariants.{Base, Damaged}
@@ -40,7 +43,7 @@ use Rattle.ifdb_top.specs.Project.{DoesProject}
 use Rattle.ifdb_top.specs.Usage.{WritesUsage}
 
 abbrev pub host_usage : List ℕ
-host_usage = codes "usage: ifdb host --file F --admin-key A --port P [--workers W] [--links K] [--limit N]\n"
+host_usage = codes "usage: ifdb host --file F --admin-key A --port P [--loops W] [--connections N] [--limit B] [--hello S] [--idle S] [--stall S]\n"
 
 -- the first word
 abbrev pub IsHost : List (String Global) → Type 0
@@ -70,28 +73,40 @@ module _ {T D : Type 0} (secrets : shelf.Ghosts T D) (disks : disk.Ghosts D) whe
 
 -- ---- the service
 
-module _ {O S F D G K : Type 0} (outputs : sink.Ghosts O) (folders : folder.Ghosts F D) (disks : disk.Ghosts D)
-    (sites : site.Ghosts S G K) (doors : door.Ghosts G K) (sources : source.Ghosts K) (sinks : sink.Ghosts K) where
+-- A database is served by this plan: as the words say, on a machine of some number of processors, by this key.
+pub record IsPlanOf (service : LoopService) (key : AdminKey) (plan : Plan) : Type 0 where
+  pub processors : ℕ
+  pub port : plan.port ≡ service.port
+  pub loops : plan.loops ≡ loops_in service processors
+  pub connections : plan.terms.connections ≡ share_of service plan.loops
+  pub limit : plan.limit ≡ service.limit
+  pub hello : plan.terms.hello ≡ service.patience.hello
+  pub idle : plan.terms.idle ≡ service.patience.idle
+  pub stall : plan.terms.stall ≡ service.patience.stall
+  pub key_is : plan.key ≡ key
+
+module _ {O S F D G P : Type 0} (outputs : sink.Ghosts O) (folders : folder.Ghosts F D) (disks : disk.Ghosts D)
+    (sites : gate_site.Ghosts S G P) (gates : gate.Ghosts G P) (ports : port.Ghosts P) where
   -- a database on a disk was served to this end
-  abbrev pub HostsOn : Hosting → O → O → S → S → HostEnd → D → D → Type 0
-  HostsOn h output output' before after end disk disk' =
-      HostsSite sites doors sources sinks outputs h.service before after output output' (span_of disks.tells disks.faults disk disk') end
+  abbrev pub HostsOn : Plan → O → O → S → S → HostEnd → D → D → Type 0
+  HostsOn plan output output' before after end disk disk' =
+      HostsSite sites gates ports outputs plan before after output output' (span_of disks.tells disks.faults disk disk') end
 
   -- The folder gave a disk, the database on it was served, and the disk was given back; or it gave none.
-  abbrev pub HostsFile : Hosting → O → O → S → S → F → F → HostStatus → Type 0
-  HostsFile h output output' before after folder folder' end =
-      ((e : HostEnd) × (end ≡ status_of e) × Gave folders h.file folder folder' (HostsOn h output output' before after e))
+  abbrev pub HostsFile : List ℕ → Plan → O → O → S → S → F → F → HostStatus → Type 0
+  HostsFile file plan output output' before after folder folder' end =
+      ((e : HostEnd) × (end ≡ status_of e) × Gave folders file folder folder' (HostsOn plan output output' before after e))
       ⊎ ((end ≡ DiskFault) × (output' ≡ output) × (after ≡ before) × GaveNone folders folder folder')
 
   -- The database was as it was, or was compacted, and then it was served.
-  abbrev pub HostsDatabase : Hosting → O → O → S → S → F → F → HostStatus → Type 0
-  HostsDatabase h output output' before after folder folder' end =
-      (readied : F) × IsReadied folders disks h.file folder readied × HostsFile h output output' before after readied folder' end
+  abbrev pub HostsDatabase : Hosting → AdminKey → O → O → S → S → F → F → HostStatus → Type 0
+  HostsDatabase h key output output' before after folder folder' end =
+      (plan : Plan) × IsPlanOf h.service key plan
+      × (readied : F) × IsReadied folders disks h.file folder readied × HostsFile h.file plan output output' before after readied folder' end
 
-module _ {O S F D X Y G K : Type 0} (outputs : sink.Ghosts O) (folders : folder.Ghosts F D) (disks : disk.Ghosts D)
-    (secrets : shelf.Ghosts X Y) (secret_disks : disk.Ghosts Y) (sites : site.Ghosts (KeyedSite S G K) (KeyedDoor G) (KeyedLink K))
-    (doors : door.Ghosts (KeyedDoor G) (KeyedLink K)) (sources : source.Ghosts (KeyedLink K)) (sinks : sink.Ghosts (KeyedLink K))
-    (output output' : O) (before after : KeyedSite S G K) (folder folder' : F) (secret secret' : X) where
+module _ {O S F D X Y G P : Type 0} (outputs : sink.Ghosts O) (folders : folder.Ghosts F D) (disks : disk.Ghosts D)
+    (secrets : shelf.Ghosts X Y) (secret_disks : disk.Ghosts Y) (sites : gate_site.Ghosts S G P) (gates : gate.Ghosts G P) (ports : port.Ghosts P)
+    (output output' : O) (before after : S) (folder folder' : F) (secret secret' : X) where
   -- nothing was written, and neither the site nor the folder was asked for anything
   abbrev pub IsUntouched : Type 0
   IsUntouched = (output' ≡ output) × (after ≡ before) × (folder' ≡ folder)
@@ -99,7 +114,7 @@ module _ {O S F D X Y G K : Type 0} (outputs : sink.Ghosts O) (folders : folder.
   -- the database was served by the key that the file holds
   abbrev pub ServesByKey : Hosting → HostStatus → Type 0
   ServesByKey h end = (key : AdminKey) × ReadsKey secrets secret_disks h.key_file secret secret' (Some key)
-      × HostsDatabase outputs folders disks sites doors sources sinks h output output' (record before { key = key }) after folder folder' end
+      × HostsDatabase outputs folders disks sites gates ports h key output output' before after folder folder' end
 
   -- nobody was served, since the file holds no key, or couldn't be read
   abbrev pub LacksKey : Hosting → HostStatus → Type 0

@@ -1,45 +1,50 @@
 // The words of `host`.
 ghost use Rattle.std.specs.Prelude.{◌≡◌, ◌≤◌, IfOk, OnErr, length, map, string_bytes};
-ghost use Rattle.ifdb_words.specs.Ranges.{IsService};
+ghost use Rattle.ifdb_words.specs.Ranges.{IsLoopService};
 ghost use Rattle.ifdb_top.specs.Compact.{IsReadied};
-ghost use Rattle.ifdb_top.specs.Host.{DoesHost, FailsToRead, HostsByKey, HostsDatabase, HostsFile, ReadsKey, status_of};
+ghost use Rattle.ifdb_top.specs.Host.{DoesHost, FailsToRead, HostsByKey, HostsDatabase, HostsFile, IsPlanOf, ReadsKey, status_of};
 
 use crate::base::{Status, write_usage};
 use crate::more::MoreStatus;
 use crate::status::HostStatus;
 use ifdb_disk::Shelf;
 use ifdb_folder::Folder;
-use ifdb_host::{HostEnd, Hosted, host as host_site};
-use ifdb_io::{Door, Failed, Sink, Site, Source};
-use ifdb_keyed::{AdminKey, KeyedDoor, KeyedLink, KeyedSite, read_key};
+use ifdb_host::{HostEnd, Hosted, Plan, host as host_site};
+use ifdb_io::{Failed, Sink};
+use ifdb_keyed::{AdminKey, read_key};
+use ifdb_loop::GateSite;
 use ifdb_swap::{When, compact_in, spare_name};
-use ifdb_words::{Hosting, host_in};
+use ifdb_words::{Hosting, LoopService, host_in};
 use std::alloc::{AllocGlobal, Global};
 use std::sync::Wait;
-use std::thread::Threads;
+use std::thread::{Threads, available_parallelism};
 
 const USAGE: &str =
-    "usage: ifdb host --file F --admin-key A --port P [--workers W] [--links K] [--limit N]\n";
+    "usage: ifdb host --file F --admin-key A --port P [--loops W] [--connections N] [--limit B] [--hello S] [--idle S] [--stall S]\n";
 
 /// Does what the words behind `host` say.
-pub(crate) fn host<T: AllocGlobal + Threads + Wait + Sync, W: Sink, S: Site, F: Folder, K: Shelf>(
+pub(crate) fn host<
+    T: AllocGlobal + Threads + Wait + Sync,
+    W: Sink,
+    S: GateSite,
+    F: Folder,
+    K: Shelf,
+>(
     rt: &T,
     words: &[String],
     output: &mut W,
-    site: &mut KeyedSite<S>,
+    site: &mut S,
     folder: &mut F,
     secrets: &mut K,
 ) -> HostStatus
 where
     F::Disk: Send + Drop,
     ensures done { DoesHost W.Sink F.Folder F.Disk.Disk K.Shelf K.Disk.Disk
-        ⟦<KeyedSite<S> as Site>⟧ ⟦<KeyedDoor<S::Door> as Door>⟧
-        ⟦<KeyedLink<<S::Door as Door>::Link> as Source>⟧
-        ⟦<KeyedLink<<S::Door as Door>::Link> as Sink>⟧
+        S.GateSite S.Gate.Gate S.Gate.Port.Port
         output.old output.new site.old site.new folder.old folder.new secrets.old secrets.new
         (map string_bytes words.now) result }
     ensures output_later { W.faults output.old ≤ W.faults output.new }
-    ensures site_later { S.faults site.old.site ≤ S.faults site.new.site }
+    ensures site_later { S.faults site.old ≤ S.faults site.new }
     ensures folder_later { F.faults folder.old ≤ F.faults folder.new }
     ensures secrets_later { K.faults secrets.old ≤ K.faults secrets.new }
 {
@@ -51,25 +56,23 @@ where
 }
 
 /// Serves the database in a file by the key for `admin` that another file holds. That file is opened first, and closed.
-fn host_in_file<T: AllocGlobal + Threads + Wait + Sync, W: Sink, S: Site, F: Folder, K: Shelf>(
+fn host_in_file<T: AllocGlobal + Threads + Wait + Sync, W: Sink, S: GateSite, F: Folder, K: Shelf>(
     rt: &T,
     output: &mut W,
-    site: &mut KeyedSite<S>,
+    site: &mut S,
     folder: &mut F,
     secrets: &mut K,
     hosting: &Hosting,
 ) -> HostStatus
 where
     F::Disk: Send + Drop,
-    requires { IsService hosting.now.service }
+    requires { IsLoopService hosting.now.service }
     ensures hosted { HostsByKey W.Sink F.Folder F.Disk.Disk K.Shelf K.Disk.Disk
-        ⟦<KeyedSite<S> as Site>⟧ ⟦<KeyedDoor<S::Door> as Door>⟧
-        ⟦<KeyedLink<<S::Door as Door>::Link> as Source>⟧
-        ⟦<KeyedLink<<S::Door as Door>::Link> as Sink>⟧
+        S.GateSite S.Gate.Gate S.Gate.Port.Port
         output.old output.new site.old site.new folder.old folder.new secrets.old secrets.new
         hosting.now result }
     ensures output_later { W.faults output.old ≤ W.faults output.new }
-    ensures site_later { S.faults site.old.site ≤ S.faults site.new.site }
+    ensures site_later { S.faults site.old ≤ S.faults site.new }
     ensures folder_later { F.faults folder.old ≤ F.faults folder.new }
     ensures secrets_later { K.faults secrets.old ≤ K.faults secrets.new }
 {
@@ -94,30 +97,45 @@ fn key_in<K: Shelf>(secrets: &mut K, name: &str) -> Result<Option<AdminKey>, Fai
 }
 
 /// Serves the database in a file by a key for `admin`. It is compacted before, where that is worth it.
-fn host_by_key<T: AllocGlobal + Threads + Wait + Sync, W: Sink, S: Site, F: Folder>(
+fn host_by_key<T: AllocGlobal + Threads + Wait + Sync, W: Sink, S: GateSite, F: Folder>(
     rt: &T,
     output: &mut W,
-    site: &mut KeyedSite<S>,
+    site: &mut S,
     folder: &mut F,
     hosting: &Hosting,
     key: AdminKey,
 ) -> HostStatus
 where
     F::Disk: Send + Drop,
-    requires { IsService hosting.now.service }
+    requires { IsLoopService hosting.now.service }
     ensures hosted { HostsDatabase W.Sink F.Folder F.Disk.Disk
-        ⟦<KeyedSite<S> as Site>⟧ ⟦<KeyedDoor<S::Door> as Door>⟧
-        ⟦<KeyedLink<<S::Door as Door>::Link> as Source>⟧
-        ⟦<KeyedLink<<S::Door as Door>::Link> as Sink>⟧
-        hosting.now
-        output.old output.new (record site.old { key = key }) site.new folder.old folder.new result }
+        S.GateSite S.Gate.Gate S.Gate.Port.Port hosting.now key
+        output.old output.new site.old site.new folder.old folder.new result }
     ensures output_later { W.faults output.old ≤ W.faults output.new }
-    ensures site_later { S.faults site.old.site ≤ S.faults site.new.site }
+    ensures site_later { S.faults site.old ≤ S.faults site.new }
     ensures folder_later { F.faults folder.old ≤ F.faults folder.new }
 {
-    site.key = key;
-    make_ready(rt.alloc(), folder, hosting.file.as_str());
-    host_file(rt, output, site, folder, hosting)
+    let plan = plan_of(rt, hosting.service, key);
+    let name = hosting.file.as_str();
+    make_ready(rt.alloc(), folder, name);
+    host_file(rt, output, site, folder, name, plan)
+}
+
+/// How a database is to be served on this machine, as the words say.
+fn plan_of<T: Threads>(rt: &T, service: LoopService, key: AdminKey) -> Plan
+    requires { IsLoopService service }
+    ensures plan { IsPlanOf service key result }
+    ensures few { (1 ≤ result.loops) × (result.loops ≤ 64) }
+{
+    Plan::new(service, processors(rt), key)
+}
+
+/// How many processors the machine has; one, where the system doesn't tell.
+fn processors<T: Threads>(rt: &T) -> usize {
+    match available_parallelism(rt) {
+        Ok(count) => count.get(),
+        Err(_) => 1,
+    }
 }
 
 /// Compacts the database in a file where that is worth it. Where this fails, it is served as it is.
@@ -134,30 +152,29 @@ where
 }
 
 /// Serves the database in a file, which is had once, and given back at every end.
-fn host_file<T: AllocGlobal + Threads + Wait + Sync, W: Sink, S: Site, F: Folder>(
+fn host_file<T: AllocGlobal + Threads + Wait + Sync, W: Sink, S: GateSite, F: Folder>(
     rt: &T,
     output: &mut W,
-    site: &mut KeyedSite<S>,
+    site: &mut S,
     folder: &mut F,
-    hosting: &Hosting,
+    name: &str,
+    plan: Plan,
 ) -> HostStatus
 where
     F::Disk: Send + Drop,
-    requires { IsService hosting.now.service }
+    requires name { (1 ≤ length name.now) × (length name.now ≤ 255) }
+    requires few { (1 ≤ plan.loops) × (plan.loops ≤ 64) }
     ensures hosted { HostsFile W.Sink F.Folder F.Disk.Disk
-        ⟦<KeyedSite<S> as Site>⟧ ⟦<KeyedDoor<S::Door> as Door>⟧
-        ⟦<KeyedLink<<S::Door as Door>::Link> as Source>⟧
-        ⟦<KeyedLink<<S::Door as Door>::Link> as Sink>⟧
-        hosting.now output.old output.new site.old site.new folder.old folder.new result }
+        S.GateSite S.Gate.Gate S.Gate.Port.Port
+        name.now plan output.old output.new site.old site.new folder.old folder.new result }
     ensures output_later { W.faults output.old ≤ W.faults output.new }
-    ensures site_later { S.faults site.old.site ≤ S.faults site.new.site }
+    ensures site_later { S.faults site.old ≤ S.faults site.new }
     ensures folder_later { F.faults folder.old ≤ F.faults folder.new }
 {
-    let name = hosting.file.as_str();
     let Ok(disk) = folder.take(name) else {
         return HostStatus::DiskFault;
     };
-    let Hosted { end, disk } = host_site(rt, rt.alloc(), output, site, hosting.service, disk);
+    let Hosted { end, disk } = host_site(rt, rt.alloc(), output, site, plan, disk);
     folder.give(name, disk);
     status_of(end)
 }

@@ -8,17 +8,20 @@ use Rattle.ifdb_words.specs.declared.command.Command.TheVariants.{Run, Serve}
 use Rattle.ifdb_words.specs.declared.host.Hosting.{Hosting}
 use Rattle.ifdb_words.specs.declared.keep.Keep.{Keep}
 use Rattle.ifdb_words.specs.declared.project.Project.{Project}
+use Rattle.ifdb_words.specs.declared.loops.LoopService.{LoopService}
+use Rattle.ifdb_words.specs.declared.loops.Patience.{Patience}
 use Rattle.ifdb_words.specs.declared.service.Service.{Service}
 use Rattle.ifdb_words.specs.FileName.{file_in}
 use Rattle.ifdb_words.specs.Generate.{counts_for, generation_in, is_flag, script_for, size_of}
-use Rattle.ifdb_words.specs.Host.{host_in, host_names, host_of, host_with}
+use Rattle.ifdb_words.specs.Host.{host_in, host_names, host_of}
 use Rattle.ifdb_words.specs.Keep.{keep_in, keep_names, keep_of, keep_with}
 use Rattle.ifdb_words.specs.Level.{level_of}
 use Rattle.ifdb_words.specs.Limit.{limit_in, limit_names, limit_of}
-use Rattle.ifdb_words.specs.Numbers.{up_to, needed_to, number_of, number_or, number_to}
+use Rattle.ifdb_words.specs.Loops.{connections_of, hello_of, idle_of, loop_service_of, loops_of, patience_of, stall_of}
+use Rattle.ifdb_words.specs.Numbers.{maybe_to, up_to, needed_to, number_of, number_or, number_to}
 use Rattle.ifdb_words.specs.Options.{Use, uses_of, values_of}
 use Rattle.ifdb_words.specs.Project.{project_in, project_names, project_of, project_with}
-use Rattle.ifdb_words.specs.Ranges.{IsLimit, IsService, IsWithin}
+use Rattle.ifdb_words.specs.Ranges.{IsLimit, IsLoopService, IsPatience, IsService, IsWait, IsWithin}
 use Rattle.ifdb_words.specs.Run.{run_in}
 use Rattle.ifdb_words.specs.Serve.{links_of, port_of, serve_in, serve_names, serve_of, service_of, service_with, workers_of}
 use Rattle.ifdb_words.specs.Words.{command_in}
@@ -140,25 +143,71 @@ serve_values values = go (service_of values) (service_values values)
     go None within = tt
     go (Some s) within = within
 
-abbrev HasService : Hosting → Type 0
-HasService h = IsService h.service
+-- what an option comes to whose value is there, by what stands before it
+chosen : {X Y : Type 0} (f : X → Option Y) (o : Option X) (y : Y) → option_and_then f o ≡ Some y → (x : X) × (o ≡ Some x) × (f x ≡ Some y)
+chosen f None y e = absurd (none_some y e)
+chosen f (Some x) y e = (x, refl, e)
 
-host_values : (values : List ℕ → Option (List ℕ)) → IfSome (host_of values) HasService
-host_values values = go (file_in (values (codes "file"))) (file_in (values (codes "admin-key"))) (service_of values) (service_values values)
+mapped : {X Y : Type 0} (f : X → Y) (o : Option X) (y : Y) → option_map f o ≡ Some y → (x : X) × (o ≡ Some x) × (f x ≡ y)
+mapped f None y e = absurd (none_some y e)
+mapped f (Some x) y e = (x, refl, some_is (f x) y e)
+
+wait_in : (default : ℕ) (word : Option (List ℕ)) (m : ℕ) → IsWait default → number_or default 86400 word ≡ Some m → IsWait m
+wait_in default word m within e = default_in default 86400 word m within e
+
+patience_in : (values : List ℕ → Option (List ℕ)) (p : Patience) → patience_of values ≡ Some p → IsPatience p
+patience_in values p e =
+    let h = chosen _ (hello_of values) p e in
+    let i = chosen _ (idle_of values) p h.2 in
+    let s = mapped _ (stall_of values) p i.2 in
+    subst IsPatience s.2 (record {
+      hello = wait_in 10 (values (codes "hello")) h.0 (omega arith, omega arith) h.1;
+      idle = wait_in 600 (values (codes "idle")) i.0 (omega arith, omega arith) i.1;
+      stall = wait_in 60 (values (codes "stall")) s.0 (omega arith, omega arith) s.1;
+    })
+
+loops_in : (word : Option (List ℕ)) (n : Option ℕ) → maybe_to 64 word ≡ Some n → IfSome n (Within 64)
+loops_in None n e = subst (λ (o : Option ℕ). IfSome o (Within 64)) (some_is None n e) tt
+loops_in (Some word) n e =
+    let m = mapped Some (number_to 64 word) n e in
+    subst (λ (o : Option ℕ). IfSome o (Within 64)) m.2 (number_in 64 word m.0 m.1)
+
+loop_service_in : (values : List ℕ → Option (List ℕ)) (s : LoopService) → loop_service_of values ≡ Some s → IsLoopService s
+loop_service_in values s e =
+    let p = chosen _ (port_of values) s e in
+    let l = chosen _ (loops_of values) s p.2 in
+    let c = chosen _ (connections_of values) s l.2 in
+    let i = chosen _ (limit_of values) s c.2 in
+    let w = mapped _ (patience_of values) s i.2 in
+    subst IsLoopService w.2 (record {
+      port = needed_in 65535 (values (codes "port")) p.0 p.1;
+      loops = loops_in (values (codes "loops")) l.0 l.1;
+      connections = default_in 10000 1000000 (values (codes "connections")) c.0 (omega arith, omega arith) c.1;
+      limit = limit_within values i.0 i.1;
+      patience = patience_in values w.0 w.1;
+    })
+
+abbrev HasLoops : Hosting → Type 0
+HasLoops h = IsLoopService h.service
+
+host_values : (values : List ℕ → Option (List ℕ)) → IfSome (host_of values) HasLoops
+host_values values = go (host_of values) refl
   where
-    go : (file key : Option (List ℕ)) (service : Option Service) → IfSome service IsService → IfSome (host_with file key service) HasService
-    go None key service within = tt
-    go (Some file) None service within = tt
-    go (Some file) (Some key) None within = tt
-    go (Some file) (Some key) (Some service) within = within
+    go : (o : Option Hosting) → host_of values ≡ o → IfSome o HasLoops
+    go None e = tt
+    go (Some h) e =
+        let f = chosen _ (file_in (values (codes "file"))) h e in
+        let k = chosen _ (file_in (values (codes "admin-key"))) h f.2 in
+        let s = mapped _ (loop_service_of values) h k.2 in
+        subst HasLoops s.2 (loop_service_in values s.0 s.1)
 
-host_words : (uses : Option (List Use)) → IfSome (option_and_then (λ (uses : List Use). host_of (values_of uses)) uses) HasService
+host_words : (uses : Option (List Use)) → IfSome (option_and_then (λ (uses : List Use). host_of (values_of uses)) uses) HasLoops
 host_words None = tt
 host_words (Some uses) = host_values (values_of uses)
 
 pub host_in_range : {E : Type 0} (words : List (List ℕ)) (r : Result (Option Hosting) E) → IfOk r (λ h. h ≡ host_in words)
-    → IfOk r (λ h. IfSome h (λ h. IsService h.service))
-host_in_range words (Ok h) is = subst (λ (h : Option Hosting). IfSome h HasService) (sym is) (host_words (uses_of host_names words))
+    → IfOk r (λ h. IfSome h (λ h. IsLoopService h.service))
+host_in_range words (Ok h) is = subst (λ (h : Option Hosting). IfSome h HasLoops) (sym is) (host_words (uses_of host_names words))
 host_in_range words (Err e) is = tt
 
 -- what is asked for by the uses that were read

@@ -1,3 +1,4 @@
+mod Adding
 mod BadWord
 mod Basics
 mod ByOptions

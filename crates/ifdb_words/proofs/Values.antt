@@ -20,7 +20,7 @@ pub keep_same : (v w : Values) → ((name : List ℕ) → v name ≡ w name) →
 keep_same v w same = rw (same (codes "file"), same (codes "limit")) refl
 
 pub host_same : (v w : Values) → ((name : List ℕ) → v name ≡ w name) → host_of v ≡ host_of w
-host_same v w same = rw (same (codes "file"), same (codes "admin-key"), same (codes "port"), same (codes "workers"), same (codes "links"), same (codes "limit")) refl
+host_same v w same = rw (same (codes "file"), same (codes "admin-key"), same (codes "port"), same (codes "loops"), same (codes "connections"), same (codes "limit"), same (codes "hello"), same (codes "idle"), same (codes "stall")) refl
 
 pub project_same : (v w : Values) → ((name : List ℕ) → v name ≡ w name) → project_of v ≡ project_of w
 project_same v w same = rw (same (codes "tags"), same (codes "limit")) refl

@@ -28,8 +28,20 @@ with_service a = with_rule (with_rule (with_rule (with_rule a (option_of (codes 
 abbrev pub serve_app : App
 serve_app = with_service (bare_app (codes "serve"))
 
+-- with the options by which a patience is said
+abbrev pub with_patience : App → App
+with_patience a = with_rule (with_rule (with_rule a (option_of (codes "hello") false)) (option_of (codes "idle") false)) (option_of (codes "stall") false)
+
+-- with those that bound what is served
+abbrev pub with_bounds : App → App
+with_bounds a = with_rule (with_rule a (option_of (codes "connections") false)) (option_of (codes "limit") false)
+
+-- with the options of loops
+abbrev pub with_loops : App → App
+with_loops a = with_patience (with_bounds (with_rule (with_rule a (option_of (codes "port") true)) (option_of (codes "loops") false)))
+
 abbrev pub host_app : App
-host_app = with_service (with_rule (with_rule (bare_app (codes "host")) (option_of (codes "file") true)) (option_of (codes "admin-key") true))
+host_app = with_loops (with_rule (with_rule (bare_app (codes "host")) (option_of (codes "file") true)) (option_of (codes "admin-key") true))
 
 abbrev pub project_app : App
 project_app = with_rule (with_rule (bare_app (codes "project")) (option_of (codes "tags") true)) (option_of (codes "limit") false)

@@ -6,6 +6,7 @@ pub mod Host
 pub mod Keep
 pub mod Level
 pub mod Limit
+pub mod Loops
 pub mod Numbers
 pub mod OneFile
 pub mod Options

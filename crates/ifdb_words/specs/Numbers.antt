@@ -1,6 +1,6 @@
 -- decides: the command line
 -- Numbers in words.
-use Rattle.std.specs.Prelude.{ℕ, ◌&&◌, Bool, nat_lt, nat_le, List, length, Option, Some, None, option_and_then, if◌then◌else◌}
+use Rattle.std.specs.Prelude.{ℕ, ◌&&◌, Bool, nat_lt, nat_le, List, length, Option, Some, None, option_and_then, option_map, if◌then◌else◌}
 use Rattle.std.specs.List.{list_all}
 use Rattle.std.specs.Str.Parse.{digits_value}
 use Rattle.std.specs.Char.{is_ascii_digit}
@@ -34,3 +34,8 @@ needed_to most (Some word) = number_to most word
 abbrev pub number_or : ℕ → ℕ → Option (List ℕ) → Option ℕ
 number_or default most None = Some default
 number_or default most (Some word) = number_to most word
+
+-- that number, or none, where it is left out
+abbrev pub maybe_to : ℕ → Option (List ℕ) → Option (Option ℕ)
+maybe_to most None = Some None
+maybe_to most (Some word) = option_map Some (number_to most word)

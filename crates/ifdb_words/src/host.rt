@@ -3,12 +3,11 @@ ghost use Rattle.std.specs.Prelude.{◌≡◌, IfOk, IfSome, map, string_bytes};
 ghost use Rattle.clap.specs.Words.{app_of, found_of, first_value};
 ghost use Rattle.ifdb_words.specs.Clap.{host_app};
 ghost use Rattle.ifdb_words.specs.Host.{host_in, host_of};
-ghost use Rattle.ifdb_words.specs.Ranges.{IsService};
+ghost use Rattle.ifdb_words.specs.Ranges.{IsLoopService};
 
 use crate::file_name::{FileName, named};
+use crate::loops::{LoopService, loop_service_of, with_loops};
 use crate::options::{bare_command, option, taken};
-use crate::serve::{service_of, with_service};
-use crate::service::Service;
 use clap::ArgMatches;
 use std::alloc::{AllocError as OutOfMemory, Global};
 
@@ -20,14 +19,14 @@ pub struct Hosting {
     /// The file whose first line is the key of `admin`.
     pub key_file: FileName,
     /// How it is served.
-    pub service: Service,
+    pub service: LoopService,
 }
 
 /// What the words behind `host` ask for; `None` exactly where they aren't well formed. The only error is want of memory.
 #[tactic(auto, using(crate::proofs::HostOptions::free, crate::proofs::HostOptions::host_taken, crate::proofs::HostOptions::host_refused, crate::proofs::InRange::host_in_range))]
 pub fn host_in(alloc: Global, words: &[String]) -> Result<Option<Hosting>, OutOfMemory>
     ensures host { IfOk result (λ host. host ≡ host_in (map string_bytes words.now)) }
-    ensures ranges { IfOk result (λ host. IfSome host (λ h. IsService h.service)) }
+    ensures ranges { IfOk result (λ host. IfSome host (λ h. IsLoopService h.service)) }
 {
     let command = host_command(alloc)?;
     match taken(command, words)? {
@@ -40,7 +39,7 @@ pub fn host_in(alloc: Global, words: &[String]) -> Result<Option<Hosting>, OutOf
 fn host_of(alloc: Global, matches: &ArgMatches) -> Result<Option<Hosting>, OutOfMemory>
     ensures { IfOk result (λ host. host ≡ host_of (first_value (found_of matches.now))) }
 {
-    let Some(service) = service_of(matches) else {
+    let Some(service) = loop_service_of(matches) else {
         return Ok(None);
     };
     let Some(file) = named(alloc, matches, "file")? else {
@@ -62,5 +61,5 @@ fn host_command<'a>(alloc: Global) -> Result<clap::Command<'a>, OutOfMemory>
 {
     let with_file = bare_command(alloc, "host").arg(option(alloc, "file", true))?;
     let with_key = with_file.arg(option(alloc, "admin-key", true))?;
-    with_service(alloc, with_key)
+    with_loops(alloc, with_key)
 }

@@ -2,7 +2,7 @@
 ghost use Rattle.std.specs.Prelude.{◌≡◌, ◌≤◌, option_map};
 ghost use Rattle.std.specs.Char.{is_ascii_digit};
 ghost use Rattle.std.specs.List.{list_all};
-ghost use Rattle.ifdb_words.specs.Numbers.{decimal_of, needed_to, number_of, number_or, number_to};
+ghost use Rattle.ifdb_words.specs.Numbers.{decimal_of, maybe_to, needed_to, number_of, number_or, number_to};
 
 /// The most digits of a number.
 const MOST_DIGITS: usize = 13;
@@ -21,6 +21,16 @@ pub fn number_or(default: u64, most: u64, word: Option<&str>) -> Option<u64>
     match word {
         None => Some(default),
         Some(word) => number_to(most, word),
+    }
+}
+
+/// The number of an option that may be left out, from 1 to `most`, if it is there.
+pub fn maybe_to(most: u64, word: Option<&str>) -> Option<Option<u64>>
+    ensures { result ≡ maybe_to most (option_map (λ w. w.now) word.entry) }
+{
+    match word {
+        None => Some(None),
+        Some(word) => Some(Some(number_to(most, word)?)),
     }
 }
 

@@ -59,7 +59,7 @@ pub fn service_of(matches: &ArgMatches) -> Option<Service>
 }
 
 /// The port.
-fn port_of(matches: &ArgMatches) -> Option<u16>
+pub fn port_of(matches: &ArgMatches) -> Option<u16>
     ensures { result ≡ port_of (first_value (found_of matches.now)) }
 {
     let port = needed_to(MOST_PORT, matches.get_str("port"))?;

@@ -1,4 +1,4 @@
-//! Tests of what is heard of lines and connections by a server with a key for admin, and of keys in files.
+//! Tests of what is heard of lines by a server with a key for admin, and of keys in files.
 #![tactic(auto)]
 
 #[cfg(test)]

@@ -19,6 +19,7 @@ pub struct Echo {
     opened: u64,
     settled: u64,
     fails_at: u64,
+    limit: usize,
     out: Vec<u8>,
     is_long: bool,
     /// How many sessions have left.
@@ -26,14 +27,16 @@ pub struct Echo {
 }
 
 impl Echo {
-    /// No session was opened yet. The settling of this number fails, from 1 on; at 0 none does.
-    pub fn new(alloc: Global, fails_at: u64) -> Echo
+    /// No session was opened yet. Each connection may give so many bytes. The settling of this number fails, from 1 on; at 0 none
+    /// does.
+    pub fn new(alloc: Global, limit: usize, fails_at: u64) -> Echo
         ensures { numbers_below result.opened ≡ [] }
     {
         Echo {
             opened: 0,
             settled: 0,
             fails_at,
+            limit,
             out: Vec::new(alloc),
             is_long: false,
             left: 0,
@@ -60,14 +63,15 @@ fn asked_for(line: &[u8]) -> Option<usize> {
 }
 
 impl Service for Echo {
-    ghost use Rattle.std.specs.Prelude.{◌<◌, ◌∷◌, [], if◌then◌else◌};
+    ghost use Rattle.std.specs.Prelude.{◌≡◌, ◌<◌, ◌∷◌, [], if◌then◌else◌};
+    ghost use Rattle.std.proofs.Common.{◌∙◌, refl};
     ghost use Rattle.test_loop.specs.Numbers.{numbers_below};
 
     type Seat = u64;
 
     ghost ready = { λ _. Unit {0} };
 
-    ghost goes_on = { λ _ _. Unit {0} };
+    ghost goes_on = { λ echo now. now.limit ≡ echo.limit };
 
     ghost number = { λ seat. seat };
 
@@ -84,6 +88,8 @@ impl Service for Echo {
     ghost text = { λ echo. if echo.is_long then 33 ∷ 10 ∷ [] else echo.out.items };
 
     ghost long_text = { 33 ∷ 10 ∷ [] };
+
+    ghost limit = { λ echo. echo.limit };
 
     fn open(&mut self) -> Result<u64, OutOfMemory> {
         if self.opened == u64::MAX {
@@ -117,6 +123,10 @@ impl Service for Echo {
         }
     }
 
+    fn limit(&self) -> usize {
+        self.limit
+    }
+
     fn settle(&mut self) -> Result<(), Failed> {
         self.settled = self.settled.saturating_add(1);
         if self.settled == self.fails_at {
@@ -131,9 +141,11 @@ impl Service for Echo {
 
     ghost keeps_all = { λ _ _ _ _ says. says };
 
-    ghost goes_itself = { λ _. tt };
+    ghost goes_itself = { λ _. refl };
 
-    ghost goes_further = { λ _ _ _ _ _. tt };
+    ghost goes_further = { λ r s t p q. q ∙ p };
+
+    ghost keeps_limit = { λ _ _ goes. goes };
 
     ghost stays_over = { λ _ _ _ _ _ _. tt };
 

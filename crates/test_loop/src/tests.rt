@@ -6,11 +6,13 @@ use std::test::Fail;
 
 const TERMS: Terms = Terms {
     connections: 100,
-    bytes: 1_000_000,
     hello: 100,
     idle: 100,
     stall: 100,
 };
+
+// How many bytes a connection may give, where it isn't said.
+const LIMIT: usize = 1_000_000;
 
 // A loop that was run: its gate, how many sessions have left, and how it ended.
 #[derive(Drop)]
@@ -20,16 +22,17 @@ struct Ran {
     end: Result<(), Halt>,
 }
 
-// A loop whose gate fails after so many waits, and where the settling of this number fails.
+// A loop that takes so many bytes of a connection, whose gate fails after so many waits, and where the settling of this number fails.
 fn run(
     alloc: Global,
     terms: Terms,
+    limit: usize,
     coming: Vec<Coming>,
     waits: u64,
     fails_at: u64,
 ) -> Result<Ran, Fail> {
     let mut gate = MemoryGate::new(alloc, coming, waits)?;
-    let mut echo = Echo::new(alloc, fails_at);
+    let mut echo = Echo::new(alloc, limit, fails_at);
     let mut looping = Loop::new(alloc, terms)?;
     let end = serve(&mut gate, &mut echo, &mut looping);
     Ok(Ran {
@@ -74,7 +77,7 @@ fn alone(
 ) -> Result<MemoryGate, Fail> {
     let mut all = Vec::new(alloc);
     all.push(coming(alloc, text, reads, writes)?)?;
-    Ok(run(alloc, terms, all, 100, 0)?.gate)
+    Ok(run(alloc, terms, LIMIT, all, 100, 0)?.gate)
 }
 
 #[test]
@@ -113,7 +116,7 @@ fn each_gets_its_own(rt: HostRuntime) -> Result<(), Fail> {
     all.push(coming(alloc, b"third\n", &[Step::Wait, Step::Wait], &[])?)?;
     all.push(coming(alloc, b"second\nhalf", &[Step::Wait], &[])?)?;
     all.push(coming(alloc, b"first\nBYE\n", &[], &[])?)?;
-    let ran = run(alloc, TERMS, all, 10, 0)?;
+    let ran = run(alloc, TERMS, LIMIT, all, 10, 0)?;
     assert!(rt; told(&ran.gate, 0) == Some((b"first\nBYE\n".as_slice(), Ending::Bye)));
     assert!(rt; told(&ran.gate, 1) == Some((b"second\n".as_slice(), Ending::End)));
     assert!(rt; told(&ran.gate, 2) == Some((b"third\n".as_slice(), Ending::End)));
@@ -132,7 +135,7 @@ fn a_fault_ends_its_connection_alone(rt: HostRuntime) -> Result<(), Fail> {
     all.push(coming(alloc, b"asked\nlost\n", &reads, &writes)?)?;
     let reads = [Step::Piece(5), Step::Fail];
     all.push(coming(alloc, b"read\nlost\n", &reads, &[])?)?;
-    let gate = run(alloc, TERMS, all, 10, 0)?.gate;
+    let gate = run(alloc, TERMS, LIMIT, all, 10, 0)?.gate;
     assert!(rt; told(&gate, 0) == Some((b"ask".as_slice(), Ending::LinkWrite)));
     assert!(rt; told(&gate, 1) == Some((b"read\n".as_slice(), Ending::LinkRead)));
     assert!(rt; told(&gate, 2) == Some((b"kept\nBYE\n".as_slice(), Ending::Bye)));
@@ -160,7 +163,7 @@ fn nothing_is_written_that_is_not_kept(rt: HostRuntime) -> Result<(), Fail> {
     let mut all = Vec::new(alloc);
     all.push(coming(alloc, b"a\nBYE\n", &[], &[])?)?;
     all.push(coming(alloc, b"b\n", &[Step::Piece(2), Step::Wait], &[])?)?;
-    let ran = run(alloc, TERMS, all, 10, 2)?;
+    let ran = run(alloc, TERMS, LIMIT, all, 10, 2)?;
     let unkept = Ending::Halted(Halt::Unkept);
     assert!(rt; told(&ran.gate, 0) == Some((b"".as_slice(), unkept)));
     assert!(rt; told(&ran.gate, 1) == Some((b"".as_slice(), Ending::Bye)));
@@ -186,8 +189,9 @@ fn a_line_that_is_too_long_is_refused(rt: HostRuntime) -> Result<(), Fail> {
 fn no_more_is_taken_than_the_limit(rt: HostRuntime) -> Result<(), Fail> {
     let endings = [Ending::TooMuch, Ending::TooMuch, Ending::End, Ending::End];
     for (ending, bytes) in endings.into_iter().zip(4..8) {
-        let terms = Terms { bytes, ..TERMS };
-        let gate = alone(rt.alloc(), terms, b"abc\nde", &[], &[])?;
+        let mut all = Vec::new(rt.alloc());
+        all.push(coming(rt.alloc(), b"abc\nde", &[], &[])?)?;
+        let gate = run(rt.alloc(), TERMS, bytes, all, 100, 0)?.gate;
         assert!(rt; told(&gate, 0) == Some((b"abc\n".as_slice(), ending)));
     }
     Ok(())
@@ -201,7 +205,7 @@ fn many_lines_of_one_wait_for_one_of_another(rt: HostRuntime) -> Result<(), Fail
     let mut all = Vec::new(alloc);
     all.push(coming(alloc, b"BYE\n", &[], &[])?)?;
     all.push(coming(alloc, &many, &[], &[])?)?;
-    let ran = run(alloc, TERMS, all, 3, 0)?;
+    let ran = run(alloc, TERMS, LIMIT, all, 3, 0)?;
     let halted = Ending::Halted(Halt::Gate);
     assert!(rt; told(&ran.gate, 0) == Some((b"BYE\n".as_slice(), Ending::Bye)));
     // One turn in the first round, and two in the next: it was listed, and is ready.
@@ -238,7 +242,7 @@ fn those_past_the_most_are_refused(rt: HostRuntime) -> Result<(), Fail> {
         connections: 2,
         ..TERMS
     };
-    let gate = run(alloc, terms, all, 5, 0)?.gate;
+    let gate = run(alloc, terms, LIMIT, all, 5, 0)?.gate;
     assert_eq!(rt; gate.back().len(), 2);
     assert_eq!(rt; gate.refused, 1);
     Ok(())

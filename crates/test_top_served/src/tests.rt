@@ -1,5 +1,7 @@
-// Connections in memory.
+// Connections in memory, and databases in files.
+mod compacts;
 mod faults;
+mod hosts;
 mod serve;
 
 use ifdb_io::{MemoryLink, MemorySite};
@@ -10,4 +12,4 @@ use std::process::Abort;
 use std::sync::Wait;
 use std::test::Fail;
 use std::thread::Threads;
-use test_top::{Calls, Ran, all_of, both, call, failing, run, served, sink, source};
+use test_top::{Calls, Ran, all_of, both, call, failing, run, served, sink, source, words_of};

@@ -1,6 +1,6 @@
 // The words behind commands over files: `keep`, `host`, `compact` and `inspect`.
-use super::{Asked, GIBI, letters, numbers_of_service, words_of};
-use ifdb_words::{host_in, keep_in, one_file_in};
+use super::{GIBI, letters, words_of};
+use ifdb_words::{LoopService, Patience, host_in, keep_in, one_file_in};
 use std::alloc::AllocGlobal;
 use std::test::Fail;
 
@@ -54,18 +54,34 @@ fn words_that_keep_refuses(rt: HostRuntime) -> Result<(), Fail> {
     Ok(())
 }
 
+/// How a database is served where only the port is said, as 7,000.
+const USUAL: LoopService = LoopService {
+    port: 7_000,
+    loops: None,
+    connections: 10_000,
+    limit: GIBI,
+    patience: PATIENCE,
+};
+
+/// How long connections may keep the server waiting where the words don't say it.
+const PATIENCE: Patience = Patience {
+    hello: 10,
+    idle: 600,
+    stall: 60,
+};
+
 /// What the words behind `host` ask for, if they are well formed: whether the files are these, and how the database is to be served.
 fn hosted<T: AllocGlobal>(
     rt: &T,
     line: &str,
     file: &str,
     key_file: &str,
-) -> Result<Option<(bool, Asked)>, Fail> {
+) -> Result<Option<(bool, LoopService)>, Fail> {
     let words = words_of(rt.alloc(), line)?;
     match host_in(rt.alloc(), &words)? {
         Some(hosting) => {
             let named = hosting.file.as_str() == file && hosting.key_file.as_str() == key_file;
-            Ok(Some((named, numbers_of_service(hosting.service))))
+            Ok(Some((named, hosting.service)))
         }
         None => Ok(None),
     }
@@ -73,36 +89,39 @@ fn hosted<T: AllocGlobal>(
 
 #[test]
 fn words_behind_host(rt: HostRuntime) -> Result<(), Fail> {
-    static TABLE: [(&str, &str, &str, Asked); 5] = [
+    static TABLE: [(&str, &str, &str, LoopService); 5] = [
+        ("--file d --admin-key k --port 7000", "d", "k", USUAL),
         (
-            "--file d --admin-key k --port 7000",
-            "d",
-            "k",
-            [1, 7_000, 4, 1_000_000, GIBI],
-        ),
-        (
-            "--limit=10 --links=9 --workers=8 --port=7000 --admin-key=/etc/k --file=/var/d",
+            "--stall=14 --idle=13 --hello=12 --limit=10 --connections=9 --loops=8 --port=7001 --admin-key=/etc/k --file=/var/d",
             "/var/d",
             "/etc/k",
-            [1, 7_000, 8, 9, 10],
+            LoopService {
+                port: 7_001,
+                loops: Some(8),
+                connections: 9,
+                limit: 10,
+                patience: Patience {
+                    hello: 12,
+                    idle: 13,
+                    stall: 14,
+                },
+            },
         ),
         (
-            "--admin-key=--file --port 1 --file=--admin-key",
+            "--admin-key=--file --port 7000 --file=--admin-key",
             "--admin-key",
             "--file",
-            [1, 1, 4, 1_000_000, GIBI],
+            USUAL,
         ),
+        ("--file d --admin-key d --port 7000", "d", "d", USUAL),
         (
-            "--file d --admin-key d --port 65535",
-            "d",
-            "d",
-            [1, 65_535, 4, 1_000_000, GIBI],
-        ),
-        (
-            "--admin-key=k=k --file é --port 07000 --workers 64",
+            "--admin-key=k=k --file é --port 07000 --loops 064",
             "é",
             "k=k",
-            [1, 7_000, 64, 1_000_000, GIBI],
+            LoopService {
+                loops: Some(64),
+                ..USUAL
+            },
         ),
     ];
     for (line, file, key_file, wanted) in &TABLE {
@@ -118,6 +137,139 @@ fn words_behind_host(rt: HostRuntime) -> Result<(), Fail> {
         line.push_str(&name)?;
         let found = hosted(&rt, &line, "d", &name)?;
         assert_eq!(rt; found.map(|(named, _)| named), wanted, "{count}");
+    }
+    Ok(())
+}
+
+/// How a database is served by these options behind the files' and the port's.
+fn served<T: AllocGlobal>(rt: &T, options: &str) -> Result<Option<LoopService>, Fail> {
+    let mut line = String::from_str(rt.alloc(), "--file d --admin-key k --port 7000 ")?;
+    line.push_str(options)?;
+    let found = hosted(rt, &line, "d", "k")?;
+    Ok(found.map(|(_, service)| service))
+}
+
+/// As usual, but for how long connections may keep the server waiting.
+const fn patient(patience: Patience) -> LoopService {
+    LoopService { patience, ..USUAL }
+}
+
+#[test]
+fn bounds_of_host(rt: HostRuntime) -> Result<(), Fail> {
+    let table = [
+        (
+            "--loops 1",
+            LoopService {
+                loops: Some(1),
+                ..USUAL
+            },
+        ),
+        (
+            "--loops=64",
+            LoopService {
+                loops: Some(64),
+                ..USUAL
+            },
+        ),
+        (
+            "--connections 1",
+            LoopService {
+                connections: 1,
+                ..USUAL
+            },
+        ),
+        (
+            "--connections=1000000",
+            LoopService {
+                connections: 1_000_000,
+                ..USUAL
+            },
+        ),
+        ("--limit 1", LoopService { limit: 1, ..USUAL }),
+        (
+            "--limit=1099511627776",
+            LoopService {
+                limit: 1 << 40,
+                ..USUAL
+            },
+        ),
+        (
+            "--hello 1",
+            patient(Patience {
+                hello: 1,
+                ..PATIENCE
+            }),
+        ),
+        (
+            "--hello=86400",
+            patient(Patience {
+                hello: 86_400,
+                ..PATIENCE
+            }),
+        ),
+        (
+            "--idle 1",
+            patient(Patience {
+                idle: 1,
+                ..PATIENCE
+            }),
+        ),
+        (
+            "--idle=86400",
+            patient(Patience {
+                idle: 86_400,
+                ..PATIENCE
+            }),
+        ),
+        (
+            "--stall 1",
+            patient(Patience {
+                stall: 1,
+                ..PATIENCE
+            }),
+        ),
+        (
+            "--stall=86400",
+            patient(Patience {
+                stall: 86_400,
+                ..PATIENCE
+            }),
+        ),
+    ];
+    for (options, wanted) in table {
+        assert_eq!(rt; served(&rt, options)?, Some(wanted), "{options}");
+    }
+    Ok(())
+}
+
+#[test]
+fn bounds_that_host_holds(rt: HostRuntime) -> Result<(), Fail> {
+    for options in [
+        "--loops 0",
+        "--loops 65",
+        "--loops -1",
+        "--loops=",
+        "--loops",
+        "--loops four",
+        "--loops 4 --loops 4",
+        "--connections 0",
+        "--connections 1000001",
+        "--connections 1 --connections=2",
+        "--limit 0",
+        "--limit 1099511627777",
+        "--hello 0",
+        "--hello 86401",
+        "--hello 10s",
+        "--idle 0",
+        "--idle 86401",
+        "--idle=1.5",
+        "--stall 0",
+        "--stall 86401",
+        "--stall 60 --stall 60",
+        "--workers 4",
+        "--links 9",
+    ] {
+        assert_eq!(rt; served(&rt, options)?, None, "{options}");
     }
     Ok(())
 }
@@ -145,7 +297,7 @@ fn words_that_host_refuses(rt: HostRuntime) -> Result<(), Fail> {
         "--file d --file d --port 7000 --admin-key k",
         "--file= --port 7000 --admin-key k",
         "--file d --port 0 --admin-key k",
-        "--file d --port 7000 --admin-key k --workers 65",
+        "--file d --port 65536 --admin-key k",
         "--file d --port 7000 --admin-key k --tags none",
     ] {
         let words = words_of(rt.alloc(), line)?;

@@ -2,9 +2,11 @@ use Rattle.std.proofs.Common.{◌≡◌, true, [], ◌∙◌, ap, subst}
 use Rattle.std.proofs.lemmas.Result.{IfErr-weaker, IfOk-weaker}
 use Rattle.ifdb_turn.specs.Passes.{history}
 use Rattle.ifdb_durable.specs.Told.{Begins}
+use Rattle.ifdb_keyed.specs.Keys.{key_bytes}
 use Rattle.ifdb_session.specs.Durable.{count_of}
 use Rattle.ifdb_host.specs.Fronts.{opening_of, HasFrontOf, KnowsOf, LeavesFrom}
 use Rattle.ifdb_host.specs.Serving.{span_of, IsKeptBehind}
+use Rattle.ifdb_host.proofs.AtGates.{one_each}
 use Rattle.ifdb_host.proofs.Visits.{all_wider}
 use Rattle.ifdb_host.proofs.serving.visit.Goals as goal
 
@@ -16,14 +18,17 @@ returns-clause-ended g c = λ opening is.
     let receipt = c.keep_serving-ended.result.1.receipt in
     let d = span_of g.D.Disk.tells g.D.Disk.faults opening.disk c.close.result.disk in
     let begins : Begins (opening_of opening) receipt = subst (λ r. Begins r receipt) is e.told in
-    IfOk-weaker c.keep_serving-ended.result.0 _ _ (λ x all. record {
-      now = pass;
-      all = all_wider g.G.Link.Source g.G.Link.Sink g.N.Begins.first (λ texts. KnowsOf receipt (count_of texts)) (IsKeptBehind g.N.Begins.first opening.size d) (receipt.has_failed ≡ true) (c.close.result.has_failed ≡ true)
-          g.G.Door c.args.limit c.args.database.pass pass c.args.doors.items x.doors.items x.faults
-          (λ texts front knows before sized shows. k.kept_since opening before texts begins sized shows front knows) (λ failed. k.known failed) e.sees.orderly.0 all;
+    IfOk-weaker c.keep_serving-ended.result.0 _ _ (λ back all. record {
+      log = history pass;
       order = k.order;
-      own = k.own;
-      rises = e.sees.orderly.1;
+      runs = all.runs;
+      before = all.before;
+      after = all.after;
+      served = all_wider g.G.Port.Port (key_bytes c.args.plan.key) c.args.plan.limit g.N.Begins.first (λ texts. KnowsOf receipt (count_of texts)) (IsKeptBehind g.N.Begins.first opening.size d) (receipt.has_failed ≡ true)
+          (c.close.result.has_failed ≡ true) g.G.Gate (history pass) all.runs (λ texts front knows before sized shows. k.kept_since opening before texts begins sized shows front knows) (λ failed. k.known failed) e.sees.orderly.0
+          all.served;
+      each = one_each g.G.Port.Port (key_bytes c.args.plan.key) c.args.plan.limit g.N.Begins.first (λ texts. KnowsOf receipt (count_of texts)) (receipt.has_failed ≡ true) g.G.Gate pass c.args.gates.items back.items all k.own
+          e.sees.orderly.1;
       counted = k.counts;
       fronts = λ texts sized shows. k.fronts opening texts begins sized shows;
     }) e.ended

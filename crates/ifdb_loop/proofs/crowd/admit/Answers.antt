@@ -18,7 +18,7 @@ returns-then-is_err-2-clause-numbers g c = numbers_same g.S.Service c.args.clien
 pub returns-in-Err-clause-served : goal.returns-in-Err-clause-served
 returns-in-Err-clause-served g c =
     AreServed-settled g.S.Service g.P.Port c.args.service.now c.open.new.self c.reserve.new.self c.open.ensures.others
-    (AreServed-same g.S.Service g.P.Port c.args.service.now c.args.clients.now c.reserve.new.self (λ j. ap (λ m. get m j) c.reserve.ensures.rest_kept) c.requires.served)
+    (g.met.S.Service.keeps_limit _ _ c.open.ensures.goes_on) (AreServed-same g.S.Service g.P.Port c.args.service.now c.args.clients.now c.reserve.new.self (λ j. ap (λ m. get m j) c.reserve.ensures.rest_kept) c.requires.served)
 
 pub returns-in-Err-clause-numbers : goal.returns-in-Err-clause-numbers
 returns-in-Err-clause-numbers g c = numbers_same g.S.Service c.args.clients.now c.reserve.new.self (λ j. ap (λ m. get m j) c.reserve.ensures.rest_kept)
@@ -40,12 +40,12 @@ pub returns-clause-served : goal.returns-clause-served
 returns-clause-served g c =
     let all = AreServed-same g.S.Service g.P.Port c.args.service.now c.args.clients.now c.reserve.new.self (λ j. ap (λ m. get m j) c.reserve.ensures.rest_kept) c.requires.served in
     AreServed-more g.S.Service g.P.Port c.args.service.now c.open.new.self c.reserve.new.self c.insert_reserved.new.self c.insert_reserved.result _ all c.insert_reserved.ensures.updates
-    c.open.ensures.others c.in-Ok.ensures.apart (
+    c.open.ensures.others c.in-Ok.ensures.apart (g.met.S.Service.keeps_limit _ _ c.open.ensures.goes_on) (
       (
         silence,
         c.in-Ok.ensures.new,
-        fresh _ _ _ _ _ (ap (λ (w : Wiring). w.held) c.new.ensures) (ap (λ (w : Wiring). w.owed) c.new.ensures)
-            c.requires.given c.requires.written c.requires.reads c.requires.writes,
+        rw c.limit.ensures (fresh _ _ _ _ _ (ap (λ (w : Wiring). w.held) c.new.ensures) (ap (λ (w : Wiring). w.owed) c.new.ensures)
+            c.requires.given c.requires.written c.requires.reads c.requires.writes),
       ),
       (λ e. absurd (false_true e)),
       tt,

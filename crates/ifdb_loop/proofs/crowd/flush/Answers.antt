@@ -18,7 +18,7 @@ returns-then-is_ok-clause-served g c =
       (
         settled s.0.0,
         rw w.seat (g.met.S.Service.keeps_all _ _ _ c.requires.kept s.0.1),
-        rw (w.ending, w.limit, w.room, w.held) (went _ _ before now _ _ _ _ _ s.0.0 w.given w.left w.unread w.sends w.cause.later (λ _. same) s.0.2),
+        rw (w.ending, w.room, w.held) (went _ _ before now _ _ _ _ _ s.0.0 w.given w.left w.unread w.sends w.cause.later (λ _. same) s.0.2),
       ),
       (λ is_lost. rw same (s.1 (sym w.lost ∙ is_lost))),
       subst EndsItself (sym w.ending) s.2,
@@ -36,7 +36,7 @@ returns-clause-served g c =
       (
         settled s.0.0,
         rw w.seat (g.met.S.Service.keeps_all _ _ _ c.requires.kept s.0.1),
-        rw (ending, w.limit, w.room, w.held) (lost _ _ before now _ _ _ _ _ s.0.0 w.given w.left w.unread w.sends w.cause.later fault s.0.2),
+        rw (ending, w.room, w.held) (lost _ _ before now _ _ _ _ _ s.0.0 w.given w.left w.unread w.sends w.cause.later fault s.0.2),
       ),
       (λ _. fault),
       rw ending (own_lost c.args.client.now.ending s.2),

@@ -25,11 +25,11 @@ returns-in_err-settle-clause-goes_on g c = g.met.S.Service.goes_further _ _ _ c.
 
 pub returns-in_err-settle-clause-served : goal.returns-in_err-settle-clause-served
 returns-in_err-settle-clause-served g c =
-    AreServed-settled g.S.Service g.P.Port c.loop-key.service c.settle.new.self c.loop-key.clients c.settle.ensures.says c.loop-key.invariant.served
+    AreServed-settled g.S.Service g.P.Port c.loop-key.service c.settle.new.self c.loop-key.clients c.settle.ensures.says (g.met.S.Service.keeps_limit _ _ c.settle.ensures.goes_on) c.loop-key.invariant.served
 
 pub loop-key-2-init : goal.loop-key-2-init
 loop-key-2-init g c = record {
-  served = AreServed-settled g.S.Service g.P.Port c.loop-key.service c.settle.new.self c.loop-key.clients c.settle.ensures.says c.loop-key.invariant.served;
+  served = AreServed-settled g.S.Service g.P.Port c.loop-key.service c.settle.new.self c.loop-key.clients c.settle.ensures.says (g.met.S.Service.keeps_limit _ _ c.settle.ensures.goes_on) c.loop-key.invariant.served;
   numbers = c.loop-key.invariant.numbers;
 }
 

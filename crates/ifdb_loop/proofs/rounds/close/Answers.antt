@@ -22,6 +22,7 @@ loop-key-preserved g c =
     let done = c.close_at.ensures in
     let m : Remembers g.S.Service g.G.Port.Port c.loop-key.service c.close_at.new.service (g.G.Gate.faults c.loop-key.gate) (g.G.Gate.faults c.close_at.new.gate) = record {
       over = λ n d. g.met.S.Service.stays_over _ _ n d done.goes_on;
+      limit = g.met.S.Service.keeps_limit _ _ done.goes_on;
       failed = g.met.S.Service.stays_failed _ _ done.goes_on;
       faults = λ lt. rw done.steady.faults lt;
     } in

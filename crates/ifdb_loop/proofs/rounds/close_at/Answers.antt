@@ -12,6 +12,7 @@ returns-in_default-clause-order g c =
     let same = rw none at c.cut_off.ensures.none in
     let m : Remembers g.S.Service g.G.Port.Port c.args.service.now c.cut_off.new.service (g.G.Gate.faults c.args.gate.now) (g.G.Gate.faults c.args.gate.now) = record {
       over = λ n d. g.met.S.Service.stays_over _ _ n d goes;
+      limit = g.met.S.Service.keeps_limit _ _ goes;
       failed = g.met.S.Service.stays_failed _ _ goes;
       faults = λ lt. lt;
     } in
@@ -28,6 +29,7 @@ pub done-requires : goal.done-requires
 done-requires g c =
     let m : Remembers g.S.Service g.G.Port.Port c.args.service.now c.cut_off.new.service (g.G.Gate.faults c.args.gate.now) (g.G.Gate.faults c.args.gate.now) = record {
       over = λ n d. g.met.S.Service.stays_over _ _ n d c.cut_off.ensures.goes_on;
+      limit = g.met.S.Service.keeps_limit _ _ c.cut_off.ensures.goes_on;
       failed = g.met.S.Service.stays_failed _ _ c.cut_off.ensures.goes_on;
       faults = λ lt. lt;
     } in
@@ -40,6 +42,7 @@ pub returns-clause-out : goal.returns-clause-out
 returns-clause-out g c =
     let m : Remembers g.S.Service g.G.Port.Port c.args.service.now c.cut_off.new.service (g.G.Gate.faults c.args.gate.now) (g.G.Gate.faults c.args.gate.now) = record {
       over = λ n d. g.met.S.Service.stays_over _ _ n d c.cut_off.ensures.goes_on;
+      limit = g.met.S.Service.keeps_limit _ _ c.cut_off.ensures.goes_on;
       failed = g.met.S.Service.stays_failed _ _ c.cut_off.ensures.goes_on;
       faults = λ lt. lt;
     } in
@@ -52,6 +55,7 @@ pub returns-clause-order : goal.returns-clause-order
 returns-clause-order g c =
     let m : Remembers g.S.Service g.G.Port.Port c.args.service.now c.cut_off.new.service (g.G.Gate.faults c.args.gate.now) (g.G.Gate.faults c.done.new.self) = record {
       over = λ n d. g.met.S.Service.stays_over _ _ n d c.cut_off.ensures.goes_on;
+      limit = g.met.S.Service.keeps_limit _ _ c.cut_off.ensures.goes_on;
       failed = g.met.S.Service.stays_failed _ _ c.cut_off.ensures.goes_on;
       faults = λ lt. rw c.done.ensures.faults lt;
     } in

@@ -12,6 +12,7 @@ returns-in_default-clause-order g c =
     let same = rw none at c.hang_up.ensures.none in
     let m : Remembers g.S.Service g.G.Port.Port c.args.service.now c.hang_up.new.service (g.G.Gate.faults c.args.gate.now) (g.G.Gate.faults c.args.gate.now) = record {
       over = λ n d. g.met.S.Service.stays_over _ _ n d goes;
+      limit = g.met.S.Service.keeps_limit _ _ goes;
       failed = g.met.S.Service.stays_failed _ _ goes;
       faults = λ lt. lt;
     } in
@@ -42,6 +43,7 @@ returns-clause-order g c =
     let out = c.in-Some.ensures.over (g.G.Gate.faults c.done.new.self) in
     let m : Remembers g.S.Service g.G.Port.Port c.args.service.now c.hang_up.new.service (g.G.Gate.faults c.args.gate.now) (g.G.Gate.faults c.done.new.self) = record {
       over = λ n d. g.met.S.Service.stays_over _ _ n d goes;
+      limit = g.met.S.Service.keeps_limit _ _ goes;
       failed = g.met.S.Service.stays_failed _ _ goes;
       faults = λ lt. rw c.done.ensures.faults lt;
     } in

@@ -11,6 +11,7 @@ returns-in-Err-clause-order g c =
     let goes = g.met.S.Service.goes_itself c.args.service.now in
     let m : Remembers g.S.Service g.G.Port.Port c.args.service.now c.args.service.now (g.G.Gate.faults c.args.gate.now) (g.G.Gate.faults c.wait.new.self) = record {
       over = λ n d. g.met.S.Service.stays_over _ _ n d goes;
+      limit = g.met.S.Service.keeps_limit _ _ goes;
       failed = g.met.S.Service.stays_failed _ _ goes;
       faults = λ lt. omega (arith, lt, c.wait.ensures.cause.later);
     } in
@@ -30,6 +31,7 @@ returns-then-is_err-clause-order g c =
     let goes = c.round.ensures.goes_on in
     let m : Remembers g.S.Service g.G.Port.Port c.args.service.now c.round.new.service (g.G.Gate.faults c.args.gate.now) (g.G.Gate.faults c.wait.new.self) = record {
       over = λ n d. g.met.S.Service.stays_over _ _ n d goes;
+      limit = g.met.S.Service.keeps_limit _ _ goes;
       failed = g.met.S.Service.stays_failed _ _ goes;
       faults = λ lt. omega (arith, lt, c.wait.ensures.cause.later);
     } in
@@ -40,10 +42,11 @@ pub returns-then-is_err-clause-out : goal.returns-then-is_err-clause-out
 returns-then-is_err-clause-out g c = rw c.round.ensures.numbers (c.wait.ensures.out ∙ c.requires.out)
 
 pub give_back-requires-clause-order : goal.give_back-requires-clause-order
-give_back-requires-clause-order g c =
+give_back-requires-clause-order g c κs within =
     let goes = c.round.ensures.goes_on in
     let m : Remembers g.S.Service g.G.Port.Port c.args.service.now c.round.new.service (g.G.Gate.faults c.args.gate.now) (g.G.Gate.faults c.wait.new.self) = record {
       over = λ n d. g.met.S.Service.stays_over _ _ n d goes;
+      limit = g.met.S.Service.keeps_limit _ _ goes;
       failed = g.met.S.Service.stays_failed _ _ goes;
       faults = λ lt. omega (arith, lt, c.wait.ensures.cause.later);
     } in
@@ -51,7 +54,7 @@ give_back-requires-clause-order g c =
     c.round.ensures.opened c.wait.ensures.back c.round.ensures.numbers c.requires.order
 
 pub give_back-requires-clause-out : goal.give_back-requires-clause-out
-give_back-requires-clause-out g c = rw c.round.ensures.numbers (c.wait.ensures.out ∙ c.requires.out)
+give_back-requires-clause-out g c κs within = rw c.round.ensures.numbers (c.wait.ensures.out ∙ c.requires.out)
 
 pub returns-clause-goes_on : goal.returns-clause-goes_on
 returns-clause-goes_on g c =

@@ -11,6 +11,7 @@ returns-in-Ok-clause-order g c =
     let a = c.in-Ok.ensures.admits in
     let m : Remembers g.S.Service g.G.Port.Port c.args.service.now c.admit.new.service (g.G.Gate.faults c.args.gate.now) (g.G.Gate.faults c.args.gate.now) = record {
       over = λ n d. g.met.S.Service.stays_over _ _ n d goes;
+      limit = g.met.S.Service.keeps_limit _ _ goes;
       failed = g.met.S.Service.stays_failed _ _ goes;
       faults = λ lt. lt;
     } in
@@ -27,6 +28,7 @@ returns-clause-order g c =
     let goes = c.admit.ensures.goes_on in
     let m : Remembers g.S.Service g.G.Port.Port c.args.service.now c.admit.new.service (g.G.Gate.faults c.args.gate.now) (g.G.Gate.faults c.refuse.new.self) = record {
       over = λ n d. g.met.S.Service.stays_over _ _ n d goes;
+      limit = g.met.S.Service.keeps_limit _ _ goes;
       failed = g.met.S.Service.stays_failed _ _ goes;
       faults = λ lt. rw c.refuse.ensures.faults lt;
     } in

@@ -15,17 +15,18 @@ loop-init g c = record {
 }
 
 pub take_in-requires-clause-order : goal.take_in-requires-clause-order
-take_in-requires-clause-order g c =
+take_in-requires-clause-order g c κs within =
     let i = c.loop.invariant in
     let m : Remembers g.S.Service g.G.Port.Port c.loop.service c.loop.service (g.G.Gate.faults c.loop.gate) (g.G.Gate.faults c.next.new.self) = record {
       over = λ n d. g.met.S.Service.stays_over _ _ n d (g.met.S.Service.goes_itself _);
+      limit = g.met.S.Service.keeps_limit _ _ (g.met.S.Service.goes_itself _);
       failed = g.met.S.Service.stays_failed _ _ (g.met.S.Service.goes_itself _);
       faults = λ lt. rw c.next.ensures.faults lt;
     } in
     order_on g.S.Service g.G.Port.Port g.G.Gate c.loop.service c.loop.service c.loop.gate c.next.new.self _ _ m refl c.next.ensures.back refl i.order
 
 pub take_in-requires-clause-out : goal.take_in-requires-clause-out
-take_in-requires-clause-out g c = c.in-Some.ensures.more ∙ ap (λ n. n + 1) c.loop.invariant.out
+take_in-requires-clause-out g c κs within = c.in-Some.ensures.more ∙ ap (λ n. n + 1) c.loop.invariant.out
 
 pub loop-preserved : goal.loop-preserved
 loop-preserved g c =
@@ -51,6 +52,7 @@ returns-in_default-clause-order g c =
     let i = c.loop.invariant in
     let m : Remembers g.S.Service g.G.Port.Port c.loop.service c.loop.service (g.G.Gate.faults c.loop.gate) (g.G.Gate.faults c.next.new.self) = record {
       over = λ n d. g.met.S.Service.stays_over _ _ n d (g.met.S.Service.goes_itself _);
+      limit = g.met.S.Service.keeps_limit _ _ (g.met.S.Service.goes_itself _);
       failed = g.met.S.Service.stays_failed _ _ (g.met.S.Service.goes_itself _);
       faults = λ lt. rw c.next.ensures.faults lt;
     } in

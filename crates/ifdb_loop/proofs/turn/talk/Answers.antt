@@ -7,15 +7,15 @@ pub returns-in_err-take_in-clause-stands : goal.returns-in_err-take_in-clause-st
 returns-in_err-take_in-clause-stands g c =
     let exit = err_from_is_err_and c.from_residual.result c.from_residual.ensures.1 in
     let s = c.requires.served.0 in
-    rw (exit.1, exit.2) (c.take_in.new.chunk, (s.0, rw c.take_in.ensures.seat s.1, c.in_err-take_in.ensures.exchanges _ _ s.2))
+    rw (exit.1, exit.2) (c.take_in.new.chunk, (s.0, rw c.take_in.ensures.seat s.1, c.in_err-take_in.ensures.exchanges _ _ _ s.2))
 
 pub returns-in_err-take_in-clause-goes_on : goal.returns-in_err-take_in-clause-goes_on
 returns-in_err-take_in-clause-goes_on g c = g.met.S.Service.goes_itself _
 
 pub ask_lines-requires-clause-stands : goal.ask_lines-requires-clause-stands
-ask_lines-requires-clause-stands g c =
+ask_lines-requires-clause-stands g c κs within =
     let s = c.requires.served.0 in
-    (s.0, rw c.take_in.ensures.seat s.1, c.in_ok-take_in.ensures.exchanges _ _ s.2)
+    (s.0, rw c.take_in.ensures.seat s.1, c.in_ok-take_in.ensures.exchanges _ _ _ s.2)
 
 pub returns-in_err-ask_lines-clause-stands : goal.returns-in_err-ask_lines-clause-stands
 returns-in_err-ask_lines-clause-stands g c =

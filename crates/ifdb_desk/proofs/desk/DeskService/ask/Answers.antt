@@ -34,6 +34,7 @@ returns-clause-goes_on g c =
     let same = c.rest_on.ensures.same in
     let sees = subst (λ (z : Desk _ _ _). Sees g.Q.Records.first s.hall.now s.pass z.pass) (sym same) c.ask-is_open.ensures.asks.sees in
     goes_by g.Q.Records g.S.Settles g.met.S.Settles.stays_kept g.met.S.Settles.goes_itself s c.rest_on.new.self sees (ap (λ (z : Desk _ _ _). z.hall) same) (ap (λ (z : Desk _ _ _). z.keeper) same)
+    (ap (λ (z : Desk _ _ _). z.limit) same)
 
 pub returns-clause-told : goal.returns-clause-told
 returns-clause-told g c = λ d opened says.

@@ -19,7 +19,7 @@ pub returns-clause-ready : goal.returns-clause-ready
 returns-clause-ready g c = ready_by g.Q.Records g.S.Settles g.met.S.Settles.stays_kept c.args.self.now _ c.leave.ensures.sees refl refl (λ is. (is, refl)) c.requires.ready
 
 pub returns-clause-goes_on : goal.returns-clause-goes_on
-returns-clause-goes_on g c = goes_by g.Q.Records g.S.Settles g.met.S.Settles.stays_kept g.met.S.Settles.goes_itself c.args.self.now _ c.leave.ensures.sees refl refl
+returns-clause-goes_on g c = goes_by g.Q.Records g.S.Settles g.met.S.Settles.stays_kept g.met.S.Settles.goes_itself c.args.self.now _ c.leave.ensures.sees refl refl refl
 
 pub returns-clause-over : goal.returns-clause-over
 returns-clause-over g c = λ d says.

@@ -11,7 +11,7 @@ pub returns-clause-ready : goal.returns-clause-ready
 returns-clause-ready g c = ready_by g.Q.Records g.S.Settles g.met.S.Settles.stays_kept c.args.self.now _ c.open.ensures.sees refl refl (λ is. (is, refl)) c.requires
 
 pub returns-clause-goes_on : goal.returns-clause-goes_on
-returns-clause-goes_on g c = goes_by g.Q.Records g.S.Settles g.met.S.Settles.stays_kept g.met.S.Settles.goes_itself c.args.self.now _ c.open.ensures.sees refl refl
+returns-clause-goes_on g c = goes_by g.Q.Records g.S.Settles g.met.S.Settles.stays_kept g.met.S.Settles.goes_itself c.args.self.now _ c.open.ensures.sees refl refl refl
 
 pub returns-clause-new : goal.returns-clause-new
 returns-clause-new g c = says_new g.Q.Records g.S.Settles g.met.S.Settles.stays_kept c.args.self.now _ _
@@ -55,4 +55,4 @@ pub returns-in_err-number-clause-ready : goal.returns-in_err-number-clause-ready
 returns-in_err-number-clause-ready g c = ready_by g.Q.Records g.S.Settles g.met.S.Settles.stays_kept c.args.self.now _ c.open.ensures.sees refl refl (λ is. (is, refl)) c.requires
 
 pub returns-in_err-number-clause-goes_on : goal.returns-in_err-number-clause-goes_on
-returns-in_err-number-clause-goes_on g c = goes_by g.Q.Records g.S.Settles g.met.S.Settles.stays_kept g.met.S.Settles.goes_itself c.args.self.now _ c.open.ensures.sees refl refl
+returns-in_err-number-clause-goes_on g c = goes_by g.Q.Records g.S.Settles g.met.S.Settles.stays_kept g.met.S.Settles.goes_itself c.args.self.now _ c.open.ensures.sees refl refl refl

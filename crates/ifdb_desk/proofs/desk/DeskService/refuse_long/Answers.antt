@@ -13,7 +13,7 @@ returns-clause-ready g c =
 pub returns-clause-goes_on : goal.returns-clause-goes_on
 returns-clause-goes_on g c =
     let s = c.args.self.now in
-    goes_by g.Q.Records g.S.Settles g.met.S.Settles.stays_kept g.met.S.Settles.goes_itself s _ (sees_itself g.Q.Records.first s.hall.now s.pass c.requires.belongs c.requires.orderly) refl refl
+    goes_by g.Q.Records g.S.Settles g.met.S.Settles.stays_kept g.met.S.Settles.goes_itself s _ (sees_itself g.Q.Records.first s.hall.now s.pass c.requires.belongs c.requires.orderly) refl refl refl
 
 pub returns-clause-says : goal.returns-clause-says
 returns-clause-says g c = λ place d says.

@@ -10,7 +10,7 @@ use Rattle.ifdb_desk.proofs.desk.DeskService.settle.Goals as goal
 pub returns-clause-goes_on : goal.returns-clause-goes_on
 returns-clause-goes_on g c =
     let e = c.settle.ensures in
-    record { hall = refl; begins = e.sees.begins; right = λ _. e.sees.orderly.0; shares = e.sees.shares; keeper = e.goes_on; held = e.shares }
+    record { hall = refl; limit = refl; begins = e.sees.begins; right = λ _. e.sees.orderly.0; shares = e.sees.shares; keeper = e.goes_on; held = e.shares }
 
 pub returns-clause-ready : goal.returns-clause-ready
 returns-clause-ready g c =

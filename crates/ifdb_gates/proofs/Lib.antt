@@ -1,0 +1,5 @@
+pub mod Merging
+pub mod Later
+mod Looped
+mod Crew
+mod Sending
