@@ -147,7 +147,7 @@ put_there h n c o =
     let there : client_in (with_client h n c) n ≡ slice_index_or (slice_set h.clients (n - 1) c) (n - 1) no_client = rw from_1 refl in
     there ∙ get_or-set_same h.clients (n - 1) c no_client t.there
 
-set_twice : {X : Type 0} (xs : List X) (k : ℕ) (x y : X) → slice_set (slice_set xs k x) k y ≡ slice_set xs k y
+pub set_twice : {X : Type 0} (xs : List X) (k : ℕ) (x y : X) → slice_set (slice_set xs k x) k y ≡ slice_set xs k y
 set_twice [] k x y = refl
 set_twice (z ∷ xs) zero x y = refl
 set_twice (z ∷ xs) (suc k) x y = ap (λ l. z ∷ l) (set_twice xs k x y)

@@ -13,8 +13,10 @@ pub mod Looking
 mod Narrow
 mod Noting
 mod Publishing
+mod Returning
 pub mod RoomLaws
 mod Saying
+mod SessionLaws
 pub mod Spares
 mod Transactions
 mod Writing

@@ -8,10 +8,11 @@ use Rattle.ifdb_syntax.specs.declared.request.Request.{Request}
 use Rattle.ifdb_wire.specs.declared.fault.Fault.{Fault}
 use Rattle.ifdb_wire.specs.declared.fault.Fault.TheVariants as fault
 use Rattle.ifdb_wire.specs.declared.reply.Reply.{Reply}
+use Rattle.ifdb_catalog.specs.Public.{opening as first_public}
 use Rattle.ifdb_model.specs.Log.{Entry}
 use Rattle.ifdb_model.specs.Session.{Txn, Session, new_session, no_session, closed, seen_in}
 use Rattle.ifdb_model.specs.Step.{Outcome, refuses, bye, ask}
-use Rattle.ifdb_model.specs.Run.{State, session_of, outcome_of, with_outcome, with_session, asks, opens, leaves, next}
+use Rattle.ifdb_model.specs.Run.{State, opening, session_of, outcome_of, with_outcome, with_session, asks, opens, leaves, next}
 use Rattle.ifdb_laws.proofs.Shapes.{Shape, stayed, greeted_as, relabelled_to, begun, ended, published, joined, wrote, done, shape}
 use Rattle.ifdb_db.specs.Answer.{IsRefusal, IsDone, IsStill, answered}
 use Rattle.ifdb_db.specs.Client.{Open, Client, new_client, session_at, txn_at, IsBased}
@@ -219,7 +220,19 @@ pub refused_so : (o : Outcome) (s : Session) (f : Fault) → (f ≡ fault.OutOfM
 refused_so o s f h (inl e) = absurd (h e)
 refused_so o s f h (inr e) = e
 
--- ---- the next session, and one that leaves
+-- ---- the opening, the next session, and one that leaves
+
+abbrev pub first_desk : Desk
+first_desk = record { seen = record { public = first_public; rows = [] }; commits = []; count = 0; begins = [] }
+
+pub stands_open : (h : Hall) → h.desk ≡ first_desk → h.clients ≡ [] → StandsFor h opening
+stands_open h d c = subst (λ (z : Hall). StandsFor z opening) (λ i. record { desk = sym d i; clients = sym c i }) begun where
+  begun : StandsFor (record { desk = first_desk; clients = [] }) opening
+  begun = record {
+    desk = record { seen = refl; commits = refl; count = refl; begins = λ b. refl };
+    sessions = refl;
+    over = λ k x lt. absurd (omega (arith, lt));
+  }
 
 begins_new : (sessions : List Session) (b : ℕ) → times b (begins_of (sessions ++ new_session ∷ [])) ≡ times b (begins_of sessions)
 begins_new sessions b = ap (times b) (added sessions) where
@@ -252,10 +265,10 @@ none_leaves h st n o w =
 
 -- ---- an open client's line, by what the database answered
 
-outcome_open : (h : Hall) (n : ℕ) (line : List ℕ) → (client_in h n).is_open ≡ true → outcome_in h n line ≡ answered h.desk (client_in h n) (read_line line)
+pub outcome_open : (h : Hall) (n : ℕ) (line : List ℕ) → (client_in h n).is_open ≡ true → outcome_in h n line ≡ answered h.desk (client_in h n) (read_line line)
 outcome_open h n line o = rw o refl
 
-put_back : (h : Hall) (n : ℕ) (c e : Client) → (client_in h n).is_open ≡ true → c ≡ client_in h n → e ≡ c → slice_set h.clients (n - 1) e ≡ h.clients
+pub put_back : (h : Hall) (n : ℕ) (c e : Client) → (client_in h n).is_open ≡ true → c ≡ client_in h n → e ≡ c → slice_set h.clients (n - 1) e ≡ h.clients
 put_back h n c e o i k =
     let t = at_open h n o in
     ap (slice_set h.clients (n - 1)) (k ∙ i ∙ t.at) ∙ set_itself h.clients (n - 1) no_client

@@ -11,6 +11,7 @@ mod note;
 mod reading;
 mod room;
 mod session;
+mod sessions;
 mod told;
 mod txn;
 
@@ -18,6 +19,7 @@ pub use db::RedoFault;
 pub use look::Look;
 pub use note::Note;
 pub use reading::ReadLine;
-pub use room::Room;
+pub use room::{Room, ServedRoom};
 pub use session::Session;
+pub use sessions::{AllSessions, OpenSessions, Sessions};
 pub use std::alloc::AllocError as OutOfMemory;

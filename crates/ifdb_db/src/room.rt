@@ -20,23 +20,27 @@ use crate::db::Db;
 use crate::note::Note;
 use crate::reading::ReadLine;
 use crate::session::Session;
+use crate::sessions::{AllSessions, OpenSessions, Sessions};
 use ifdb_label::{Label, Tag, Tags};
 use ifdb_value::Name;
 use ifdb_wire::{Fault, Out, Reply};
 use std::alloc::Global;
 use std::marker::Model;
 
-/// The sessions by number from 1, over what all see.
+/// The sessions by number from 1, over what all see: all that were opened, unless it is a `ServedRoom`.
 ///
-/// Contracts see a hall, which stands for a state of the machine: what its log leaves, and its sessions.
+/// Contracts see a hall, which stands for a state of the machine: what its log leaves, and its sessions, those that are over too.
 #[derive(Drop)]
-pub struct Room {
+pub struct Room<S: Sessions = AllSessions> {
     alloc: Global,
     db: Db,
-    sessions: Vec<Session>,
+    sessions: S,
 }
 
-impl Model for Room {
+/// A room that forgets each session that is over: it takes memory for those that are open alone.
+pub type ServedRoom = Room<OpenSessions>;
+
+impl<S: Sessions> Model for Room<S> {
     ghost use Rattle.ifdb_db.specs.Kept.{AreHeld};
     ghost use Rattle.ifdb_db.specs.Room.{Hall};
 
@@ -48,21 +52,21 @@ impl Model for Room {
 
     ghost coded = { Prim.hlevel (codes, cond.the_row.coded, expr.the_row.coded) };
 
-    ghost view = { λ r. record { desk = r.db; clients = r.sessions.items } };
+    ghost view = { λ r. record { desk = r.db; clients = S.clients r.sessions } };
 
-    ghost invariant = { λ r. AreHeld r.db r.sessions.items };
+    ghost invariant = { λ r. AreHeld r.db (S.clients r.sessions) };
 }
 
-impl Room {
+impl<S: Sessions> Room<S> {
     /// The opening: the public state before the first change, no rows, and no sessions.
-    pub fn opening(alloc: Global) -> Result<Room, OutOfMemory>
+    pub fn opening(alloc: Global) -> Result<Room<S>, OutOfMemory>
         ensures opening { IfOk result (λ room. StandsFor room opening) }
         ensures nobody { IfOk result (λ room. length room.clients ≡ 0) }
     {
         Ok(Room {
             alloc,
             db: Db::opening(alloc)?,
-            sessions: Vec::new(alloc),
+            sessions: S::none(alloc),
         })
     }
 
@@ -194,59 +198,27 @@ impl Room {
     pub fn sessions(&self) -> u64
         ensures { result ≡ length self.now.clients }
     {
-        self.sessions.len() as u64
+        self.sessions.count()
     }
 
     /// Whether a session is open.
     pub fn is_open(&self, n: u64) -> bool
         ensures { result ≡ (client_in self.now n).is_open }
     {
-        if !self.was_opened(n) {
+        let Some(session) = self.sessions.find(n) else {
             return false;
-        }
-        self.sessions[(n - 1) as usize].is_open()
-    }
-
-    /// Whether a session said HELLO, and was accepted.
-    pub fn has_principal(&self, n: u64) -> bool
-        ensures { result ≡ is_some (client_in self.now n).principal }
-    {
-        if !self.was_opened(n) {
-            return false;
-        }
-        self.sessions[(n - 1) as usize].has_principal()
+        };
+        session.is_open()
     }
 
     /// Whether a session has a transaction.
     pub fn in_transaction(&self, n: u64) -> bool
         ensures { result ≡ is_some (client_in self.now n).txn }
     {
-        if !self.was_opened(n) {
+        let Some(session) = self.sessions.find(n) else {
             return false;
-        }
-        self.sessions[(n - 1) as usize].in_transaction()
-    }
-
-    /// The label of a session, which it keeps once it is closed; `None` exactly where it was never opened.
-    pub fn label(&self, n: u64) -> Option<&Label>
-        ensures opened { IsSome result ↔ IsTrue (was_opened self.now n) }
-        ensures label { IfSome result (λ label. label.now ≡ (client_in self.now n).label) }
-    {
-        if !self.was_opened(n) {
-            return None;
-        }
-        Some(self.sessions[(n - 1) as usize].label())
-    }
-
-    /// Whether the label of a session flows to that of another. Takes no memory.
-    pub fn flows(&self, from: u64, to: u64) -> bool
-        requires from { IsTrue (was_opened self.now from) }
-        requires to { IsTrue (was_opened self.now to) }
-        ensures { result ≡ flows (tags_of self.now.desk.seen.public)
-            (client_in self.now from).label (client_in self.now to).label }
-    {
-        let label = self.sessions[(from - 1) as usize].label();
-        label.flows(self.tags(), self.sessions[(to - 1) as usize].label())
+        };
+        session.in_transaction()
     }
 
     /// The name of a tag, or `None` exactly where the tag isn't made.
@@ -263,13 +235,6 @@ impl Room {
         self.db.tags()
     }
 
-    /// Whether a session was opened.
-    fn was_opened(&self, n: u64) -> bool
-        ensures { result ≡ was_opened self.now n }
-    {
-        0 < n && n <= self.sessions()
-    }
-
     /// The next session.
     #[tactic(auto, using(crate::proofs::Keeping::all_add))]
     fn add_session(&mut self) -> Result<(), OutOfMemory>
@@ -277,8 +242,7 @@ impl Room {
             (self.new ≡ record self.old { clients = self.old.clients ++ new_client ∷ [] }) }
         ensures err { OnErr result (self.new ≡ self.old) }
     {
-        let session = Session::new(self.alloc);
-        self.sessions.push(session)?;
+        self.sessions.add(Session::new(self.alloc))?;
         Ok(())
     }
 
@@ -287,7 +251,9 @@ impl Room {
         requires { IsTrue (client_in self.old n).is_open }
         ensures { IsLeftBy n self.old self.new }
     {
-        self.db.leave(&mut self.sessions[(n - 1) as usize]);
+        let mut session = self.sessions.replace(n, Session::new(self.alloc));
+        self.db.leave(&mut session);
+        self.sessions.replace(n, session);
     }
 
     /// What is true of every room. Does nothing.
@@ -317,10 +283,51 @@ impl Room {
         ensures noted { IsNoted (outcome_in self.old n line.entry)
             (client_in self.old n).principal line.entry note.old note.new result }
     {
-        let reply = self
-            .db
-            .ask(&mut self.sessions[(n - 1) as usize], line, note)?;
-        Ok(reply)
+        let mut session = self.sessions.replace(n, Session::new(self.alloc));
+        let told = self.db.ask(&mut session, line, note);
+        self.sessions.replace(n, session);
+        told
+    }
+}
+
+impl Room {
+    /// Whether a session said HELLO, and was accepted.
+    pub fn has_principal(&self, n: u64) -> bool
+        ensures { result ≡ is_some (client_in self.now n).principal }
+    {
+        if !self.was_opened(n) {
+            return false;
+        }
+        self.sessions.items[(n - 1) as usize].has_principal()
+    }
+
+    /// The label of a session, which it keeps once it is closed; `None` exactly where it was never opened.
+    pub fn label(&self, n: u64) -> Option<&Label>
+        ensures opened { IsSome result ↔ IsTrue (was_opened self.now n) }
+        ensures label { IfSome result (λ label. label.now ≡ (client_in self.now n).label) }
+    {
+        if !self.was_opened(n) {
+            return None;
+        }
+        Some(self.sessions.items[(n - 1) as usize].label())
+    }
+
+    /// Whether the label of a session flows to that of another. Takes no memory.
+    pub fn flows(&self, from: u64, to: u64) -> bool
+        requires from { IsTrue (was_opened self.now from) }
+        requires to { IsTrue (was_opened self.now to) }
+        ensures { result ≡ flows (tags_of self.now.desk.seen.public)
+            (client_in self.now from).label (client_in self.now to).label }
+    {
+        let label = self.sessions.items[(from - 1) as usize].label();
+        label.flows(self.tags(), self.sessions.items[(to - 1) as usize].label())
+    }
+
+    /// Whether a session was opened.
+    fn was_opened(&self, n: u64) -> bool
+        ensures { result ≡ was_opened self.now n }
+    {
+        0 < n && n <= self.sessions()
     }
 }
 

@@ -1,7 +1,8 @@
 // Sessions.
-ghost use Rattle.std.specs.Prelude.{◌≡◌};
+ghost use Rattle.std.specs.Prelude.{◌≡◌, true};
 ghost use Rattle.std.specs.Option.{is_some};
 ghost use Rattle.ifdb_db.specs.Client.{new_client};
+ghost use Rattle.ifdb_db.specs.Sessions.{IsSessionOver};
 
 use crate::txn::Txn;
 use ifdb_label::Label;
@@ -61,6 +62,13 @@ impl Session {
         ensures { result ≡ self.now.is_open }
     {
         self.is_open
+    }
+
+    /// Whether the session is closed, and in no transaction.
+    pub(crate) fn is_over(&self) -> bool
+        ensures over { result ≡ true → IsSessionOver self.now }
+    {
+        !self.is_open && self.txn.is_none()
     }
 
     /// Whether HELLO was accepted.

@@ -1,6 +1,6 @@
 -- Texts restore logs from which runs pass: whatever a restart makes again fits.
 use Rattle.std.proofs.Common.{◌≡◌, ℕ, Bool, true, false, List, [], ◌∷◌, ◌++◌, ◌∙◌, length, map, refl, sym, ap, subst, arith, cond, Option, Some, None}
-use Rattle.std.specs.Prelude.{◌&&◌, ◌||◌, option_to_list}
+use Rattle.std.specs.Prelude.{◌||◌, option_to_list}
 use Rattle.std.specs.List.{list_all}
 use Rattle.std.proofs.lemmas.Bool.{false≢true}
 use Rattle.std.proofs.lemmas.Bool.Decides.{nat_tests}

@@ -1,6 +1,6 @@
 -- In each state of a run that begins where all fits, all fits; so each commit of the run passes the test for a recorded one, and the
 -- records of the run restore what it adds to the log.
-use Rattle.std.proofs.Common.{◌≡◌, ℕ, ◌-◌, ◌≤◌, Bool, true, false, List, [], ◌∷◌, ◌++◌, ◌∙◌, length, take, drop, refl, sym, ap, subst, arith, cond, Option, Some, None, Result}
+use Rattle.std.proofs.Common.{◌≡◌, ℕ, ◌-◌, Bool, true, false, List, [], ◌∷◌, ◌++◌, ◌∙◌, length, take, drop, refl, sym, ap, subst, arith, cond, Option, Some, None, Result}
 use Rattle.std.specs.Prelude.{◌&&◌, All, option_to_list}
 use Rattle.std.specs.List.{list_all}
 use Rattle.std.proofs.lemmas.Bool.{leb-true}

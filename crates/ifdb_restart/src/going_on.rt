@@ -7,7 +7,7 @@ ghost use Rattle.ifdb_log.specs.Reading.{HasRead, IsDamaged};
 ghost use Rattle.ifdb_restart.specs.Restarted.{HasUnfitAt, IsRestarted, IsRestored, log_in};
 
 use crate::redo::{Made, redo_text};
-use ifdb_db::{RedoFault, Room};
+use ifdb_db::{RedoFault, ServedRoom};
 use ifdb_disk::Disk;
 use ifdb_history::GhostList;
 use ifdb_journal::Journal;
@@ -18,7 +18,7 @@ use std::alloc::Global;
 #[derive(Drop)]
 pub struct Restarted {
     /// A room without sessions, in which all records of the log were made again.
-    pub room: Room,
+    pub room: ServedRoom,
     /// The log's journal, to be appended to.
     pub journal: Journal,
     /// These records.
@@ -44,7 +44,7 @@ pub fn restart<D: Disk>(alloc: Global, disk: &mut D) -> Result<Restarted, LogFau
         (IsOldOrShort (D.tells disk.old)) }
     ensures cause { HasLogCause (D.faults disk.old) (D.faults disk.new) result }
 {
-    let Ok(mut room) = Room::opening(alloc) else {
+    let Ok(mut room) = ServedRoom::opening(alloc) else {
         return Err(LogFault::OutOfMemory);
     };
     let mut log = Log::start(alloc, disk)?;
@@ -60,7 +60,7 @@ pub fn restart<D: Disk>(alloc: Global, disk: &mut D) -> Result<Restarted, LogFau
 /// Makes the entries of all texts of a log again, to its end.
 fn make_again<D: Disk>(
     alloc: Global,
-    room: &mut Room,
+    room: &mut ServedRoom,
     made: &mut Made,
     log: &mut Log,
     disk: &mut D,

@@ -2,7 +2,7 @@
 ghost use Rattle.std.specs.Prelude.{◌≡◌, Err, OnErr, OnOk, length};
 ghost use Rattle.ifdb_restart.specs.Restarted.{HasOneMore, IsLonger, IsUnfit};
 
-use ifdb_db::{RedoFault, Room};
+use ifdb_db::{RedoFault, ServedRoom};
 use ifdb_history::GhostList;
 use ifdb_redo::{ReadFault, RedoRecord, read_record};
 use std::alloc::Global;
@@ -18,7 +18,7 @@ pub type Made = GhostList<RedoRecord, ()>;
 /// the error, the room is as before.
 pub fn redo_text(
     alloc: Global,
-    room: &mut Room,
+    room: &mut ServedRoom,
     text: &[u8],
     made: &mut Made,
 ) -> Result<(), RedoFault>

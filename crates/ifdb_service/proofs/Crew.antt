@@ -31,7 +31,7 @@ use Rattle.ifdb_session.specs.Passes.{Sees}
 use Rattle.ifdb_session.specs.Starts.{start_of}
 use Rattle.ifdb_session.proofs.Passes.{prefix-trans}
 use Rattle.ifdb_service.specs.Doors.{Connection, Run, AllLinked, IsRunIn, ServedAll, faults_in, faults_of, one_unless, turns_of, turns_at}
-use Rattle.ifdb_service.specs.Workers.{HoldLaws, HasMore, LacksShares, GoesOnWithout, IsFresh, Hiring, IsHome, AllHome, Joining, hosts, one_if}
+use Rattle.ifdb_service.specs.Workers.{HoldLaws, HasMore, GoesOnWithout, IsFresh, Hiring, IsHome, AllHome, Joining, hosts, one_if}
 use Rattle.ifdb_service.proofs.Links.{AllLinkedBy, linked1, all_later, run_later}
 
 all_snoc : {X : Type 0} (P : X → Type 0) (xs : List X) (x : X) → All P xs → P x → All P (xs ++ x ∷ [])

@@ -3,6 +3,8 @@ ghost use Rattle.std.specs.Thread.{IsSend, IsSync};
 ghost use Rattle.ifdb_catalog.specs.contracts.catalog.Catalog as catalog;
 ghost use Rattle.ifdb_db.specs.contracts.room.Room as room;
 ghost use Rattle.ifdb_db.specs.contracts.session.Session as session;
+ghost use Rattle.ifdb_db.specs.contracts.sessions.open.OpenSessions as sessions;
+ghost use Rattle.ifdb_db.specs.contracts.sessions.open.OpenSessionsSessions.TheImpl as served;
 
 use ifdb_bound::{Schema, ViewDef};
 use ifdb_catalog::Credentials;
@@ -14,7 +16,7 @@ use std::marker::{Send, Sync};
 /// A room may go to another thread, and so may a session that it lends. Does nothing: the checker finds it of the parts that hold
 /// themselves, and not of the whole.
 pub fn room_crosses()
-    ensures room { IsSend room.the_row }
+    ensures room { IsSend (room.the_row sessions.the_row served.ghosts) }
     ensures session { IsSend session.the_row }
 {
     catalog_crosses();

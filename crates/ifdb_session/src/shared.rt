@@ -18,7 +18,7 @@ ghost use Rattle.ifdb_session.specs.Turns.{CountsTurn, HasCounted, IsAsked, IsCo
 
 use crate::counts::{Counts, Glance, counted};
 use crate::{OutOfMemory, Records};
-use ifdb_db::{Look, Note, ReadLine, Room, Session};
+use ifdb_db::{Look, Note, ReadLine, ServedRoom, Session};
 use ifdb_history::Entry;
 use ifdb_turn::Object;
 use ifdb_wire::{Fault, Out, Reply};
@@ -28,7 +28,7 @@ use std::alloc::Global;
 /// counted of the history, and what records its entries.
 #[derive(Drop)]
 pub struct SharedRoom<Q> {
-    pub(crate) room: Room,
+    pub(crate) room: ServedRoom,
     /// The records, in the order of the history.
     pub(crate) records: Q,
     /// How many entries the history has, up to 2^64 - 1.
@@ -79,14 +79,14 @@ impl<Q: Records + Drop> SharedRoom<Q> {
         requires records { Q.has records [] }
         ensures { IfOk result (λ shared. StandsForHistory Q.Records shared []) }
     {
-        let room = Room::opening(alloc)?;
+        let room = ServedRoom::opening(alloc)?;
         Ok(SharedRoom::resumed(room, records))
     }
 }
 
 impl<Q: Records> SharedRoom<Q> {
     /// A room that stands for the log that there was, without sessions, behind which nothing was recorded. Takes no memory.
-    pub fn resumed(room: Room, records: Q) -> SharedRoom<Q>
+    pub fn resumed(room: ServedRoom, records: Q) -> SharedRoom<Q>
         requires stands { StandsFor room (first_state (start_of Q.first)) }
         requires none { Q.has records [] }
         ensures { StandsForHistory Q.Records result [] }
@@ -268,7 +268,7 @@ fn record<Q: Records>(records: &mut Q, note: Note)
 // Asks a line, notes what it adds to the log, and tells the reply on a connection, which is given. A lent session comes back.
 // Where there is no memory, or no room for the note, nothing changes, and error 20 is told.
 fn tell(
-    room: &mut Room,
+    room: &mut ServedRoom,
     n: u64,
     lent: &mut Option<Session>,
     line: ReadLine<'_>,
@@ -302,7 +302,7 @@ fn tell(
 
 // The same of a session that is in the room.
 fn tell_there(
-    room: &mut Room,
+    room: &mut ServedRoom,
     n: u64,
     line: ReadLine<'_>,
     note: &mut Note,
@@ -329,7 +329,7 @@ fn tell_there(
 }
 
 // How many rows there are, up to 2^64 - 1.
-fn rows_in(room: &Room) -> u64
+fn rows_in(room: &ServedRoom) -> u64
     ensures { result ≡ capped (length room.now.desk.seen.rows) }
 {
     match room.count_rows() {

@@ -1,5 +1,5 @@
 //! A history that is logged on a disk in memory, and made again from it.
-use ifdb_db::{ReadLine, Room};
+use ifdb_db::{ReadLine, ServedRoom};
 use ifdb_disk::MemoryDisk;
 use ifdb_journal::{Batch, RecordKind};
 use ifdb_log::{LogFault, Pieces};
@@ -42,7 +42,7 @@ fn empty_disk(alloc: Global) -> Result<MemoryDisk, Fail> {
 /// The next session's replies to some lines. What the lines add to the log is put into a batch.
 fn ask_all(
     alloc: Global,
-    room: &mut Room,
+    room: &mut ServedRoom,
     lines: &[&str],
     batch: &mut Batch,
 ) -> Result<String, Fail> {

@@ -4,4 +4,6 @@
 #[cfg(test)]
 mod kept;
 #[cfg(test)]
+mod over;
+#[cfg(test)]
 mod tests;

@@ -1,7 +1,7 @@
 //! A database's file in a folder in memory, compacted in its place or looked through, and what is there when a call fails.
 ghost use Rattle.std.specs.Prelude.{◌≤◌, length};
 
-use ifdb_db::{ReadLine, Room};
+use ifdb_db::{ReadLine, ServedRoom};
 use ifdb_disk::MemoryDisk;
 use ifdb_folder::{Folder, MemoryFolder, Name, Named};
 use ifdb_journal::{Batch, RecordKind};
@@ -51,7 +51,7 @@ fn disk_of(alloc: Global, bytes: Vec<u8>, fails: Vec<u64>) -> Result<MemoryDisk,
 /// The next session's replies to some lines. What the lines add to the log is put into a batch.
 fn ask_all(
     alloc: Global,
-    room: &mut Room,
+    room: &mut ServedRoom,
     lines: &[&str],
     batch: &mut Batch,
 ) -> Result<String, Fail> {

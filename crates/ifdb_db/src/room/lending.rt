@@ -14,21 +14,23 @@ use crate::look::{Look, Sight};
 use crate::note::Note;
 use crate::reading::ReadLine;
 use crate::session::Session;
+use crate::sessions::Sessions;
 use ifdb_wire::{Fault, Out, Reply};
-use std::mem;
 
-impl Room {
+impl<S: Sessions> Room<S> {
     /// Lends an open session whose transaction has written nothing: a copy, which shares what all saw at the BEGIN, answers
     /// its lines by itself. `None` where there is no such transaction, or no memory for the copy.
     pub fn lend(&self, n: u64) -> Option<Session>
         ensures copy { IfSome result (λ session. session ≡ client_in self.now n) }
         ensures lent { IfSome result (λ session. IsLent session) }
     {
-        self.is_sound();
-        if !self.is_open(n) {
+        let Some(session) = self.sessions.find(n) else {
+            return None;
+        };
+        if !session.is_open() {
             return None;
         }
-        self.sessions[(n - 1) as usize].lend()
+        session.lend()
     }
 
     /// A SELECT of an open session outside a transaction, with all that its answer takes. `Err` gives the line back: it is no
@@ -49,11 +51,13 @@ impl Room {
     fn sight(&self, n: u64) -> Option<Sight>
         ensures { IfSome result (IsSightOf self.now n) }
     {
-        self.is_sound();
-        if !self.is_open(n) {
+        let Some(session) = self.sessions.find(n) else {
+            return None;
+        };
+        if !session.is_open() {
             return None;
         }
-        self.db.sight(&self.sessions[(n - 1) as usize])
+        self.db.sight(session)
     }
 
     /// Takes a lent session back, asks a line for it, notes what it adds to the log, and tells the reply on a connection. `Err`
@@ -107,6 +111,6 @@ impl Room {
         ensures put { self.new ≡ with_client self.old n session }
         ensures before { result ≡ client_in self.old n }
     {
-        mem::replace(&mut self.sessions[(n - 1) as usize], session)
+        self.sessions.replace(n, session)
     }
 }

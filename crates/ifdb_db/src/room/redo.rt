@@ -4,9 +4,10 @@ ghost use Rattle.ifdb_db.specs.Redoing.{IsMadeAgain, IsUnfit};
 
 use super::Room;
 use crate::db::RedoFault;
+use crate::sessions::Sessions;
 use ifdb_redo::RedoRecord;
 
-impl Room {
+impl<S: Sessions> Room<S> {
     /// Makes a recorded entry again, whatever the record says, if it fits what the entries before it left: before the first session is
     /// opened. A public change is asked for by its line, and a commit is installed once its rows, labels and references are tested.
     /// Costs what the entry cost at first, but for the search of its rows.

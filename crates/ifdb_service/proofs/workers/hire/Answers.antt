@@ -1,4 +1,4 @@
-use Rattle.std.proofs.Common.{rules, refl, subst, ◌≡◌, ◌<◌, ◌+◌, ◌∷◌, [], ◌++◌, ◌∙◌, ap, length, vec_len, vec_capacity, arith}
+use Rattle.std.proofs.Common.{rules, subst, ◌≡◌, ◌<◌, ◌+◌, ◌∷◌, [], ◌++◌, ◌∙◌, ap, length, vec_len, vec_capacity, arith}
 use Rattle.ifdb_history.specs.History.{IsRight}
 use Rattle.ifdb_session.specs.Starts.{start_of}
 use Rattle.ifdb_service.specs.Workers.{GoesOnWithout}

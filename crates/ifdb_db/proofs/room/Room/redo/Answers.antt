@@ -4,9 +4,9 @@ use Rattle.ifdb_db.proofs.Restoring.{made_again_if}
 use Rattle.ifdb_db.proofs.room.Room.redo.Goals as goal
 
 pub returns-clause-done : goal.returns-clause-done
-returns-clause-done c =
-    let g : Hall = record { desk = c.self.inside.db; clients = c.self.inside.sessions.items } in
-    let k : Hall = record { desk = c.redo.new.self; clients = c.self.inside.sessions.items } in
-    let same : g ≡ c.args.self.now = (cc) in
-    let sound : IsSoundRoom g = subst (λ (x : Hall). IsSoundRoom x) (sym same) c.is_sound.ensures in
-    made_again_if c.args.self.now g k c.args.recorded c.redo.result same sound (subst (λ (x : Hall). length x.clients ≡ 0) (sym same) c.requires.nobody) c.redo.ensures.done c.redo.ensures.fits refl
+returns-clause-done g c =
+    let h : Hall = record { desk = c.self.inside.db; clients = g.S.Sessions.clients c.self.inside.sessions } in
+    let k : Hall = record { desk = c.redo.new.self; clients = g.S.Sessions.clients c.self.inside.sessions } in
+    let same : h ≡ c.args.self.now = c.self.view_is in
+    let sound : IsSoundRoom h = subst (λ (x : Hall). IsSoundRoom x) (sym same) c.is_sound.ensures in
+    made_again_if c.args.self.now h k c.args.recorded c.redo.result same sound (subst (λ (x : Hall). length x.clients ≡ 0) (sym same) c.requires.nobody) c.redo.ensures.done c.redo.ensures.fits refl
